@@ -1,5 +1,5 @@
 -- The tree as it is folded: level by level, where what lacks is not written out.
-use Rattle.std.specs.Prelude.{ℕ, zero, suc, ◌+◌, ◌*◌, ◌<◌, ◌^◌, List, [], ◌∷◌, length, take, drop, if◌then◌else◌, nat_lt, slice_index_or}
+use Rattle.std.specs.Prelude.{ℕ, zero, suc, ◌+◌, ◌*◌, ◌^◌, List, [], ◌∷◌, length, take, drop, if◌then◌else◌, nat_lt, slice_index_or}
 use Rattle.component_merkle.specs.Merkle.{node_of}
 
 -- the root of a tree of depth d over these hashes, of which those that lack are the pad

@@ -1,5 +1,4 @@
-use Rattle.std.proofs.Common.{◌≡◌, ◌<◌, ◌≤◌, ◌^◌, ◌*◌, ◌+◌, ◌/◌, ◌%◌, ◌++◌, ℕ, length, take, List, subst, arith, rules}
-use Rattle.sha2.specs.Sha256.{sha256}
+use Rattle.std.proofs.Common.{◌≡◌, ◌+◌, ◌/◌, ◌%◌, ℕ, length, take, List, subst, arith, rules}
 use Rattle.component_merkle.specs.Levels.{tree}
 use Rattle.component_merkle.proofs.Folding.{one_up}
 use Rattle.component_merkle.proofs.tree.+root_padded.Goals as goal

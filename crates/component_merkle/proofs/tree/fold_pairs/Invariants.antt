@@ -1,4 +1,4 @@
-use Rattle.std.proofs.Common.{◌≡◌, ℕ, ◌<◌, ◌≤◌, [], slice_index_or, length}
+use Rattle.std.proofs.Common.{◌≡◌, ℕ, ◌<◌, ◌≤◌, [], slice_index_or}
 use Rattle.component_merkle.specs.Levels.{pair_at}
 use Rattle.component_merkle.proofs.tree.fold_pairs.Given as goal
 
