@@ -3,3 +3,4 @@ pub mod Written
 pub mod Stamps
 pub mod Whole
 mod NumberLemmas
+mod Sets

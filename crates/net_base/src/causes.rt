@@ -48,8 +48,8 @@ pub struct Cause {
 /// The causes of one node, in order.
 pub type CauseList = ListOf<Cause>;
 
-/// Causes of several nodes, each with its node.
-pub type NodeCauseList = ListOf<(Party, Cause)>;
+/// Causes of several nodes, each with the number of its node, 0 to 15.
+pub type NodeCauseList = ListOf<(u8, Cause)>;
 
 impl Cause {
     /// Whether this cause of node `mine` comes before the other, a cause of node `theirs`: by stamp,
