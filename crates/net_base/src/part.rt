@@ -16,20 +16,25 @@ use crate::reader::{Reader, Short};
 use crate::values::Hash32;
 use crate::writer::Writer;
 use std::alloc::{AllocError, AllocFailed, Global};
+use thiserror::Error;
 
-/// Why a part could not be read.
-#[derive(Clone, Copy, Debug, PartialEq, Eq)]
+/// Why a part of a value could not be read.
+#[derive(Clone, Copy, Debug, PartialEq, Eq, Error)]
 pub enum PartFault {
+    #[error("out of memory")]
     Memory,
     /// No spelling goes on at the place with so many bytes left.
+    #[error("no spelling goes on {0} bytes before the end")]
     Left(usize),
 }
 
 /// Why a value could not be read.
-#[derive(Clone, Copy, Debug, PartialEq, Eq)]
+#[derive(Clone, Copy, Debug, PartialEq, Eq, Error)]
 pub enum DecodeFault {
-    /// No spelling begins at the place.
+    /// The place, in bytes from the first, at which no canonical spelling begins or goes on.
+    #[error("malformed at byte {at}")]
     Malformed { at: usize },
+    #[error("out of memory")]
     Memory,
 }
 

@@ -6,15 +6,18 @@ ghost use Rattle.net_base.specs.Reading.{Reading, Took, IsShort, IsBytes};
 
 use crate::values::Hash32;
 use std::marker::Model;
+use thiserror::Error;
 
-/// Too few bytes are left.
-#[derive(Clone, Copy, Debug, PartialEq, Eq)]
+/// Too few bytes are left at the place, counted in bytes from the first.
+#[derive(Clone, Copy, Debug, PartialEq, Eq, Error)]
+#[error("too few bytes at byte {at}")]
 pub struct Short {
     pub at: usize,
 }
 
-/// Bytes are left.
-#[derive(Clone, Copy, Debug, PartialEq, Eq)]
+/// Bytes are left from the place on, counted in bytes from the first.
+#[derive(Clone, Copy, Debug, PartialEq, Eq, Error)]
+#[error("more bytes from byte {at} on")]
 pub struct Extra {
     pub at: usize,
 }
