@@ -1,9 +1,9 @@
 -- What functions that read and write parts of a value do.
 use Rattle.std.specs.Prelude.{◌≡◌, ◌+◌, ℕ, List, ◌++◌, length, Result, Ok, Err}
-use Rattle.net_base.specs.declared.part.PartFault.{PartFault}
-use Rattle.net_base.specs.declared.part.PartFault.TheVariants as faults
-use Rattle.net_base.specs.declared.part.DecodeFault.{DecodeFault}
-use Rattle.net_base.specs.declared.part.DecodeFault.TheVariants as decoding
+use Rattle.net_base.specs.declared.fault.PartFault.{PartFault}
+use Rattle.net_base.specs.declared.fault.PartFault.TheVariants as faults
+use Rattle.net_base.specs.declared.fault.DecodeFault.{DecodeFault}
+use Rattle.net_base.specs.declared.fault.DecodeFault.TheVariants as decoding
 use Rattle.net_base.specs.Reading.{Reading}
 use Rattle.net_base.specs.Laws.{IsFault}
 

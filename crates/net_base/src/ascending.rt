@@ -6,9 +6,11 @@ ghost use Rattle.net_base.specs.Forms.{list8};
 ghost use Rattle.net_base.specs.Parts.{Gives, Writes};
 ghost use Rattle.net_base.specs.Runs.{ascending_at, ascending8_at};
 
+use crate::fault::PartFault;
 use crate::list::ListOf;
-use crate::part::{PartFault, Spelt, read_below};
+use crate::part::read_below;
 use crate::reader::Reader;
+use crate::spelt::Spelt;
 use std::alloc::Global;
 
 /// A type whose values have a party, 0 to 15, by which lists of them ascend.

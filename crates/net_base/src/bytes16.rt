@@ -5,8 +5,9 @@ ghost use Rattle.net_base.specs.Parts.{Gives, Writes};
 ghost use Rattle.net_base.specs.Forms.{bytes16};
 ghost use Rattle.net_base.specs.Framing.{at_most_at, bytes16_at};
 
+use crate::fault::PartFault;
 use crate::list::{ByteList, ListOf};
-use crate::part::{PartFault, read_u8, read_up_to};
+use crate::part::{read_u8, read_up_to};
 use crate::reader::Reader;
 use crate::writer::Writer;
 use std::alloc::{AllocError, Global};

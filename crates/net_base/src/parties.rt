@@ -8,8 +8,10 @@ ghost use Rattle.net_base.specs.Combining.{mapped_at};
 ghost use Rattle.net_base.specs.Parties.{has_party, members_from, bits_of, members, party_set, IsPartySet, party_set_at, party_set_laws};
 
 use crate::block::{Block, Component, write_component};
-use crate::part::{PartFault, Spelt, read_below, read_between};
+use crate::fault::PartFault;
+use crate::part::{read_below, read_between};
 use crate::reader::Reader;
+use crate::spelt::Spelt;
 use crate::values::Party;
 use crate::writer::Writer;
 use std::alloc::{AllocError, Global};

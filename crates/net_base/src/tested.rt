@@ -5,7 +5,8 @@ ghost use Rattle.std.specs.Int.{w32, w64};
 ghost use Rattle.net_base.specs.Parts.{Gives, TakesNoMemory};
 ghost use Rattle.net_base.specs.Tested.{below_except_at, positive_at, headed_at, stamp_at};
 
-use crate::part::{PartFault, read_u8, read_u32, read_u64};
+use crate::fault::PartFault;
+use crate::part::{read_u8, read_u32, read_u64};
 use crate::reader::Reader;
 
 /// A byte below the limit, and not another.
