@@ -1,5 +1,5 @@
 -- A stamp of which no byte is there.
-use Rattle.std.proofs.Common.{◌≡◌, ℕ, List, [], ◌∷◌, ◌++◌, Result, Ok, Err, refl, sym}
+use Rattle.std.proofs.Common.{ℕ, List, [], ◌∷◌}
 use Rattle.net_base.specs.declared.fault.PartFault.{PartFault}
 use Rattle.net_base.specs.declared.fault.PartFault.TheVariants as faults
 use Rattle.net_base.specs.Parts.{Fails}

@@ -1,8 +1,8 @@
 -- The laws of a spelling that is made of others.
-use Rattle.std.proofs.Common.{◌≡◌, ◌⊎◌, inl, inr, ◌+◌, ◌-◌, ◌<◌, ◌≤◌, ℕ, zero, suc, Bool, true, false, cond, ltb, List, [], ◌∷◌, ◌++◌, length, get_or, take, drop, Result, Ok, Err, refl, sym, ap, subst, ◌∙◌, append_assoc, arith}
+use Rattle.std.proofs.Common.{◌≡◌, inl, inr, ℕ, List, [], ◌∷◌, ◌++◌, Result, Ok, refl, sym, ap, subst, ◌∙◌, append_assoc}
 use Rattle.net_base.specs.Reading.{IsBytes}
 use Rattle.net_base.specs.Forms.{◌>>=◌}
-use Rattle.net_base.specs.Laws.{IsFault, Laws, ok_is, err_is, ok_not_err, bind_ok, bind_err, IsBytes-rest, split_prefix, cancels}
+use Rattle.net_base.specs.Laws.{Laws, ok_is, ok_not_err, bind_ok, bind_err, IsBytes-rest, split_prefix, cancels}
 
 -- ---- a first part, and what is read after it
 

@@ -1,5 +1,5 @@
 -- The laws of fields: numbers, bytes, options and lists.
-use Rattle.std.proofs.Common.{◌≡◌, ◌⊎◌, inl, inr, ◌+◌, ◌-◌, ◌<◌, ◌≤◌, ◌^◌, ℕ, zero, suc, Bool, true, false, cond, ltb, List, [], ◌∷◌, ◌++◌, length, get_or, take, drop, replicate, Option, Some, None, Result, Ok, Err, refl, sym, ap, subst, ◌∙◌, append_assoc, arith}
+use Rattle.std.proofs.Common.{◌≡◌, inl, inr, ◌-◌, ◌<◌, ◌≤◌, ◌^◌, ℕ, zero, suc, Bool, true, false, cond, ltb, List, [], ◌∷◌, ◌++◌, length, take, drop, replicate, Option, Some, None, Result, Ok, Err, refl, sym, ap, subst, ◌∙◌, arith}
 use Rattle.std.specs.Prelude.{IfSome, ◌==◌}
 use Rattle.std.specs.List.{flat_map, AllByRecursion}
 use Rattle.std.specs.Int.{Width, w16, w32, w64, byte_len, from_be_bytes, to_be_bytes}
@@ -9,8 +9,8 @@ use Rattle.std.proofs.lemmas.List.Concat.{flat_map-cons}
 use Rattle.std.proofs.lemmas.Nat.{be_bytes_2, be_bytes_4, be_bytes_8, from_be_bytes-to_be_bytes_2, from_be_bytes-to_be_bytes_4, from_be_bytes-to_be_bytes_8}
 use Rattle.net_base.specs.Reading.{IsBytes, number}
 use Rattle.net_base.specs.Forms.{◌>>=◌, byte_at, bytes_at, number_at, below_at, option_at, items_at, list8_at, option_of, list8, ListWithin}
-use Rattle.net_base.specs.Laws.{IsFault, Laws, done, stopped, ok_is, err_is, ok_not_err, bind_ok, bind_err, IsBytes-rest}
-use Rattle.net_base.specs.Combining.{Joins, bind_laws, Seen, mapped_at, mapped_laws, pair_at, pair_laws, same_laws, restated_laws}
+use Rattle.net_base.specs.Laws.{Laws, done, ok_is, err_is, ok_not_err}
+use Rattle.net_base.specs.Combining.{bind_laws, mapped_laws, restated_laws}
 
 -- ---- nothing is read
 

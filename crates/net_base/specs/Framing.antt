@@ -1,13 +1,13 @@
 -- Parts that depend on those before, and bytes behind their length.
-use Rattle.std.proofs.Common.{◌≡◌, ◌≢◌, ◌⊎◌, inl, inr, ◌+◌, ◌-◌, ◌*◌, ◌/◌, ◌%◌, ◌<◌, ◌≤◌, ◌^◌, ℕ, zero, suc, Bool, true, false, cond, List, [], ◌∷◌, ◌++◌, length, take, drop, Result, Ok, Err, refl, sym, ap, subst, ◌∙◌, append_assoc, arith}
+use Rattle.std.proofs.Common.{◌≡◌, ◌≢◌, ◌+◌, ◌*◌, ◌/◌, ◌%◌, ◌<◌, ◌≤◌, ◌^◌, ℕ, cond, List, [], ◌∷◌, ◌++◌, length, Result, Ok, refl, sym, ap, subst, ◌∙◌, arith}
 use Rattle.std.specs.Prelude.{nat_eq}
 use Rattle.std.specs.List.{flat_map, AllByRecursion}
-use Rattle.std.specs.Int.{w16, w32, w64, to_be_bytes}
-use Rattle.std.proofs.lemmas.Bool.{eqb-true, eqb-false, cases_lt}
-use Rattle.net_base.specs.Reading.{IsBytes, number}
-use Rattle.net_base.specs.Forms.{◌>>=◌, byte_at, bytes_at, below_at, number_at, bytes16, list8, items_at}
-use Rattle.net_base.specs.Laws.{IsFault, Laws, done, stopped, ok_is, err_is, ok_not_err, bind_ok, bind_err}
-use Rattle.net_base.specs.Combining.{Joins, bind_laws, mapped_at, mapped_laws, pair_at, pair_laws, restated_laws}
+use Rattle.std.specs.Int.{w16}
+use Rattle.std.proofs.lemmas.Bool.{eqb-true, eqb-false}
+use Rattle.net_base.specs.Reading.{number}
+use Rattle.net_base.specs.Forms.{◌>>=◌, byte_at, bytes_at, below_at, bytes16, list8, items_at}
+use Rattle.net_base.specs.Laws.{Laws}
+use Rattle.net_base.specs.Combining.{bind_laws, mapped_at, mapped_laws, restated_laws}
 use Rattle.net_base.specs.Fields.{below_laws, byte_laws, bytes_laws, items_laws}
 use Rattle.net_base.specs.Kinds.{IsBetween, between_at, between_laws, cond_laws}
 

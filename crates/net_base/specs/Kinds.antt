@@ -1,13 +1,12 @@
 -- Values that begin with a byte of kind.
-use Rattle.std.proofs.Common.{◌≡◌, ◌⊎◌, inl, inr, ◌<◌, ◌≤◌, ℕ, zero, suc, Bool, true, false, cond, List, [], ◌∷◌, ◌++◌, length, map, Result, Ok, Err, refl, sym, ap, subst, ◌∙◌, arith}
+use Rattle.std.proofs.Common.{◌≡◌, ◌<◌, ◌≤◌, ℕ, suc, Bool, true, false, cond, List, [], ◌∷◌, length, Result, Ok, Err, refl, ap, subst, ◌∙◌, arith}
 use Rattle.std.specs.Prelude.{nat_eq, nat_le, nat_lt, ◌||◌, ◌&&◌}
 use Rattle.std.specs.List.{list_any}
 use Rattle.std.proofs.lemmas.Bool.{eqb-true, le-leb, lt-ltb}
 use Rattle.std.proofs.lemmas.Bool.Decides.{nat_tests}
-use Rattle.net_base.specs.Reading.{IsBytes}
 use Rattle.net_base.specs.Forms.{◌>>=◌, byte_at}
-use Rattle.net_base.specs.Laws.{IsFault, Laws, done, stopped, ok_is, err_is, ok_not_err, bind_ok, bind_err}
-use Rattle.net_base.specs.Combining.{Joins, bind_laws, mapped_at, mapped_laws, pair_laws, restated_laws}
+use Rattle.net_base.specs.Laws.{Laws, done, err_is}
+use Rattle.net_base.specs.Combining.{bind_laws, restated_laws}
 use Rattle.net_base.specs.Fields.{guard_ok, guard_err, done_laws}
 
 -- one of these kinds

@@ -3,14 +3,13 @@ use Rattle.std.proofs.Common.{◌≡◌, ◌⊎◌, inl, inr, ◌<◌, ◌≤◌
 use Rattle.std.specs.Prelude.{◌==◌, filter}
 use Rattle.std.specs.List.{flat_map, AllByRecursion, range_with_len}
 use Rattle.std.proofs.lemmas.List.Concat.{flat_map-cons}
-use Rattle.std.proofs.lemmas.Nat.{pow_pos}
 use Rattle.std.proofs.lemmas.Bool.{cases_lt}
 use Rattle.std.proofs.lemmas.List.{length-append}
 use Rattle.std.proofs.Math.Nat.{div-div-eq-div-mul, pow-suc}
 use Rattle.net_base.specs.Laws.{Laws}
 use Rattle.net_base.specs.Combining.{mapped_at, mapped_laws, restated_laws}
-use Rattle.net_base.specs.Kinds.{IsBetween, between_at, between_laws}
-use Rattle.net_base.specs.Runs.{Ascends, AscendingWithin, ascending8_at, ascending8_laws}
+use Rattle.net_base.specs.Kinds.{between_at, between_laws}
+use Rattle.net_base.specs.Runs.{Ascends, ascending8_at, ascending8_laws}
 use Rattle.net_base.specs.declared.parties.PartySet.{PartySet}
 
 -- whether a party is in a set: the party's bit is 1

@@ -1,15 +1,15 @@
 -- Bytes and numbers that are tested where they stand.
-use Rattle.std.proofs.Common.{◌≡◌, ◌≢◌, ◌⊎◌, inl, inr, ◌+◌, ◌-◌, ◌*◌, ◌/◌, ◌%◌, ◌<◌, ◌≤◌, ◌^◌, ℕ, zero, suc, Bool, true, false, cond, List, [], ◌∷◌, ◌++◌, length, take, drop, replicate, get_or, Result, Ok, Err, refl, sym, ap, subst, ◌∙◌, append_assoc, arith}
+use Rattle.std.proofs.Common.{◌≡◌, ◌≢◌, ◌⊎◌, inl, inr, ◌+◌, ◌-◌, ◌/◌, ◌%◌, ◌<◌, ◌^◌, ℕ, suc, Bool, true, false, cond, List, [], ◌∷◌, ◌++◌, length, take, drop, replicate, get_or, Result, Ok, Err, refl, sym, ap, subst, ◌∙◌, append_assoc, arith}
 use Rattle.std.specs.Prelude.{nat_eq, nat_lt, not, ◌&&◌}
 use Rattle.std.specs.Int.{Width, w32, w64, byte_len, from_be_bytes, to_be_bytes}
 use Rattle.std.proofs.lemmas.Bool.{eqb-true, eqb-false, ne_eqb, lt-ltb, ltb-true, cases_lt}
 use Rattle.std.proofs.lemmas.Bool.Decides.{nat_tests}
-use Rattle.std.proofs.lemmas.List.{append_cancel_left, length-append, length-replicate, nil_from_length, get_or-append_right, get_or-replicate, get_or_past, get_or_at, append-nil}
+use Rattle.std.proofs.lemmas.List.{length-append, length-replicate, nil_from_length, get_or-append_right, get_or-replicate, get_or_past, get_or_at, append-nil}
 use Rattle.net_base.specs.Reading.{IsBytes, number}
 use Rattle.net_base.specs.Forms.{◌>>=◌, byte_at, number_at}
-use Rattle.net_base.specs.Laws.{IsFault, Laws, done, stopped, ok_is, err_is, ok_not_err, bind_ok, bind_err, cancels}
+use Rattle.net_base.specs.Laws.{IsFault, Laws, err_is, bind_ok, bind_err, cancels}
 use Rattle.net_base.specs.Combining.{restated_laws}
-use Rattle.net_base.specs.Fields.{guard_ok, guard_err, guard_less_ok, guard_less_err, IsWide, wide32, wide64, number_laws, u32_laws, u64_laws, IsBytes-append}
+use Rattle.net_base.specs.Fields.{guard_ok, guard_err, guard_less_ok, guard_less_err, IsWide, wide32, wide64, number_laws, IsBytes-append}
 
 -- ---- a byte that passes a test
 

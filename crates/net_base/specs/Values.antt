@@ -1,11 +1,11 @@
 -- The spelling of the values of this crate.
-use Rattle.std.proofs.Common.{◌≡◌, ◌<◌, ◌^◌, ℕ, List, [], ◌∷◌, ◌++◌, length, Result, Ok, Err, refl, ap, arith}
+use Rattle.std.proofs.Common.{◌≡◌, ◌<◌, ◌^◌, ℕ, List, [], ◌∷◌, length, Result, refl, arith}
 use Rattle.std.specs.Int.{w64}
 use Rattle.net_base.specs.Reading.{number}
 use Rattle.net_base.specs.declared.values.Hash32.{Hash32}
 use Rattle.net_base.specs.declared.values.Party.{Party}
 use Rattle.net_base.specs.declared.values.Moment.{Moment}
-use Rattle.net_base.specs.Forms.{◌>>=◌, bytes_at, below_at, number_at}
+use Rattle.net_base.specs.Forms.{bytes_at, below_at, number_at}
 use Rattle.net_base.specs.Laws.{Laws}
 use Rattle.net_base.specs.Combining.{mapped_at, mapped_laws}
 use Rattle.net_base.specs.Fields.{bytes_laws, below_laws, u64_laws}

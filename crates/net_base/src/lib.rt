@@ -18,6 +18,8 @@ mod reader;
 mod records;
 mod spelt;
 mod tested;
+#[cfg(test)]
+mod tests;
 mod values;
 mod writer;
 

@@ -1,5 +1,4 @@
-use Rattle.std.proofs.Common.{◌≡◌, ◌∙◌, ℕ, List, ap, sym, Result, Ok}
-use Rattle.net_base.specs.Reading.{Reading}
+use Rattle.std.proofs.Common.{◌∙◌, sym}
 use Rattle.net_base.specs.Laws.{cancels}
 use Rattle.net_base.proofs.spelt.decode.Goals as goal
 

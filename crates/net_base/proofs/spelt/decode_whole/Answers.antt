@@ -1,4 +1,4 @@
-use Rattle.std.proofs.Common.{◌≡◌, ◌+◌, ◌-◌, ◌≤◌, length, ap, refl, arith}
+use Rattle.std.proofs.Common.{◌-◌, length, refl, arith}
 use Rattle.net_base.specs.Reading.{IsBytes}
 use Rattle.net_base.proofs.Whole.{fault_left, first_fault, extra_fault, is_whole}
 use Rattle.net_base.proofs.spelt.decode_whole.Goals as goal
