@@ -56,15 +56,15 @@ frame f = frame_kind f ∷ frame_fields f
 -- ---- reading
 
 -- from, to, initiator, session number and direction, as they are read
-abbrev Route : Type 0
-Route = ℕ × (ℕ × (ℕ × (ℕ × ℕ)))
+abbrev RouteParts : Type 0
+RouteParts = ℕ × (ℕ × (ℕ × (ℕ × ℕ)))
 
 -- the direction at which the initiator may be that party
 abbrev pub side : ℕ → ℕ → ℕ → ℕ → ℕ
 side first second from initiator = cond (nat_eq initiator from) first second
 
 -- reading these: at each byte what can still come
-abbrev pub route_at : ℕ → ℕ → List ℕ → Result (Route × List ℕ) ℕ
+abbrev pub route_at : ℕ → ℕ → List ℕ → Result (RouteParts × List ℕ) ℕ
 route_at first second = both_at (below_at 16) (λ f. both_at (below_except_at 16 f) (λ t. both_at (kind_at (f ∷ t ∷ [])) (λ i. both_at (number_at w32) (λ n. kind_at (side first second f i ∷ [])))))
 
 -- the number, stamp and body of a message
@@ -72,10 +72,10 @@ abbrev Rest : Type 0
 Rest = ℕ × (ℕ × Body)
 
 -- frames of what was read
-abbrev message_of : Route × Rest → Frame
+abbrev message_of : RouteParts × Rest → Frame
 message_of p = Message (record { 0 = p.0.0 }) (record { 0 = p.0.1.0 }) (record { initiator = record { 0 = p.0.1.1.0 }; number = p.0.1.1.1.0 }) p.0.1.1.1.1 p.1.0 p.1.1.0 p.1.1.1
 
-abbrev ack_of : Route × ℕ → Frame
+abbrev ack_of : RouteParts × ℕ → Frame
 ack_of p = Ack (record { 0 = p.0.0 }) (record { 0 = p.0.1.0 }) (record { initiator = record { 0 = p.0.1.1.0 }; number = p.0.1.1.1.0 }) p.0.1.1.1.1 p.1
 
 -- reading a message behind its first byte
@@ -104,7 +104,7 @@ abbrev OneOf : ℕ → List ℕ → Type 0
 OneOf n kinds = list_any (λ y. nat_eq y n) kinds ≡ true
 
 -- what was read passed the tests
-abbrev RouteWithin : ℕ → ℕ → Route → Type 0
+abbrev RouteWithin : ℕ → ℕ → RouteParts → Type 0
 RouteWithin first second r = (r.0 < 16) × (((r.1.0 < 16) × (r.1.0 ≢ r.0)) × (OneOf r.1.1.0 (r.0 ∷ r.1.0 ∷ []) × ((r.1.1.1.0 < 2 ^ 32) × OneOf r.1.1.1.1 (side first second r.0 r.1.1.0 ∷ []))))
 
 -- a party other than this one
@@ -118,7 +118,7 @@ other_fits zero = (omega arith, omega arith)
 other_fits (suc f) = (omega arith, omega arith)
 
 -- the laws of routes
-route_laws : (first second : ℕ) → Laws (RouteWithin first second) (λ (r : Route). (r.0 ∷ []) ++ ((r.1.0 ∷ []) ++ ((r.1.1.0 ∷ []) ++ (number w32 r.1.1.1.0 ++ (r.1.1.1.1 ∷ []))))) (route_at first second)
+route_laws : (first second : ℕ) → Laws (RouteWithin first second) (λ (r : RouteParts). (r.0 ∷ []) ++ ((r.1.0 ∷ []) ++ ((r.1.1.0 ∷ []) ++ (number w32 r.1.1.1.0 ++ (r.1.1.1.1 ∷ []))))) (route_at first second)
 route_laws first second =
     both_laws (below_laws 16 (omega arith)) (λ f hf.
     both_laws (below_except_laws 16 f (other_than f) (other_fits f).0 (other_fits f).1) (λ t ht.
@@ -158,7 +158,7 @@ second_of_two : (n k l : ℕ) → n ≡ l → OneOf n (k ∷ l ∷ [])
 second_of_two n k l e = or_right (nat_eq k n) (nat_eq l n || false) (is_one n l e)
 
 -- what was read is a route
-route_made : (first second : ℕ) (r : Route) → RouteWithin first second r → (a b : Party) → ((first ≡ 0) × ((second ≡ 1) × ((a.0 ≡ r.0) × (b.0 ≡ r.1.0)))) ⊎ ((first ≡ 1) × ((second ≡ 0) × ((a.0 ≡ r.1.0) × (b.0 ≡ r.0))))
+route_made : (first second : ℕ) (r : RouteParts) → RouteWithin first second r → (a b : Party) → ((first ≡ 0) × ((second ≡ 1) × ((a.0 ≡ r.0) × (b.0 ≡ r.1.0)))) ⊎ ((first ≡ 1) × ((second ≡ 0) × ((a.0 ≡ r.1.0) × (b.0 ≡ r.0))))
     → IsRoute (record { 0 = r.0 }) (record { 0 = r.1.0 }) (record { initiator = record { 0 = r.1.1.0 }; number = r.1.1.1.0 }) r.1.1.1.1 a b
 route_made first second r h a b sides =
     let d : r.1.1.1.1 ≡ side first second r.0 r.1.1.0 = one_of_one _ _ h.1.1.1.1 in
@@ -197,12 +197,12 @@ ack_route from to key direction h =
           (h.from_is, ((h.to_is, h.differ), (second_of_two key.initiator.0 from.0 to.0 s.1, (h.number, is_one direction _ (s.0 ∙ sym (ap (λ (t : Bool). cond t 1 0) (ne_eqb key.initiator.0 from.0 ne)))))))
     ]
 
-message_from : (f : Frame) → IsFrame f × (frame_kind f ≡ 1) → (p : Route × Rest) × ((RouteWithin 0 1 p.0 × ((p.1.0 < 2 ^ 32) × (((0 < p.1.1.0) × (p.1.1.0 < 2 ^ 63)) × IsBodyAt p.0.1.1.1.1 p.1.0 p.1.1.1))) × (message_of p ≡ f))
+message_from : (f : Frame) → IsFrame f × (frame_kind f ≡ 1) → (p : RouteParts × Rest) × ((RouteWithin 0 1 p.0 × ((p.1.0 < 2 ^ 32) × (((0 < p.1.1.0) × (p.1.1.0 < 2 ^ 63)) × IsBodyAt p.0.1.1.1.1 p.1.0 p.1.1.1))) × (message_of p ≡ f))
 message_from (Message from to key direction seq stamp body) h =
     (((from.0, (to.0, (key.initiator.0, (key.number, direction)))), (seq, (stamp, body))), ((message_route from to key direction h.0.0, h.0.1), refl))
 message_from other h = absurd (omega (arith, h.1))
 
-ack_from : (f : Frame) → IsFrame f × (frame_kind f ≡ 2) → (p : Route × ℕ) × ((RouteWithin 1 0 p.0 × ((0 < p.1) × (p.1 < 2 ^ 32))) × (ack_of p ≡ f))
+ack_from : (f : Frame) → IsFrame f × (frame_kind f ≡ 2) → (p : RouteParts × ℕ) × ((RouteWithin 1 0 p.0 × ((0 < p.1) × (p.1 < 2 ^ 32))) × (ack_of p ≡ f))
 ack_from (Ack from to key direction upto) h =
     (((from.0, (to.0, (key.initiator.0, (key.number, direction)))), upto), ((ack_route from to key direction h.0.0, h.0.1), refl))
 ack_from other h = absurd (omega (arith, h.1))

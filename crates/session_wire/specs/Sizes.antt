@@ -15,7 +15,7 @@ use Rattle.net_base.specs.Forms.{list8, bytes16, option_of, ListWithin}
 use Rattle.net_base.specs.Fields.{wide16, wide32, wide64}
 use Rattle.net_base.specs.Values.{IsHash, hash, IsParty, party, IsMoment, moment}
 use Rattle.net_base.specs.Names.{IsStateRef, state_ref, IsTag, tag, IsCode, IsToken, token}
-use Rattle.net_base.specs.Parties.{IsPartySet, party_set, members, members_is, few_members}
+use Rattle.net_base.specs.Parties.{IsPartySet, party_set, members_is, few_members}
 use Rattle.ledger_types.specs.declared.state.StateData.{StateData}
 use Rattle.ledger_types.specs.declared.state.StateData.TheVariants.{Cash, TimeLock, Fact, Iou}
 use Rattle.ledger_types.specs.declared.state.TxState.{TxState}
@@ -136,8 +136,8 @@ deed_fits (CashExit t amount) h = let parts = joined (token t) (number w64 amoun
 deed_fits other h = omega arith
 
 set_fits : Fits IsPartySet party_set 17
-unfolding party_set members
-set_fits s h = omega (arith, few_members 0 16 s.0)
+unfolding party_set
+set_fits s h = omega (arith, ap length (members_is s), few_members 0 16 s.0)
 
 command_fits : Fits IsCommand command 30
 command_fits c h = joined (deed c.deed) (party_set c.signers) 13 17 (deed_fits c.deed h.0) (set_fits c.signers h.1)

@@ -1,8 +1,9 @@
 //! Frames: what nodes send one another.
 
-ghost use Rattle.std.specs.Prelude.{◌≡◌, ◌<◌, ◌≤◌, ℕ, List, IfOk, length};
+ghost use Rattle.std.specs.Prelude.{◌≡◌, ◌<◌, ◌≤◌, ℕ, List, IfOk, IsOk, length};
 ghost use Rattle.net_base.specs.Parts.{Gives, Writes, DecodesWhole};
-ghost use Rattle.session_wire.specs.Frames.{IsFrame, frame, frame_at, frame_laws, message_at, ack_at, route_text};
+ghost use Rattle.session_wire.specs.Frames.{IsFrame, frame, frame_at, frame_laws, message_at, ack_at, route_text, route_at};
+ghost use Rattle.session_wire.specs.Routes.{route_parts};
 
 use crate::body::{Body, read_body};
 use net_base::{
@@ -10,6 +11,9 @@ use net_base::{
     read_below, read_below_except, read_kind, read_positive, read_stamp, read_u32,
 };
 use std::alloc::{AllocError, Global};
+
+/// No frame has more bytes. This follows from the limits of what a frame holds.
+pub const FRAME_LIMIT: usize = 32_768;
 
 /// What one node sends another. `from` and `to` differ, and one of them is the session's initiator. `direction` is 0
 /// for items from the initiator to the other side, the responder, and 1 for items to it.
@@ -39,20 +43,27 @@ pub enum Frame {
     },
 }
 
-#[tactic(auto, unfolding(crate::specs::Frames::message_at))]
-fn read_message(alloc: Global, from: &mut Reader) -> Result<Frame, PartFault>
-    ensures { Gives (λ x. x) result from.old from.new (message_at from.old.left) }
+/// The sides, the session and the direction of a frame.
+#[derive(Clone, Copy)]
+struct Route {
+    from: Party,
+    to: Party,
+    key: Key,
+    direction: u8,
+}
+
+/// Reads these. `outward` is the direction in which the session's initiator sends such frames, and `inward` the one in
+/// which it gets them.
+fn read_route(from: &mut Reader, outward: u8, inward: u8) -> Result<Route, PartFault>
+    ensures { Gives route_parts result from.old from.new (route_at outward inward from.old.left) }
 {
     let sender = read_below(from, 16)?;
     let receiver = read_below_except(from, 16, sender)?;
     let initiator = read_kind(from, &[sender, receiver])?;
     let number = read_u32(from)?;
-    let lawful = if initiator == sender { 0 } else { 1 };
+    let lawful = if initiator == sender { outward } else { inward };
     let direction = read_kind(from, &[lawful])?;
-    let seq = read_u32(from)?;
-    let stamp = read_stamp(from)?;
-    let body = read_body(alloc, from, direction, seq)?;
-    Ok(Frame::Message {
+    Ok(Route {
         from: Party(sender),
         to: Party(receiver),
         key: Key {
@@ -60,6 +71,22 @@ fn read_message(alloc: Global, from: &mut Reader) -> Result<Frame, PartFault>
             number,
         },
         direction,
+    })
+}
+
+#[tactic(auto, unfolding(crate::specs::Frames::message_at))]
+fn read_message(alloc: Global, from: &mut Reader) -> Result<Frame, PartFault>
+    ensures { Gives (λ x. x) result from.old from.new (message_at from.old.left) }
+{
+    let route = read_route(from, 0, 1)?;
+    let seq = read_u32(from)?;
+    let stamp = read_stamp(from)?;
+    let body = read_body(alloc, from, route.direction, seq)?;
+    Ok(Frame::Message {
+        from: route.from,
+        to: route.to,
+        key: route.key,
+        direction: route.direction,
         seq,
         stamp,
         body,
@@ -70,21 +97,13 @@ fn read_message(alloc: Global, from: &mut Reader) -> Result<Frame, PartFault>
 fn read_ack(from: &mut Reader) -> Result<Frame, PartFault>
     ensures { Gives (λ x. x) result from.old from.new (ack_at from.old.left) }
 {
-    let sender = read_below(from, 16)?;
-    let receiver = read_below_except(from, 16, sender)?;
-    let initiator = read_kind(from, &[sender, receiver])?;
-    let number = read_u32(from)?;
-    let lawful = if initiator == sender { 1 } else { 0 };
-    let direction = read_kind(from, &[lawful])?;
+    let route = read_route(from, 1, 0)?;
     let upto = read_positive(from)?;
     Ok(Frame::Ack {
-        from: Party(sender),
-        to: Party(receiver),
-        key: Key {
-            initiator: Party(initiator),
-            number,
-        },
-        direction,
+        from: route.from,
+        to: route.to,
+        key: route.key,
+        direction: route.direction,
         upto,
     })
 }
@@ -158,10 +177,12 @@ impl Spelt for Frame {
 }
 
 impl Frame {
-    /// The frame's spelling. The only error is want of memory.
+    /// The frame's spelling, at most `FRAME_LIMIT` bytes. The only error is want of memory.
+    #[tactic(auto, using(crate::specs::Sizes::frame_fits))]
     pub fn encode(&self, alloc: Global) -> Result<ByteList, AllocError>
         requires { IsFrame self.now }
-        ensures { IfOk result (λ bytes. bytes ≡ frame self.now) }
+        ensures text { IfOk result (λ bytes. bytes ≡ frame self.now) }
+        ensures size { IfOk result (λ bytes. length bytes ≤ FRAME_LIMIT) }
     {
         let mut out = Writer::new(alloc);
         encode(alloc, self, &mut out)?;
@@ -171,8 +192,10 @@ impl Frame {
     /// The frame whose spelling the bytes are. `Malformed { at }` comes exactly where the bytes as a whole are no
     /// frame's spelling, and `at` is the first place at which no frame's spelling can go on: the end of bytes that stop
     /// too early, and a frame's length where bytes follow it.
+    #[tactic(auto, using(crate::specs::Sizes::frame_fits))]
     pub fn decode(alloc: Global, bytes: &[u8]) -> Result<Frame, DecodeFault>
-        ensures { DecodesWhole IsFrame frame result bytes.now }
+        ensures whole { DecodesWhole IsFrame frame result bytes.now }
+        ensures size { IsOk result → length bytes.now ≤ FRAME_LIMIT }
     {
         decode_whole(alloc, bytes)
     }

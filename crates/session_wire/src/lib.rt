@@ -10,7 +10,7 @@ mod frame;
 pub use body::Body;
 pub use change::{SentItem, SentList, SessionChange};
 pub use effect::{Effect, FlowPart};
-pub use frame::Frame;
+pub use frame::{FRAME_LIMIT, Frame};
 
 #[cfg(test)]
 mod tests;

@@ -1,5 +1,7 @@
 //! Frames against bytes that were worked out by hand or by another implementation.
 
+ghost use Rattle.std.specs.Prelude.{◌≡◌};
+
 use crate::{Body, Frame};
 use ledger_types::Value;
 use net_base::{DecodeFault, Key, Party};
