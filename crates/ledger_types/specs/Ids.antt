@@ -26,6 +26,7 @@ abbrev pub leaves_from : List ℕ → ℕ → ℕ → List (List ℕ) → List (
 leaves_from salt group place [] = []
 leaves_from salt group place (bytes ∷ more) = leaf_of (nonce_of salt group place) bytes ∷ leaves_from salt group (place + 1) more
 
+-- the value of a group by its components' bytes
 unfoldable pub value_of : List ℕ → ℕ → List (List ℕ) → List ℕ
 value_of salt group components = group_of (leaves_from salt group 0 components)
 
@@ -34,6 +35,7 @@ abbrev pub values_from : List ℕ → ℕ → List (List (List ℕ)) → List (L
 values_from salt group [] = []
 values_from salt group (components ∷ more) = value_of salt group components ∷ values_from salt (group + 1) more
 
+-- a group that is empty and has none behind it that is kept is left out
 abbrev pub kept : List (List ℕ) → List (List (List ℕ)) → List (List (List ℕ))
 kept components (next ∷ more) = components ∷ next ∷ more
 kept (c ∷ components) [] = (c ∷ components) ∷ []
@@ -44,5 +46,6 @@ abbrev pub present : List (List (List ℕ)) → List (List (List ℕ))
 present [] = []
 present (components ∷ more) = kept components (present more)
 
+-- the id: the root over the values of the groups up to the last that has a component
 unfoldable pub id_of : Tx → List ℕ
 id_of t = root_of (values_from t.salt.0 0 (present (groups t)))

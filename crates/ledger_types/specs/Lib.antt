@@ -5,3 +5,11 @@ pub mod Torn
 pub mod Requests
 pub mod Values
 pub mod Ids
+pub mod Names
+pub mod Rules
+pub mod Verdicts
+pub mod Signatures
+pub mod Tears
+pub mod Notary
+pub mod Vaults
+pub mod Stores

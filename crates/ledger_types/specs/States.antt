@@ -19,42 +19,51 @@ use Rattle.ledger_types.specs.declared.state.TxState.{TxState}
 
 -- ---- StateData: u8 kind, and its fields
 
+-- the limits of what a state says
 abbrev pub IsStateData : StateData → Type 0
 IsStateData (Cash t amount owner) = IsToken t × ((amount < 2 ^ 64) × IsParty owner)
 IsStateData (TimeLock owner until) = IsParty owner × IsMoment until
 IsStateData (Fact issuer name value) = IsParty issuer × ((name < 2 ^ 64) × (value < 2 ^ 64))
 IsStateData (Iou lender borrower t amount) = IsParty lender × (IsParty borrower × (IsToken t × (amount < 2 ^ 64)))
 
+-- the spelling of what a state says
 abbrev pub state_data : StateData → List ℕ
 state_data (Cash t amount owner) = 1 ∷ (token t ++ (number w64 amount ++ party owner))
 state_data (TimeLock owner until) = 2 ∷ (party owner ++ moment until)
 state_data (Fact issuer name value) = 3 ∷ (party issuer ++ (number w64 name ++ number w64 value))
 state_data (Iou lender borrower t amount) = 4 ∷ (party lender ++ (party borrower ++ (token t ++ number w64 amount)))
 
+-- the byte of kind
 abbrev state_kind : StateData → ℕ
 state_kind (Cash t amount owner) = 1
 state_kind (TimeLock owner until) = 2
 state_kind (Fact issuer name value) = 3
 state_kind (Iou lender borrower t amount) = 4
 
+-- what stands behind the kind
 abbrev state_fields : StateData → List ℕ
 state_fields (Cash t amount owner) = token t ++ (number w64 amount ++ party owner)
 state_fields (TimeLock owner until) = party owner ++ moment until
 state_fields (Fact issuer name value) = party issuer ++ (number w64 name ++ number w64 value)
 state_fields (Iou lender borrower t amount) = party lender ++ (party borrower ++ (token t ++ number w64 amount))
 
+-- cash of its fields
 abbrev cash_of : Token × (ℕ × Party) → StateData
 cash_of p = Cash p.0 p.1.0 p.1.1
 
+-- a time lock of its fields
 abbrev lock_of : Party × Moment → StateData
 lock_of p = TimeLock p.0 p.1
 
+-- a fact of its fields
 abbrev fact_of : Party × (ℕ × ℕ) → StateData
 fact_of p = Fact p.0 p.1.0 p.1.1
 
+-- an IOU of its fields
 abbrev iou_of : Party × (Party × (Token × ℕ)) → StateData
 iou_of p = Iou p.0 p.1.0 p.1.1.0 p.1.1.1
 
+-- what is read behind each kind
 abbrev state_arms : List (ℕ × (List ℕ → Result (StateData × List ℕ) ℕ))
 state_arms =
     (1, mapped_at cash_of (pair_at token_at (pair_at (number_at w64) party_at)))
@@ -63,9 +72,11 @@ state_arms =
     ∷ (4, mapped_at iou_of (pair_at party_at (pair_at party_at (pair_at token_at (number_at w64)))))
     ∷ []
 
+-- reading what a state says
 unfoldable pub state_data_at : List ℕ → Result (StateData × List ℕ) ℕ
 state_data_at = cases_at state_arms
 
+-- the laws of what a state says
 pub state_data_laws : Laws IsStateData state_data state_data_at
 unfolding state_data_at
 state_data_laws =
@@ -85,18 +96,23 @@ state_data_laws =
 
 -- ---- TxState: StateData, party notary, option u8 encumbrance
 
+-- the limits of a state
 abbrev pub IsTxState : TxState → Type 0
 IsTxState s = IsStateData s.body × (IsParty s.notary × IfSome s.encumbrance (λ n. n < 256))
 
+-- the spelling of a state
 abbrev pub tx_state : TxState → List ℕ
 tx_state s = state_data s.body ++ (party s.notary ++ option_of (λ n. n ∷ []) s.encumbrance)
 
+-- a state of its fields
 abbrev tx_state_of : StateData × (Party × Option ℕ) → TxState
 tx_state_of p = record { body = p.0; notary = p.1.0; encumbrance = p.1.1 }
 
+-- reading a state
 unfoldable pub tx_state_at : List ℕ → Result (TxState × List ℕ) ℕ
 tx_state_at = mapped_at tx_state_of (pair_at state_data_at (pair_at party_at (option_at byte_at)))
 
+-- the laws of states
 pub tx_state_laws : Laws IsTxState tx_state tx_state_at
 unfolding tx_state_at
 tx_state_laws = iso_laws tx_state_of (λ s. (s.body, (s.notary, s.encumbrance))) (λ _. refl) (λ _. refl) (pair_laws state_data_laws (pair_laws party_laws (option_laws byte_laws)))

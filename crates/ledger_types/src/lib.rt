@@ -7,6 +7,8 @@ mod held;
 mod id;
 mod notary;
 mod state;
+#[cfg(test)]
+mod tests;
 mod torn;
 mod tx;
 mod value;

@@ -1,6 +1,7 @@
 //! The states of the ledger.
 
 ghost use Rattle.std.specs.Prelude.{◌≡◌, ◌<◌, ◌≤◌, ℕ, List};
+ghost use Rattle.ledger_types.specs.Verdicts.{contract_of};
 ghost use Rattle.ledger_types.specs.States.{IsStateData, state_data, state_data_at, state_data_laws, IsTxState, tx_state, tx_state_at, tx_state_laws};
 
 use net_base::{
@@ -41,6 +42,20 @@ pub struct TxState {
     pub notary: Party,
     /// The output that encumbers this one.
     pub encumbrance: Option<u8>,
+}
+
+impl StateData {
+    /// The number of the contract that governs the state, 1 to 4.
+    pub fn contract(&self) -> u8
+        ensures { result ≡ contract_of self.now }
+    {
+        match self {
+            StateData::Cash { .. } => 1,
+            StateData::TimeLock { .. } => 2,
+            StateData::Fact { .. } => 3,
+            StateData::Iou { .. } => 4,
+        }
+    }
 }
 
 #[tactic(auto, unfolding(crate::specs::States::state_data_at))]
