@@ -1,0 +1,7 @@
+pub mod Items
+pub mod Written
+pub mod Stamps
+pub mod Whole
+mod NumberLemmas
+mod Sets
+mod Members
