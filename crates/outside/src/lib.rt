@@ -5,5 +5,11 @@
 #![tactic(auto)]
 
 mod fault;
+mod sink;
+mod source;
+#[cfg(test)]
+mod stream_tests;
 
 pub use fault::Failed;
+pub use sink::{MemSink, Sink};
+pub use source::{MemSource, Source};
