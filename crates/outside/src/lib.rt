@@ -8,8 +8,14 @@ mod bay;
 mod disk;
 mod fault;
 mod gate;
+mod sink;
+mod source;
+#[cfg(test)]
+mod stream_tests;
 
 pub use bay::{AttachFault, Bay, NoFuse};
 pub use disk::{Disk, write_synced};
 pub use fault::Failed;
 pub use gate::{Gate, NoGate};
+pub use sink::{MemSink, Sink};
+pub use source::{MemSource, Source};

@@ -23,6 +23,18 @@ returns-in_err-begin-clause-same g c why tells =
     let too : (g.D.Disk.seen c.read_all.new.disk).tells ≡ true = c.read_all.ensures.rest.tells ∙ tells in
     short_spells e.kept (c.begin.ensures.kept too) ∙ sym (short_spells d.kept short)
 
+pub returns-then-is_unformatted-clause-same : goal.returns-then-is_unformatted-clause-same
+returns-then-is_unformatted-clause-same g c why tells =
+    let d = (g.D.Disk.seen c.args.disk.now).state in
+    let m = (g.D.Disk.seen c.read_all.new.disk).state in
+    let bytes_are : c.deref.result.now ≡ d.kept = c.deref.ensures.value ∙ c.in_ok-bytes.ensures.bytes tells in
+    let not_yet : is_unformatted d.kept ≡ true = ap is_unformatted (sym bytes_are) ∙ sym c.is_unformatted.ensures ∙ c.if-is_unformatted.true in
+    let short = unformatted_short d.kept not_yet in
+    let was = c.read_all.ensures.was tells in
+    let e = (g.D.Disk.seen c.begin.new.disk).state in
+    let too : (g.D.Disk.seen c.read_all.new.disk).tells ≡ true = c.read_all.ensures.rest.tells ∙ tells in
+    short_spells e.kept (c.begin.ensures.kept too) ∙ sym (short_spells d.kept short)
+
 pub returns-in_err-begin-clause-moments : goal.returns-in_err-begin-clause-moments
 returns-in_err-begin-clause-moments g c tells =
     let d = (g.D.Disk.seen c.args.disk.now).state in

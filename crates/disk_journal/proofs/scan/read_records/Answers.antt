@@ -1,6 +1,8 @@
-use Rattle.std.proofs.Common.{ℕ, List, ◌+◌, ◌-◌, ◌++◌, ◌∷◌, [], drop, length, ap, ◌∙◌, sym, arith, Bool, Some, None, if◌then◌else◌}
+use Rattle.std.proofs.Common.{◌≡◌, ℕ, List, ◌+◌, ◌-◌, ◌++◌, ◌∷◌, [], drop, length, ap, ◌∙◌, sym, arith, Bool, Some, None, if◌then◌else◌}
 use Rattle.std.proofs.lemmas.List.{append-nil}
-use Rattle.disk_journal.specs.Journal.{placed, bodies}
+use Rattle.disk_journal.specs.Journal.{placed, size_of, extent, bodies}
+use Rattle.disk_journal.proofs.Records.{at_most}
+use Rattle.disk_journal.proofs.Sizes.{length-placed, size-placed}
 use Rattle.disk_journal.proofs.Scans.{is_next, stops, within, extent_next, damage_next, count_next, list_next}
 use Rattle.disk_journal.proofs.scan.read_records.Goals as goal
 
@@ -55,3 +57,15 @@ pub returns-clause-closed : goal.returns-clause-closed
 returns-clause-closed c =
     let end = stops c.records.left c.records.at (drop c.records.at c.args.bytes.now) (sym c.next_at.ensures ∙ c.in_default.is) in
     c.records.invariant.harm ∙ end.2 ∙ ap (λ (b : Bool). if b then None else Some c.records.at) (sym c.closed_at.ensures)
+
+pub returns-clause-sizes : goal.returns-clause-sizes
+returns-clause-sizes c =
+    let limit = c.args.limit in
+    let rest = drop c.args.start c.args.bytes.now in
+    let list : c.records.list ≡ placed c.args.start (bodies limit rest) = returns-clause-list c in
+    let count : limit - c.records.left ≡ length (bodies limit rest) = returns-clause-count c in
+    let gate : c.records.at ≡ c.args.start + extent limit rest = returns-clause-gate c in (
+      count ∙ sym (length-placed c.args.start (bodies limit rest)) ∙ ap (λ (l : List (ℕ × List ℕ)). length l) (sym list),
+      gate ∙ ap (λ (k : ℕ). c.args.start + k) (sym (size-placed limit c.args.start rest) ∙ ap size_of (sym list)),
+      omega arith,
+    )
