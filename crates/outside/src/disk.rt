@@ -1,4 +1,4 @@
-ghost use Rattle.std.specs.Prelude.{◌≡◌, ◌≤◌, ◌<◌, ◌+◌, ◌⊎◌, ℕ, true, false, length, take, drop, IfOk, OnOk, OnErr, IsOk, IsErr, Some};
+ghost use Rattle.std.specs.Prelude.{◌≡◌, ◌≤◌, ◌<◌, ◌+◌, ◌⊎◌, ℕ, true, false, length, take, drop, IfOk, OnOk, OnErr, IsOk, IsErr, Some, if◌then◌else◌};
 ghost use Rattle.outside.specs.Disk.{IsImage, EachImage, FailsReading, FailsSyncing, FailsWriting, Syncs, SameRest, IfTold, overwritten, clean, with_range, written, burnt};
 ghost use Rattle.outside.specs.Faults.{HasCause};
 
@@ -31,6 +31,7 @@ pub trait Disk: Drop {
         ensures writes { (seen self.new).room_writes ≡ (seen self.old).room_writes }
         ensures fuse { (seen self.new).fuse ≡ (seen self.old).fuse }
         ensures calm { (seen self.old).calm ≡ true → IsOk result × ((seen self.new).calm ≡ true) }
+        ensures power { OnOk result ((seen self.new).power ≡ (seen self.old).power) }
         ensures dark { (seen self.old).power ≡ false → IsErr result }
         ensures cause { HasCause (seen self.old).faults (seen self.new).faults result };
 
@@ -44,6 +45,7 @@ pub trait Disk: Drop {
         ensures writes { (seen self.new).room_writes ≡ (seen self.old).room_writes }
         ensures fuse { (seen self.new).fuse ≡ (seen self.old).fuse }
         ensures calm { (seen self.old).calm ≡ true → IsOk result × ((seen self.new).calm ≡ true) }
+        ensures power { OnOk result ((seen self.new).power ≡ (seen self.old).power) }
         ensures dark { (seen self.old).power ≡ false → IsErr result }
         ensures cause { HasCause (seen self.old).faults (seen self.new).faults result };
 
@@ -58,9 +60,10 @@ pub trait Disk: Drop {
         ensures failed { OnErr result (IfTold (seen self.old) (seen self.new) (λ d e. FailsWriting d at (length from.now) e)) }
         ensures rest { SameRest (seen self.old) (seen self.new) }
         ensures writes { (seen self.old).room_writes ≤ (seen self.new).room_writes + 1 }
-        ensures fuse { (seen self.old).power ≡ true → (seen self.new).fuse ≡ burnt (seen self.old).fuse }
+        ensures fuse { (seen self.new).fuse ≡ (if (seen self.old).power then burnt (seen self.old).fuse else (seen self.old).fuse) }
         ensures blown { (outcome : ℕ) → (seen self.old).fuse ≡ Some (1, outcome) → IsErr result × ((seen self.new).power ≡ false) }
         ensures calm { (seen self.old).calm ≡ true → IsOk result × ((seen self.new).calm ≡ true) }
+        ensures power { OnOk result ((seen self.new).power ≡ (seen self.old).power) }
         ensures dark { (seen self.old).power ≡ false → IsErr result }
         ensures cause { HasCause (seen self.old).faults (seen self.new).faults result };
 
@@ -75,9 +78,10 @@ pub trait Disk: Drop {
         ensures kept { (seen self.old).tells ≡ true → IsImage (seen self.old).state.now (seen self.old).state.kept }
         ensures rest { SameRest (seen self.old) (seen self.new) }
         ensures writes { (seen self.new).room_writes ≡ (seen self.old).room_writes }
-        ensures fuse { (seen self.old).power ≡ true → (seen self.new).fuse ≡ burnt (seen self.old).fuse }
+        ensures fuse { (seen self.new).fuse ≡ (if (seen self.old).power then burnt (seen self.old).fuse else (seen self.old).fuse) }
         ensures blown { (outcome : ℕ) → (seen self.old).fuse ≡ Some (1, outcome) → IsErr result × ((seen self.new).power ≡ false) }
         ensures calm { (seen self.old).calm ≡ true → IsOk result × ((seen self.new).calm ≡ true) }
+        ensures power { OnOk result ((seen self.new).power ≡ (seen self.old).power) }
         ensures dark { (seen self.old).power ≡ false → IsErr result }
         ensures cause { HasCause (seen self.old).faults (seen self.new).faults result };
 
