@@ -1,6 +1,6 @@
 ghost use Rattle.std.specs.Prelude.{ℕ, ◌^◌, ◌⊎◌, slice_index, ◌≡◌, ◌≤◌, ◌<◌, ◌+◌, ◌-◌, ◌/◌, ◌++◌, take, drop, min, length, vec_len, vec_capacity, IfOk, [], ◌∷◌, true, Contains};
 ghost use Rattle.outside.specs.Disk.{overwritten, clean, IsImage, IsUntouched};
-ghost use Rattle.disk_mem.specs.Mem.{durable_of, IsLast, durable, IsFilled, IsLeft};
+ghost use Rattle.disk_mem.specs.Mem.{durable_of, IsLast, durable, IsFilled, IsLeft, last_of};
 
 use std::snapshot::Snapshot;
 
@@ -144,7 +144,7 @@ pub fn leave(content: &mut Vec<u8>, medium: &Medium, last: &Last, outcome: u8)
     requires last { IsLast medium.now last.now content.old.items }
     requires room { vec_len content.old ≤ vec_capacity content.old }
     ensures image { IsImage (durable_of medium.now) content.new.items }
-    ensures left { IsLeft outcome (durable_of medium.now) last.now content.old.items content.new.items }
+    ensures left { IsLeft outcome (durable_of medium.now) (last_of last.now) content.old.items content.new.items }
     ensures capacity { vec_capacity content.old ≤ vec_capacity content.new }
     ensures no_longer { vec_len content.new ≤ vec_len content.old }
 {

@@ -3,5 +3,7 @@
 
 mod lay;
 mod mem;
+#[cfg(test)]
+mod tests;
 
 pub use mem::MemDisk;

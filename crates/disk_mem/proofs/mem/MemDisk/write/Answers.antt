@@ -9,12 +9,12 @@ use Rattle.disk_mem.proofs.mem.MemDisk.write.Goals as goal
 
 pub cover-requires-clause-place : goal.cover-requires-clause-place
 cover-requires-clause-place c =
-    let at = c.requires.place (sym (ap (λ v. v.tells) c.self.view_is)) in
+    let at = c.requires.place in
     omega (arith, at, ap (λ v. length v.state.kept) c.self.view_is)
 
 pub put_bytes-requires-clause-place : goal.put_bytes-requires-clause-place
 put_bytes-requires-clause-place c =
-    let at = c.requires.place (sym (ap (λ v. v.tells) c.self.view_is)) in
+    let at = c.requires.place in
     omega (arith, at, ap (λ v. length v.state.kept) c.self.view_is, c.self.inside.content.ok.0)
 
 pub invariant_of-self : goal.invariant_of-self
@@ -24,7 +24,7 @@ invariant_of-self c =
     let writes = ap (λ v. v.room_writes) c.self.view_is in
     let content = c.self.inside.content.items in
     let n = length c.args.from.now in
-    let place_is = c.requires.place (sym (ap (λ v. v.tells) c.self.view_is)) in
+    let place_is = c.requires.place in
     let within : c.args.at ≤ length content = omega (arith, place_is, ap (λ v. length v.state.kept) c.self.view_is) in
     let put_len = ap (λ (l : List ℕ). length l) c.put_bytes.ensures.items ∙ length-overwritten content c.args.from.now c.args.at within in
     let image = image_put content c.args.from.now c.args.at within (durable_of c.self.inside.medium) inv.image in

@@ -1,14 +1,8 @@
-use Rattle.std.proofs.Common.{◌++◌, ◌∷◌, [], ap, inl, inr, ℕ, List, length, arith, subst, length-append}
-use Rattle.outside.specs.Disk.{DiskState, FailsWriting, CutsPower, written, with_range}
+use Rattle.std.proofs.Common.{◌∙◌, ap, subst}
+use Rattle.disk_mem.specs.Mem.{MemView, CutsBy}
 use Rattle.disk_mem.proofs.mem.MemDiskDisk.write_at.Goals as goal
 
-pub returns-then-not-self-clause-failed : goal.returns-then-not-self-clause-failed
-returns-then-not-self-clause-failed c tells = inl (ap (λ v. v.state) c.fail.ensures.same)
-
-cut : (d e : DiskState) (at : ℕ) (bytes : List ℕ) → CutsPower (written d at bytes) e → FailsWriting d at (length bytes) e
-cut d e at bytes (inl lost) = inr (inr lost)
-cut d e at bytes (inr none) = absurd (omega (arith, ap (λ s. length s.pending) none.1, length-append d.now.pending ((at, length bytes) ∷ [])))
-
-pub returns-else-lives-clause-failed : goal.returns-else-lives-clause-failed
-returns-else-lives-clause-failed c tells =
-    cut _ _ c.args.at c.args.from.now (subst (λ (x : DiskState). CutsPower x c.lives.new.self.state) c.write.ensures.state (c.lives.ensures.no c.if-lives.false).0)
+pub returns-else-lives-clause-blown : goal.returns-else-lives-clause-blown
+returns-else-lives-clause-blown c outcome power fuse =
+    let cut = subst (λ (v : MemView). CutsBy outcome v c.lives.new.self) c.write.ensures.done (c.lives.ensures.left outcome (ap (λ v. v.fuse) c.write.ensures.done ∙ fuse)) in
+    record { same = cut.same; left = cut.left }
