@@ -10,3 +10,6 @@ mod scan;
 
 pub use fault::{AppendFault, OpenFault};
 pub use journal::{Journal, OpenRefused};
+
+#[cfg(test)]
+mod tests;

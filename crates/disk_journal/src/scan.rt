@@ -15,7 +15,7 @@ pub struct Reading {
 }
 
 #[tactic(auto, unfolding(crate::specs::Journal::length_at))]
-fn four(bytes: &[u8], at: usize) -> u32
+fn length_behind(bytes: &[u8], at: usize) -> u32
     requires { at + 5 ≤ length bytes.now }
     ensures { result ≡ length_at (drop at bytes.now) }
 {
@@ -31,7 +31,7 @@ fn whole_at(bytes: &[u8], at: usize) -> Option<usize>
     if bytes.len() - at < 6 || bytes[at] != 1 {
         return None;
     }
-    let n = four(bytes, at) as usize;
+    let n = length_behind(bytes, at) as usize;
     if n <= 524_288 && 5 + n < bytes.len() - at {
         Some(n)
     } else {
