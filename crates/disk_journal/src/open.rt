@@ -7,7 +7,7 @@ use crate::fault::OpenFault;
 use crate::scan::{Reading, found, is_same, is_unformatted, read_records};
 use net_base::{Identity, RecordList};
 use outside::{Disk, Failed, write_synced};
-use std::alloc::{AllocError, Global};
+use std::alloc::Global;
 
 /// Syncs the disk and reads all of it.
 fn read_all<D: Disk>(alloc: Global, disk: &mut D) -> Result<Vec<u8>, OpenFault>
@@ -25,16 +25,8 @@ fn read_all<D: Disk>(alloc: Global, disk: &mut D) -> Result<Vec<u8>, OpenFault>
 {
     disk.sync()?;
     let n = disk.length()?;
-    let mut bytes = zeros(alloc, n as usize)?;
+    let mut bytes = vec![in alloc; 0u8; n as usize]?;
     disk.read_at(0, &mut bytes)?;
-    Ok(bytes)
-}
-
-fn zeros(alloc: Global, n: usize) -> Result<Vec<u8>, AllocError>
-    ensures { IfOk result (λ v. length v.items ≡ n) }
-{
-    let mut bytes = Vec::with_capacity(alloc, n)?;
-    bytes.resize(n, 0)?;
     Ok(bytes)
 }
 
