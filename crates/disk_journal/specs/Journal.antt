@@ -159,13 +159,6 @@ GivesUp (Damaged at) = ⊥
 abbrev pub WasSpelt : DiskState → List ℕ → Type 0
 WasSpelt d bytes = (was : List ℕ) × IsImage d.now was × (journal_of bytes ≡ journal_of was)
 
--- its numbers are below the limits of its spelling
-pub record IsSpellable (id : Identity) : Type 0 where
-  pub party : id.party.0 < 16
-  pub least : 0 < id.nodes
-  pub nodes : id.nodes ≤ 16
-  pub notary : id.notary.0 < 16
-
 -- the journal that was opened: what a read gave, synced and sound
 pub record Opened (id : Identity) (gate count : ℕ) (d e : DiskState) : Type 0 where
   pub synced : e.now ≡ clean e.kept
