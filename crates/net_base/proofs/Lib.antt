@@ -3,3 +3,5 @@ pub mod Written
 pub mod Stamps
 pub mod Whole
 mod NumberLemmas
+mod Sets
+mod Members

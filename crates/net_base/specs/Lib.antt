@@ -11,3 +11,5 @@ pub mod Tested
 pub mod Values
 pub mod Numbers
 pub mod Order
+pub mod Names
+pub mod Parties
