@@ -1,5 +1,5 @@
 -- Enabled acts and the effects of the events that perform them.
-use Rattle.std.proofs.Common.{◌≡◌, ℕ, ◌+◌, List, [], ◌∷◌, Option, Some, None, Bool, true, false, cond, nat_le, IsSome, MatchOption, slice_get, option_and_then, refl, sym, ap, ◌∙◌, ◌⊎◌, inl, inr, ⊎_elim}
+use Rattle.std.proofs.Common.{◌≡◌, ℕ, Option, Some, None, true, false, cond, nat_le, IsSome, MatchOption, slice_get, refl, sym, ap, ◌∙◌, ◌⊎◌, inl, inr, ⊎_elim}
 use Rattle.net_base.specs.declared.causes.Event.{Event}
 use Rattle.net_base.specs.declared.causes.Event.TheVariants as event
 use Rattle.flow_machine.specs.declared.acts.Act.{Act}
@@ -9,7 +9,7 @@ use Rattle.flow_machine.specs.declared.flows.FlowState.{FlowState}
 use Rattle.flow_machine.specs.declared.flows.FlowState.TheVariants as state
 use Rattle.net_model.specs.Environment.{Environment}
 use Rattle.net_model.specs.State.{NodeState, Effect}
-use Rattle.net_model.specs.Steps.{effect_of, performed, lapsed, lapses, live_at}
+use Rattle.net_model.specs.Steps.{effect_of, performed, lapsed, lapses}
 use Rattle.net_model.specs.Enabled.{performing, event_of, effect_on, EnabledIsDefined}
 
 module _ {F : Type 0} (w : Environment F) (me : ℕ) (s : NodeState F) (now f : ℕ) where

@@ -1,12 +1,12 @@
 -- Runs that go on by one cause.
-use Rattle.std.proofs.Common.{◌≡◌, ℕ, List, [], ◌∷◌, ◌++◌, Option, Some, None, Bool, map, refl, sym, ap, ◌∙◌}
+use Rattle.std.proofs.Common.{◌≡◌, ℕ, List, [], ◌∷◌, ◌++◌, Some, None, Bool, map, refl, ap}
 use Rattle.std.proofs.lemmas.Option.{option_and_then_some}
 use Rattle.net_base.specs.declared.causes.Cause.{Cause}
 use Rattle.flow_machine.specs.Flows.{Machine}
 use Rattle.net_model.specs.Environment.{Environment, one_node}
 use Rattle.net_model.specs.State.{NodeState, Effect, fresh}
 use Rattle.net_model.specs.Steps.{node_step}
-use Rattle.net_model.specs.Runs.{net_step, run_from, fresh_net, run_of, merge_two, merge, merged, stamp_of, network_of}
+use Rattle.net_model.specs.Runs.{net_step, run_from, fresh_net, run_of, merge_two, merge, stamp_of, network_of}
 
 -- a run goes on by one cause
 pub run_push : {F : Type 0} (w : Environment F) (net mid : List (NodeState F)) (done : List (NodeState F) × Effect F) (causes : List (ℕ × Cause)) (p : ℕ) (cause : Cause)

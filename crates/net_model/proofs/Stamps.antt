@@ -1,5 +1,5 @@
 -- Along a run the stamps of each node rise.
-use Rattle.std.proofs.Common.{◌≡◌, ℕ, zero, suc, ◌<◌, ◌==◌, List, [], ◌∷◌, Option, Some, None, Bool, true, false, IsSome, option_map, option_and_then, slice_get, slice_set, replicate, ⊎_elim, refl, sym, ap, subst, arith}
+use Rattle.std.proofs.Common.{◌≡◌, ℕ, zero, suc, ◌<◌, ◌==◌, List, [], ◌∷◌, Option, Some, None, true, false, IsSome, option_and_then, slice_get, slice_set, replicate, ⊎_elim, refl, sym, ap, subst}
 use Rattle.std.proofs.lemmas.Bool.{eqb-true, eqb-false}
 use Rattle.net_base.specs.declared.causes.Cause.{Cause}
 use Rattle.net_model.specs.Environment.{Environment}

@@ -1,5 +1,5 @@
 -- Single steps of a node.
-use Rattle.std.proofs.Common.{◌≡◌, ℕ, ◌+◌, ◌<◌, ◌≤◌, ◌^◌, ◌==◌, ◌&&◌, Option, Some, None, true, nat_le, nat_lt, max, option_map, refl, arith}
+use Rattle.std.proofs.Common.{◌≡◌, ℕ, ◌+◌, ◌<◌, ◌≤◌, ◌^◌, ◌==◌, ◌&&◌, Option, Some, None, nat_le, nat_lt, max, option_map, refl, arith}
 use Rattle.std.proofs.lemmas.Bool.{and_parts, and_from, eqb-true, eq-eqb, lt-ltb, le-leb}
 use Rattle.net_base.specs.declared.causes.Cause.{Cause}
 use Rattle.net_base.specs.declared.causes.Event.{Event}

@@ -1,5 +1,5 @@
 -- One step of a node: the effect of a cause, where it is defined.
-use Rattle.std.specs.Prelude.{ℕ, ◌+◌, ◌^◌, ◌==◌, ◌&&◌, Option, Some, None, Result, Ok, Err, Bool, true, false, if◌then◌else◌, List, option_map, option_and_then, nat_le, nat_lt, max, length, slice_get}
+use Rattle.std.specs.Prelude.{ℕ, ◌+◌, ◌^◌, ◌==◌, ◌&&◌, Option, Some, None, Result, Ok, Err, Bool, true, false, if◌then◌else◌, option_map, option_and_then, nat_le, nat_lt, max, length, slice_get}
 use Rattle.net_base.specs.declared.causes.Cause.{Cause}
 use Rattle.net_base.specs.declared.causes.Event.{Event}
 use Rattle.net_base.specs.declared.causes.Event.TheVariants as event

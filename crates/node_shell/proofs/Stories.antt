@@ -107,7 +107,8 @@ module _ {F : Type 0} {w : Environment F} where
 
     -- what stops a run at its last line
     stopped : (left written2 : Option (List ℕ)) (new : World) (lines : List (List ℕ)) (rest' line : List ℕ) (n : ℕ) (why : Stop) → all_lines lines rest' ≡ whole_lines r.lines ++ line ∷ [] → (0 < length rest' → IsAtEnd left) → StopsAs w old line new written1 written2 why → EndsWith w left written0 written2 n lines rest' new (status_of why)
-    stopped left written2 new lines rest' line n stop.Write all at_end (front, missing, link, proper, appends) = (record {
+    stopped left written2 new lines rest' line n stop.Write all at_end (front, missing, link, proper, appends) = (
+      record {
         before = old;
         earlier = whole_lines r.lines;
         line = line;
@@ -119,8 +120,11 @@ module _ {F : Type 0} {w : Environment F} where
         link = link;
         proper = proper;
         appended = Appends-trans written0 written1 written2 _ _ r.answered.appended appends;
-      }, at_end)
-    stopped left written2 new lines rest' line n stop.Memory all at_end (short, same) = inl (record {
+      },
+      at_end,
+    )
+    stopped left written2 new lines rest' line n stop.Memory all at_end (short, same) = inl (
+      record {
         before = old;
         earlier = whole_lines r.lines;
         line = line;
@@ -129,7 +133,9 @@ module _ {F : Type 0} {w : Environment F} where
         story = r.answered.story;
         short = short;
         appended = subst (λ written. Appends written0 written r.answered.out) (sym same) r.answered.appended;
-      }, at_end)
+      },
+      at_end,
+    )
 
     -- the input ended, and the line that it ended with was not answered
     pub run_cut_at_end : {left2 : Option (List ℕ)} {written2 : Option (List ℕ)} {new : World} → (why : Stop) → Keeps left1 left2 → IsAtEnd left2 → count ≤ 16777216 → 0 < length rest → StopsAs w old rest new written1 written2 why → ScriptRun w left0 left2 written0 written2 count new (status_of why)

@@ -98,7 +98,7 @@ module _ {F : Type 0} (w : Environment F) (causes : List Cause) (flows : List (F
       let here : IsBegun w now class args state flow = rw kept.after at begins in
       subst (λ l. IsStateAfter w (causes ++ start_cause now class args state ∷ []) (flows ++ l ∷ []) (stamp + 1) now) (sym here.2)
       (kept_on (Start (length flows) class args) (record { flow = live (length flows) 0 class here.0 }) (flows ++ begun (length flows) class here.0 ∷ []) (start_effect class args here.0 here.1) (push_on flows (length flows) (begun (length flows) class here.0) refl)
-        (omega (arith, length-append flows (begun (length flows) class here.0 ∷ []))) (all_push (λ flow. steps_of flow ≤ length causes + 1) flows (begun (length flows) class here.0) more_steps (omega arith)) (numbered_push 0 flows (begun (length flows) class here.0) kept.numbered (omega arith)))
+      (omega (arith, length-append flows (begun (length flows) class here.0 ∷ []))) (all_push (λ flow. steps_of flow ≤ length causes + 1) flows (begun (length flows) class here.0) more_steps (omega arith)) (numbered_push 0 flows (begun (length flows) class here.0) kept.numbered (omega arith)))
 
   -- over a turn
   pub kept_turn : (next : Ready F) → IfSome (node_at w (alone now causes) 0) (λ s. IsFirst w 0 now s.flows (Some next))

@@ -1,5 +1,5 @@
 -- The script: its lines, their words, and what the words ask for.
-use Rattle.std.specs.Prelude.{◌≡◌, ◌≢◌, ℕ, ◌-◌, List, [], ◌∷◌, ◌++◌, Bool, true, false, All, nat_lt, nat_le, ◌==◌, ◌&&◌, ◌||◌, if◌then◌else◌, length, codes, take, slice_index, map}
+use Rattle.std.specs.Prelude.{◌≡◌, ◌≢◌, ℕ, ◌-◌, List, [], ◌∷◌, ◌++◌, Bool, true, false, All, nat_lt, nat_le, ◌==◌, ◌&&◌, ◌||◌, not, if◌then◌else◌, length, codes, take, slice_index, map}
 use Rattle.std.specs.List.{list_all, flat_map}
 use Rattle.std.specs.Str.{bytes_eq}
 use Rattle.node_shell.specs.declared.commands.Command.{Command}
@@ -77,6 +77,10 @@ command_of [] = Unknown
 command_of (w ∷ []) = if bytes_eq w (codes "drain") then Drain else Unknown
 command_of (w ∷ n ∷ []) = if bytes_eq w (codes "flows") && bytes_eq n (codes "0") then Flows else Unknown
 command_of (w ∷ n ∷ c ∷ args) = if bytes_eq w (codes "start") && bytes_eq n (codes "0") then Start else Unknown
+
+-- what a line asks for: nothing that is known where it has no answer or can't be read
+abbrev pub asked_by : List ℕ → Command
+asked_by line = if has_no_answer line || not (is_readable line) then Unknown else command_of (words_of line)
 
 -- ---- the program's words
 

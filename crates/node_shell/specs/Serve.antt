@@ -14,7 +14,7 @@ use Rattle.node_shell.specs.declared.commands.Command.{Command}
 use Rattle.node_shell.specs.declared.commands.Command.TheVariants as command
 use Rattle.node_shell.specs.Worlds.{World, with_cause}
 use Rattle.node_shell.specs.Turns.{start_of, Turns, Drains}
-use Rattle.node_shell.specs.Script.{has_no_answer, is_readable, words_of, command_of}
+use Rattle.node_shell.specs.Script.{has_no_answer, is_readable, words_of, command_of, asked_by}
 
 -- the number of a refusal
 abbrev pub code_of : Refusal → ℕ
@@ -92,4 +92,4 @@ LeavesOf w before command.Unknown after = after ≡ before
 
 -- a line was left without an answer for want of memory: it was left off, or it was served and its answer could not be spelt
 abbrev pub RunsShort : {F : Type 0} → Environment F → World → List ℕ → World → Type 0
-RunsShort w before line after = LeavesOf w before (command_of (words_of line)) after ⊎ ((text : List ℕ) × Link w before line text after)
+RunsShort w before line after = LeavesOf w before (asked_by line) after ⊎ ((text : List ℕ) × Link w before line text after)

@@ -14,9 +14,8 @@ mod report;
 mod session;
 mod statuses;
 mod streams;
-mod top;
-
 #[cfg(test)]
 mod tests;
+mod top;
 
 pub use top::{Ended, run};

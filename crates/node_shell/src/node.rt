@@ -1,4 +1,4 @@
-ghost use Rattle.std.specs.Prelude.{◌≡◌, ◌++◌, ◌∷◌, ◌<◌, [], length, IfOk, IfSome, Some, OnOk, OnErr, string_bytes};
+ghost use Rattle.std.specs.Prelude.{◌≡◌, ◌++◌, ◌∷◌, ◌<◌, ◌+◌, ◌-◌, ◌^◌, [], length, IfOk, IfSome, Some, OnOk, OnErr, string_bytes};
 ghost use Rattle.net_model.specs.Environment.{one_node};
 ghost use Rattle.net_model.specs.Steps.{place, next_cause};
 ghost use Rattle.net_model.specs.Print.{printed, of_flows};
@@ -163,15 +163,13 @@ impl<F: FlowSet> Node<F> {
         ensures err { OnErr result (self.new ≡ self.old) }
         ensures by { IsBy (one_node F.machine) (alone now.0 self.new) 0 }
     {
-        let cause = Cause {
-            stamp: self.stamp + 1,
-            moment: now,
-            event: Event::Start {
-                flow: self.flows.len() as u32,
-                class,
-                args,
-            },
+        let flow_number = self.flows.len() as u32;
+        let event = Event::Start {
+            flow: flow_number,
+            class,
+            args,
         };
+        let cause = cause_after(self.stamp, now, event);
         self.flows.push(flow)?;
         if let Err(fault) = self.causes.push(cause) {
             let _ = self.flows.pop();
@@ -192,15 +190,23 @@ impl<F: FlowSet> Node<F> {
         ensures by { IsBy (one_node F.machine) (alone now.0 self.new) 0 }
     {
         let number = next.number as usize;
-        self.causes.push(Cause {
-            stamp: self.stamp + 1,
-            moment: now,
-            event: next.event,
-        })?;
+        self.causes.push(cause_after(self.stamp, now, next.event))?;
         self.flows[number] = next.flow;
         self.stamp += 1;
         self.moment = now.0;
         Ok(())
+    }
+}
+
+// The cause of an event at a node whose last cause has this stamp.
+fn cause_after(stamp: u64, now: Moment, event: Event) -> Cause
+    requires { stamp < 2 ^ 64 - 1 }
+    ensures { result ≡ record { stamp = stamp + 1; moment = now; event = event } }
+{
+    Cause {
+        stamp: stamp + 1,
+        moment: now,
+        event,
     }
 }
 

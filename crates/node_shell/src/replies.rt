@@ -1,6 +1,6 @@
 ghost use Rattle.std.specs.Prelude.{◌≡◌, IfOk, OnErr, map, string_bytes, List, ℕ};
 ghost use Rattle.net_model.specs.Environment.{one_node};
-ghost use Rattle.node_shell.specs.Script.{command_of, words_of};
+ghost use Rattle.node_shell.specs.Script.{command_of, asked_by};
 ghost use Rattle.node_shell.specs.Serve.{code_of, name_of, StartsWords, Serves, RepliesTo, LeavesOf};
 
 use super::commands::{Command, command_of, words_of};
@@ -101,11 +101,7 @@ fn start<F: FlowSet>(
 
 // Does what the words of a line ask for.
 #[tactic(auto, using(crate::proofs::Serving::leaves_same))]
-fn serve<F: FlowSet>(
-    alloc: Global,
-    net: &mut Net<F>,
-    words: &[String],
-) -> Result<Reply, AllocError>
+fn serve<F: FlowSet>(alloc: Global, net: &mut Net<F>, words: &[String]) -> Result<Reply, AllocError>
     ensures ok { IfOk result (λ reply. let ws = map (λ s. string_bytes s) words.now in Serves (one_node F.machine) net.old (command_of ws) ws reply net.new) }
     ensures err { OnErr result (LeavesOf (one_node F.machine) net.old (command_of (map (λ s. string_bytes s) words.now)) net.new) }
 {
@@ -129,7 +125,7 @@ pub fn reply_to<F: FlowSet>(
     line: &[u8],
 ) -> Result<Reply, AllocError>
     ensures ok { IfOk result (λ reply. RepliesTo (one_node F.machine) net.old line.now reply net.new) }
-    ensures err { OnErr result (LeavesOf (one_node F.machine) net.old (command_of (words_of line.now)) net.new) }
+    ensures err { OnErr result (LeavesOf (one_node F.machine) net.old (asked_by line.now) net.new) }
 {
     if has_no_answer(line) {
         return Ok(Reply::Silence);

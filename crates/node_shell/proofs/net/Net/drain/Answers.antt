@@ -13,4 +13,4 @@ turns-init g c = record {
 pub turns-preserved : goal.turns-preserved
 turns-preserved g c =
     let step = rw c.in-Moved.is at c.in_ok-turn.ensures.turn in
-    record { turns = one_more c.turns.invariant.turns step.1 step.2 (ap (alone 0) step.3); by = c.in_ok-turn.ensures.by }
+    record { turns = one_more {cause = step.0} c.turns.invariant.turns step.1 step.2 (ap (alone 0) step.3); by = c.in_ok-turn.ensures.by }
