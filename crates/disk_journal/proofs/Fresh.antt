@@ -2,9 +2,10 @@
 use Rattle.std.proofs.Common.{◌≡◌, ◌⊎◌, inl, inr, ℕ, zero, suc, ◌≤◌, nat_lt, nat_le, true, false, List, [], ◌∷◌, ◌++◌, length, get_or, take, drop, Option, Some, None, refl, sym, ◌∙◌, ap, arith, length-drop}
 use Rattle.std.specs.Str.{bytes_eq}
 use Rattle.std.proofs.lemmas.Bool.Decides.{nat_tests}
+use Rattle.net_base.specs.Names.{IsIdentity}
 use Rattle.net_base.specs.declared.names.Identity.{Identity}
 use Rattle.disk_journal.specs.declared.fault.OpenFault.TheVariants.{NotAJournal, WrongNode}
-use Rattle.disk_journal.specs.Journal.{record_limit, is_whole, bodies, extent, damage, magic, identity_of, named, found, header, bodies_of, journal_of, IsSound, IsSpellable, is_unformatted, is_same, damaged, refusal_of, refusal}
+use Rattle.disk_journal.specs.Journal.{record_limit, is_whole, bodies, extent, damage, magic, identity_of, named, found, header, bodies_of, journal_of, IsSound, is_unformatted, is_same, damaged, refusal_of, refusal}
 use Rattle.disk_journal.proofs.Records.{whole, is_true, bodies_shut, bodies_closed}
 use Rattle.disk_journal.proofs.Crash.{journal_by, found_long}
 use Rattle.std.proofs.lemmas.List.{get_or-take}
@@ -27,18 +28,18 @@ short_spells c short = by (found c)
     by None = refl
     by (Some id) = bodies_short record_limit (drop 16 c) (omega (arith, length-drop 16 c, short))
 
-identity_spelt : (id : Identity) → IsSpellable id → identity_of id.party.0 id.nodes id.notary.0 ≡ Some id
+identity_spelt : (id : Identity) → IsIdentity id → identity_of id.party.0 id.nodes id.notary.0 ≡ Some id
 identity_spelt id s =
-    let a : nat_lt id.party.0 16 ≡ true = grind (arith, nat_tests, s.party) in
-    let b : nat_lt 0 id.nodes ≡ true = grind (arith, nat_tests, s.least) in
-    let c : nat_le id.nodes 16 ≡ true = grind (arith, nat_tests, s.nodes) in
-    let d : nat_lt id.notary.0 16 ≡ true = grind (arith, nat_tests, s.notary) in
+    let a : nat_lt id.party.0 16 ≡ true = grind (arith, nat_tests, s.0) in
+    let b : nat_lt 0 id.nodes ≡ true = grind (arith, nat_tests, s.1.0.0) in
+    let c : nat_le id.nodes 16 ≡ true = grind (arith, nat_tests, s.1.0.1) in
+    let d : nat_lt id.notary.0 16 ≡ true = grind (arith, nat_tests, s.1.1) in
     rw (a, b, c, d) refl
 
 abbrev pub fresh : Identity → List ℕ
 fresh id = header id ++ 0 ∷ []
 
-fresh_found : (id : Identity) → IsSpellable id → found (fresh id) ≡ Some id
+fresh_found : (id : Identity) → IsIdentity id → found (fresh id) ≡ Some id
 unfolding found named header
 fresh_found id s = identity_spelt id s
 
@@ -46,7 +47,7 @@ fresh_end : (id : Identity) → drop 16 (fresh id) ≡ 0 ∷ []
 unfolding header
 fresh_end id = refl
 
-pub fresh_sound : (id : Identity) → IsSpellable id → IsSound id (fresh id) × (journal_of (fresh id) ≡ []) × (extent record_limit (drop 16 (fresh id)) ≡ 0)
+pub fresh_sound : (id : Identity) → IsIdentity id → IsSound id (fresh id) × (journal_of (fresh id) ≡ []) × (extent record_limit (drop 16 (fresh id)) ≡ 0)
 fresh_sound id s =
     let none = bodies_closed record_limit (0 ∷ []) (omega arith) (omega arith) in (
       record { named = fresh_found id s; ends = ap (damage record_limit 16) (fresh_end id) ∙ none.1 16 },

@@ -4,8 +4,9 @@ use Rattle.outside.specs.Disk.{DiskState, Durable, IsImage, EachImage, Syncs, Fa
 use Rattle.outside.proofs.Moments.{started, weaker, then, clean_image, Either, after_failed_read, after_sync, settled_kept}
 use Rattle.disk_journal.proofs.Crash.{torn_parts}
 use Rattle.disk_journal.proofs.Steps.{put_length}
+use Rattle.net_base.specs.Names.{IsIdentity}
 use Rattle.net_base.specs.declared.names.Identity.{Identity}
-use Rattle.disk_journal.specs.Journal.{journal_of, is_unformatted, IsSound, IsSpellable, WasSpelt, Opened, header, extent, record_limit}
+use Rattle.disk_journal.specs.Journal.{journal_of, is_unformatted, IsSound, WasSpelt, Opened, header, extent, record_limit}
 use Rattle.disk_journal.proofs.Fresh.{short_spells, found_formatted, fresh_sound}
 
 -- after a sync each image is one of those before it
@@ -53,7 +54,7 @@ module _ (d m e : DiskState) (read : EachImage d m (IsImage d.now)) (was : IsIma
 pub never_sound : (id : Identity) (d e : DiskState) → IsImage d.now d.kept → is_unformatted d.kept ≡ true → ((c : List ℕ) → IsImage d.now c → IsSound id c) → EachImage d e (IsSound id)
 never_sound id d e was not_yet all = absurd (found_formatted id d.kept (all d.kept was).named not_yet)
 
-pub opens_fresh : (id : Identity) (d e : DiskState) → IsSpellable id → length d.kept ≤ 17 → e.kept ≡ header id ++ 0 ∷ [] → e.now ≡ clean e.kept → Opened id 16 0 d e
+pub opens_fresh : (id : Identity) (d e : DiskState) → IsIdentity id → length d.kept ≤ 17 → e.kept ≡ header id ++ 0 ∷ [] → e.now ≡ clean e.kept → Opened id 16 0 d e
 opens_fresh id d e spells short kept synced =
     let f = fresh_sound id spells in record {
       synced = synced;

@@ -1,5 +1,5 @@
 -- How many bytes records take.
-use Rattle.std.proofs.Common.{◌≡◌, ◌⊎◌, inl, inr, ℕ, zero, suc, ◌+◌, ◌≤◌, true, false, List, [], ◌∷◌, length, take, drop, refl, sym, ◌∙◌, ap, arith, length-drop}
+use Rattle.std.proofs.Common.{◌≡◌, ◌⊎◌, inl, inr, ℕ, zero, suc, ◌+◌, true, false, List, [], ◌∷◌, length, take, drop, refl, sym, ◌∙◌, ap, arith, length-drop}
 use Rattle.std.proofs.lemmas.List.{length-take-le}
 use Rattle.disk_journal.specs.Journal.{is_whole, length_at, bodies, extent, placed, size_of}
 use Rattle.disk_journal.proofs.Records.{whole, is_true, bodies_open, bodies_shut, extent_open, extent_shut}

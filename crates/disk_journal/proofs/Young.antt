@@ -5,8 +5,9 @@ use Rattle.std.proofs.lemmas.Bool.Decides.{nat_tests}
 use Rattle.std.proofs.lemmas.List.{get_or-take, drop_more}
 use Rattle.outside.specs.Disk.{DiskState, Durable, IsImage, EachImage, clean, with_range, overwritten}
 use Rattle.outside.proofs.Moments.{weaker, clean_image, Either}
+use Rattle.net_base.specs.Names.{IsIdentity}
 use Rattle.net_base.specs.declared.names.Identity.{Identity}
-use Rattle.disk_journal.specs.Journal.{header, is_same, is_unformatted, damaged, refusal, IsSound, IsSpellable, IsYoung}
+use Rattle.disk_journal.specs.Journal.{header, is_same, is_unformatted, damaged, refusal, IsSound, IsYoung}
 use Rattle.disk_journal.proofs.Records.{is_true}
 use Rattle.disk_journal.proofs.Crash.{Parts, torn_parts}
 use Rattle.disk_journal.proofs.Steps.{put_parts}
@@ -36,7 +37,7 @@ unfolding header
 fresh_tail id = refl
 
 -- over such an image an opening gives no refusal
-pub young_opens : (id : Identity) (x : List ℕ) → IsSpellable id → IsYoung id x → refusal id x ≡ None
+pub young_opens : (id : Identity) (x : List ℕ) → IsIdentity id → IsYoung id x → refusal id x ≡ None
 young_opens id x spells (inl short) = refusal_unformatted id x (shut_unformatted x (inl short))
 young_opens id x spells (inr (inr sound)) = sound_opens id x sound
 young_opens id x spells (inr (inl (len, inl zero_gate))) = refusal_unformatted id x (shut_unformatted x (inr (len, λ is. absurd (omega (arith, is, zero_gate)))))

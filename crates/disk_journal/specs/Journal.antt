@@ -7,18 +7,19 @@ use Rattle.net_base.specs.declared.names.Identity.{Identity}
 use Rattle.disk_journal.specs.declared.fault.OpenFault.{OpenFault}
 use Rattle.disk_journal.specs.declared.fault.OpenFault.TheVariants.{Fault, Memory, NotAJournal, WrongNode, Damaged}
 
--- the longest body, and the most records
+-- the longest body, in bytes
 abbrev pub body_limit : ℕ
 body_limit = 524288
 
+-- the most records
 unfoldable pub record_limit : ℕ
 record_limit = 65536
 
--- the length that stands behind a gate
+-- the length that stands behind a gate, four bytes with the most significant first
 unfoldable pub length_at : List ℕ → ℕ
 length_at bytes = from_be_bytes w32 (take 4 (drop 1 bytes))
 
--- an open gate stands first, and the record and the next gate behind it
+-- an open gate stands first, and behind it a whole record and the next gate
 unfoldable pub is_whole : List ℕ → Bool
 is_whole bytes = (slice_index bytes 0 == 1) && (nat_le (length_at bytes) body_limit && nat_lt (5 + length_at bytes) (length bytes))
 
@@ -41,7 +42,7 @@ abbrev pub damage : ℕ → ℕ → List ℕ → Option ℕ
 damage zero at bytes = if is_closed bytes then None else Some at
 damage (suc n) at bytes = if is_whole bytes then damage n (at + (5 + length_at bytes)) (drop (5 + length_at bytes) bytes) else (if is_closed bytes then None else Some at)
 
--- the first ten bytes
+-- the first ten bytes: the open format gate, the name of the format and its version
 abbrev pub magic : List ℕ
 magic = 1 ∷ codes "CORDAJNL" ++ 1 ∷ []
 
@@ -53,7 +54,7 @@ identity_of party nodes notary = if nat_lt party 16 && (nat_lt 0 nodes && (nat_l
 unfoldable pub named : List ℕ → Option Identity
 named head = if bytes_eq (take 10 head) magic && bytes_eq (drop 13 head) (0 ∷ 0 ∷ 0 ∷ []) then identity_of (slice_index head 10) (slice_index head 11) (slice_index head 12) else None
 
--- the header of a journal
+-- the header of a journal, 16 bytes
 unfoldable pub header : Identity → List ℕ
 header id = magic ++ (id.party.0 ∷ id.nodes ∷ id.notary.0 ∷ 0 ∷ 0 ∷ 0 ∷ [])
 
@@ -61,6 +62,7 @@ header id = magic ++ (id.party.0 ∷ id.nodes ∷ id.notary.0 ∷ 0 ∷ 0 ∷ 0 
 unfoldable pub found : List ℕ → Option Identity
 found image = if nat_le 17 (length image) then named (take 16 image) else None
 
+-- the records behind the header, where that names a node
 abbrev pub bodies_of : Option Identity → List ℕ → List (List ℕ)
 bodies_of None rest = []
 bodies_of (Some id) rest = bodies record_limit rest
@@ -85,7 +87,7 @@ pub record JournalView : Type 0 where
   -- one more than the place of the closed gate that ends it
   pub length : ℕ
   pub count : ℕ
-  -- so many bytes have room in memory
+  -- so many bytes have room in the buffer for one record
   pub buffer : ℕ
 
 -- it takes no more records
@@ -99,6 +101,7 @@ pub record Stands (j : JournalView) (d : DiskState) : Type 0 where
   pub ends : j.length ≡ 17 + extent record_limit (drop 16 d.kept)
   pub counts : j.count ≡ length (journal_of d.kept)
 
+-- no append answered a fault since the opening
 abbrev pub IsReady : JournalView → Type 0
 IsReady j = j.disk.tells ≡ true → Stands j j.disk.state
 
@@ -126,13 +129,16 @@ size_of (r ∷ rs) = 5 + length r.1 + size_of rs
 unfoldable pub is_unformatted : List ℕ → Bool
 is_unformatted image = nat_lt (length image) 17 || ((length image == 17) && not (slice_index image 0 == 1))
 
+-- both are the same node of the same network
 abbrev pub is_same : Identity → Identity → Bool
 is_same x y = (x.party.0 == y.party.0) && ((x.nodes == y.nodes) && (x.notary.0 == y.notary.0))
 
+-- the refusal for what damage says
 abbrev pub damaged : Option ℕ → Option OpenFault
 damaged None = None
 damaged (Some at) = Some (Damaged at)
 
+-- why a formatted image is refused, by the identity found and by its damage: first no journal, then another node, then damage
 abbrev pub refusal_of : Identity → Option Identity → Option ℕ → Option OpenFault
 refusal_of id None harm = Some NotAJournal
 refusal_of id (Some x) harm = if is_same x id then damaged harm else Some (WrongNode x)
@@ -152,13 +158,6 @@ GivesUp (Damaged at) = ⊥
 -- an image of that moment spells the same records
 abbrev pub WasSpelt : DiskState → List ℕ → Type 0
 WasSpelt d bytes = (was : List ℕ) × IsImage d.now was × (journal_of bytes ≡ journal_of was)
-
--- its numbers are below the limits of its spelling
-pub record IsSpellable (id : Identity) : Type 0 where
-  pub party : id.party.0 < 16
-  pub least : 0 < id.nodes
-  pub nodes : id.nodes ≤ 16
-  pub notary : id.notary.0 < 16
 
 -- the journal that was opened: what a read gave, synced and sound
 pub record Opened (id : Identity) (gate count : ℕ) (d e : DiskState) : Type 0 where

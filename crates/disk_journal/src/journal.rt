@@ -1,7 +1,8 @@
 ghost use Rattle.std.specs.Prelude.{◌≡◌, ◌≤◌, ◌<◌, ◌+◌, ◌++◌, ◌∷◌, [], ◌↔◌, ℕ, length, true, Some, OnOk, OnErr, IsErr, IsErrOf, IfOk, IfErr, MatchResult, None, List, ◌⊎◌, vec_capacity, ◌^◌};
 ghost use Rattle.outside.specs.Disk.{EachImage, IfTold, SameRest, IsImage};
 ghost use Rattle.outside.specs.Faults.{Rose};
-ghost use Rattle.disk_journal.specs.Journal.{IsReady, HasRoom, IsSound, IsYoung, IsOldOrNew, IsSpellable, GivesUp, WasSpelt, journal_of, is_full_at, entry, refusal, placed, size_of};
+ghost use Rattle.net_base.specs.Names.{IsIdentity};
+ghost use Rattle.disk_journal.specs.Journal.{IsReady, HasRoom, IsSound, IsYoung, IsOldOrNew, GivesUp, WasSpelt, journal_of, is_full_at, entry, refusal, placed, size_of};
 
 use crate::fault::{AppendFault, OpenFault};
 use crate::open::prepare;
@@ -73,7 +74,7 @@ impl<D: Disk> Journal<D> {
         disk: D,
         identity: Identity,
     ) -> Result<(Journal<D>, RecordList), OpenRefused<D>>
-        requires { IsSpellable identity }
+        requires { IsIdentity identity }
         ensures opened { (D.seen disk).tells ≡ true → OnOk result (refusal identity (D.seen disk).state.kept ≡ None) }
         ensures list { (D.seen disk).tells ≡ true → IfOk result (λ r. r.1 ≡ placed 16 (journal_of (D.seen disk).state.kept)) }
         ensures ready { IfOk result (λ r. IsReady r.0 × (r.0.of ≡ identity)) }

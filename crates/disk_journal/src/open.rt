@@ -1,13 +1,14 @@
 ghost use Rattle.std.specs.Prelude.{◌^◌, ◌≡◌, ◌≤◌, ◌<◌, ◌+◌, ◌-◌, ◌⊎◌, ◌++◌, ◌∷◌, [], ℕ, List, length, take, drop, true, false, Some, None, IfOk, IfErr, slice_index, ◌≢◌, OnOk, OnErr, IsOk, IsErrOf};
 ghost use Rattle.outside.specs.Disk.{EachImage, IfTold, SameRest, IsImage, clean};
 ghost use Rattle.outside.specs.Faults.{Rose, HasCause};
-ghost use Rattle.disk_journal.specs.Journal.{GivesUp, WasSpelt, IsSpellable, IsSound, IsYoung, header, journal_of, is_unformatted, refusal, placed, size_of, record_limit, extent, Opened};
+ghost use Rattle.net_base.specs.Names.{IsIdentity};
+ghost use Rattle.disk_journal.specs.Journal.{GivesUp, WasSpelt, IsSound, IsYoung, header, journal_of, is_unformatted, refusal, placed, size_of, record_limit, extent, Opened};
 
 use crate::fault::OpenFault;
 use crate::scan::{Reading, found, is_same, is_unformatted, read_records};
 use net_base::{Identity, RecordList};
 use outside::{Disk, Failed, write_synced};
-use std::alloc::{AllocError, Global};
+use std::alloc::Global;
 
 /// Syncs the disk and reads all of it.
 fn read_all<D: Disk>(alloc: Global, disk: &mut D) -> Result<Vec<u8>, OpenFault>
@@ -25,16 +26,8 @@ fn read_all<D: Disk>(alloc: Global, disk: &mut D) -> Result<Vec<u8>, OpenFault>
 {
     disk.sync()?;
     let n = disk.length()?;
-    let mut bytes = zeros(alloc, n as usize)?;
+    let mut bytes = vec![in alloc; 0u8; n as usize]?;
     disk.read_at(0, &mut bytes)?;
-    Ok(bytes)
-}
-
-fn zeros(alloc: Global, n: usize) -> Result<Vec<u8>, AllocError>
-    ensures { IfOk result (λ v. length v.items ≡ n) }
-{
-    let mut bytes = Vec::with_capacity(alloc, n)?;
-    bytes.resize(n, 0)?;
     Ok(bytes)
 }
 
@@ -148,7 +141,7 @@ fn begin<D: Disk>(alloc: Global, disk: &mut D, id: &Identity, bytes: &[u8]) -> R
 
 /// The whole of an opening, but that it hands the disk back.
 pub fn prepare<D: Disk>(alloc: Global, disk: &mut D, id: &Identity) -> Result<Reading, OpenFault>
-    requires { IsSpellable id.now }
+    requires { IsIdentity id.now }
     ensures opened { (D.seen disk.old).tells ≡ true → OnOk result (refusal id.now (D.seen disk.old).state.kept ≡ None) }
     ensures list { (D.seen disk.old).tells ≡ true → IfOk result (λ r. r.list ≡ placed 16 (journal_of (D.seen disk.old).state.kept)) }
     ensures place { IfOk result (λ r. (16 ≤ r.gate) × (r.gate < 2 ^ 63)) }

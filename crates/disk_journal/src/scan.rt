@@ -14,6 +14,7 @@ pub struct Reading {
     pub is_closed: bool,
 }
 
+/// The length that stands behind the gate at this place.
 #[tactic(auto, unfolding(crate::specs::Journal::length_at))]
 fn length_behind(bytes: &[u8], at: usize) -> u32
     requires { at + 5 ≤ length bytes.now }
@@ -50,6 +51,7 @@ fn next_at(bytes: &[u8], at: usize, left: u32) -> Option<usize>
     whole_at(bytes, at)
 }
 
+/// Whether a closed gate stands at this place.
 #[tactic(auto, unfolding(crate::specs::Journal::is_closed))]
 fn closed_at(bytes: &[u8], at: usize) -> bool
     requires { at ≤ length bytes.now }
@@ -58,6 +60,7 @@ fn closed_at(bytes: &[u8], at: usize) -> bool
     at < bytes.len() && bytes[at] != 1
 }
 
+/// The body, of that length, of the record at this place.
 fn body_at(alloc: Global, bytes: &[u8], at: usize, n: usize) -> Result<ByteList, AllocError>
     requires { at + 5 + n ≤ length bytes.now }
     ensures { IfOk result (λ b. b ≡ take n (drop 5 (drop at bytes.now))) }
@@ -96,6 +99,7 @@ pub fn read_records(
     })
 }
 
+/// Whether no journal was begun here, or not finished.
 #[tactic(auto, unfolding(crate::specs::Journal::is_unformatted))]
 pub fn is_unformatted(bytes: &[u8]) -> bool
     ensures { result ≡ is_unformatted bytes.now }
@@ -103,6 +107,7 @@ pub fn is_unformatted(bytes: &[u8]) -> bool
     bytes.len() < 17 || (bytes.len() == 17 && bytes[0] != 1)
 }
 
+/// The identity that three bytes spell.
 fn identity_of(party: u8, nodes: u8, notary: u8) -> Option<Identity>
     ensures { result ≡ identity_of party nodes notary }
 {
@@ -117,18 +122,21 @@ fn identity_of(party: u8, nodes: u8, notary: u8) -> Option<Identity>
     }
 }
 
+/// Whether these are the first ten bytes of a journal.
 fn is_magic(head: &[u8]) -> bool
     ensures { result ≡ bytes_eq head.now magic }
 {
     head == [1, b'C', b'O', b'R', b'D', b'A', b'J', b'N', b'L', 1].as_slice()
 }
 
+/// Whether these are the last three bytes of a header.
 fn is_zeros(tail: &[u8]) -> bool
     ensures { result ≡ bytes_eq tail.now (0 ∷ 0 ∷ 0 ∷ []) }
 {
     tail == [0, 0, 0].as_slice()
 }
 
+/// The identity that a header names.
 #[tactic(auto, unfolding(crate::specs::Journal::named))]
 fn named(head: &[u8]) -> Option<Identity>
     requires { length head.now ≡ 16 }
@@ -143,7 +151,7 @@ fn named(head: &[u8]) -> Option<Identity>
     identity_of(head[10], head[11], head[12])
 }
 
-/// The identity of a formatted journal.
+/// The identity of a formatted journal, where the bytes are one.
 #[tactic(auto, unfolding(crate::specs::Journal::found))]
 pub fn found(bytes: &[u8]) -> Option<Identity>
     ensures { result ≡ found bytes.now }
@@ -154,6 +162,7 @@ pub fn found(bytes: &[u8]) -> Option<Identity>
     named(&bytes[..16])
 }
 
+/// Whether both are the same node of the same network.
 pub fn is_same(x: &Identity, y: &Identity) -> bool
     ensures { result ≡ is_same x.now y.now }
 {

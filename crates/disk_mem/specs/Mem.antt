@@ -7,9 +7,11 @@ use Rattle.disk_mem.specs.declared.lay.Fuse.{Fuse}
 use Rattle.std.specs.declared.snapshot.Snapshot.{Snapshot}
 use Rattle.std.specs.declared.alloc.Global.{Global}
 
+-- what was synced, and the pending ranges
 abbrev pub durable : List ℕ → List (ℕ × ℕ) → Durable
 durable synced pending = record { synced = synced; pending = pending }
 
+-- the same of the medium
 abbrev pub durable_of : Medium → Durable
 durable_of l = record { synced = l.synced.items; pending = l.pending.items }
 
@@ -43,6 +45,7 @@ pub record LastWrite : Type 0 where
   pub count : ℕ
   pub was : List ℕ
 
+-- the last write without the bytes that it covered
 abbrev pub last_of : Last → LastWrite
 last_of l = record { at = l.at; count = l.count; was = l.was.value.items }
 
@@ -64,6 +67,7 @@ pub record MemView : Type 0 where
   pub room_end : ℕ
   pub room_writes : ℕ
 
+-- no fuse is armed
 abbrev pub has_no_fuse : Option (ℕ × ℕ) → Bool
 has_no_fuse None = true
 has_no_fuse (Some f) = false
@@ -90,10 +94,12 @@ pub record CutsBy (outcome : ℕ) (old new : MemView) : Type 0 where
   pub same : length old.state.now.pending ≡ 0 → new.state ≡ old.state
   pub left : 0 < length old.state.now.pending → IsLeft outcome old.state.now old.last old.state.kept new.state.kept
 
+-- the fuse as two numbers: how many writes and syncs it lasts, and its outcome
 abbrev pub fuse_of : Option Fuse → Option (ℕ × ℕ)
 fuse_of None = None
 fuse_of (Some f) = Some (f.calls, f.outcome)
 
+-- what a disk keeps now, what a cut may leave now, and what it might have left at each moment before
 abbrev pub state_of : List ℕ → Medium → List (Snapshot Medium) → DiskState
 state_of content medium past = record { kept = content; now = durable_of medium; past = map (λ s. durable_of s.value) past }
 

@@ -66,6 +66,7 @@ pub fn note(pending: &mut Vec<(usize, usize)>, at: usize, n: usize)
     pending.push((at, n)).unwrap();
 }
 
+/// Copies the bytes from a place on.
 pub fn copy_out(content: &[u8], at: usize, into: &mut [u8])
     requires { at + length into.old ≤ length content.now }
     ensures { into.new ≡ take (length into.old) (drop at content.now) }
@@ -128,6 +129,7 @@ fn copy_pending(synced: &mut [u8], pending: &[(usize, usize)], content: &[u8])
     }
 }
 
+/// Copies one range of what is there.
 fn copy_range(synced: &mut [u8], content: &[u8], at: usize, n: usize)
     requires { length synced.old ≡ length content.now }
     ensures within { (i : ℕ) → at ≤ i → i < at + n → slice_index synced.new i ≡ slice_index content.now i }
@@ -159,7 +161,7 @@ pub fn leave(content: &mut Vec<u8>, medium: &Medium, last: &Last, outcome: u8)
     }
 }
 
-/// Fills the ranges.
+/// Fills the ranges with 0xA5.
 fn fill_pending(content: &mut [u8], pending: &[(usize, usize)])
     ensures { IsFilled pending.now content.old content.new }
 {
@@ -194,6 +196,7 @@ fn halve(content: &mut Vec<u8>, medium: &Medium, last: &Last)
     content.truncate(last.before.max(last.at + half));
 }
 
+/// Fills one range with 0xA5, as far as there are bytes.
 fn fill_range(content: &mut [u8], at: usize, n: usize)
     ensures within { (i : ℕ) → at ≤ i → i < at + n → i < length content.old → slice_index content.new i ≡ 165 }
     ensures beside { (i : ℕ) → (i < at) ⊎ (at + n ≤ i) → slice_index content.new i ≡ slice_index content.old i }

@@ -1,7 +1,6 @@
 use Rattle.std.proofs.Common.{◌≡◌, ℕ, List, ◌+◌, ◌-◌, ◌++◌, ◌∷◌, [], drop, length, ap, ◌∙◌, sym, arith, Bool, Some, None, if◌then◌else◌}
 use Rattle.std.proofs.lemmas.List.{append-nil}
 use Rattle.disk_journal.specs.Journal.{placed, size_of, extent, bodies}
-use Rattle.disk_journal.proofs.Records.{at_most}
 use Rattle.disk_journal.proofs.Sizes.{length-placed, size-placed}
 use Rattle.disk_journal.proofs.Scans.{is_next, stops, within, extent_next, damage_next, count_next, list_next}
 use Rattle.disk_journal.proofs.scan.read_records.Goals as goal

@@ -1,6 +1,6 @@
 use Rattle.std.proofs.Common.{◌≡◌, ⊎_elim, Option, Some, None, sym, ◌∙◌}
 use Rattle.disk_journal.specs.declared.fault.OpenFault.{OpenFault}
-use Rattle.disk_journal.specs.Journal.{GivesUp, refusal}
+use Rattle.disk_journal.specs.Journal.{refusal}
 use Rattle.disk_journal.proofs.Young.{young_opens}
 use Rattle.disk_journal.proofs.journal.Journal.open.Goals as goal
 
