@@ -1,0 +1,4 @@
+pub mod Bodies
+pub mod Frames
+pub mod Routes
+pub mod Sizes
