@@ -18,10 +18,20 @@ const BAD_WORDS: u8 = 2;
 /// The status for want of memory.
 const NO_MEMORY: u8 = 7;
 
+// The status where the program's own words can't be read: one isn't UTF-8, or there is no memory for them.
+fn status_of(fault: &io::Error) -> u8 {
+    if fault.kind() == io::ErrorKind::OutOfMemory {
+        NO_MEMORY
+    } else {
+        BAD_WORDS
+    }
+}
+
 fn main(rt: HostRuntime) -> ExitCode {
     let alloc = rt.alloc();
-    let Ok(args) = env::args(&rt) else {
-        return ExitCode::from(BAD_WORDS);
+    let args = match env::args(&rt) {
+        Ok(args) => args,
+        Err(fault) => return ExitCode::from(status_of(&fault)),
     };
     let mut words = Vec::new(alloc);
     for word in args.skip(1) {

@@ -1,5 +1,5 @@
 -- What starts, turns and commands answer, from the state of the node.
-use Rattle.std.proofs.Common.{◌≡◌, ℕ, ◌≤◌, List, [], ◌∷◌, ◌++◌, Some, None, Ok, Err, false, length, refl, sym, subst, arith, option_map}
+use Rattle.std.proofs.Common.{◌≡◌, ℕ, ◌≤◌, List, [], ◌∷◌, Some, None, Ok, Err, false, length, refl, sym, subst, arith}
 use Rattle.std.specs.Bool.{◌==◌}
 use Rattle.std.proofs.lemmas.Bool.{eq-eqb}
 use Rattle.net_base.specs.declared.causes.Cause.{Cause}

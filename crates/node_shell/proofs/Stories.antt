@@ -1,5 +1,5 @@
 -- How a run goes on by one byte, and how it ends.
-use Rattle.std.proofs.Common.{Result, Ok, Err, OnOk, ◌≡◌, ◌≢◌, ℕ, ◌+◌, ◌<◌, ◌≤◌, List, [], ◌∷◌, ◌++◌, length, take, None, Some, Option, refl, sym, ap, subst, ◌∙◌, ◌⊎◌, inl, inr, append-nil, length-append, arith}
+use Rattle.std.proofs.Common.{Result, Ok, Err, OnOk, ◌≡◌, ◌≢◌, ℕ, ◌+◌, ◌<◌, ◌≤◌, List, [], ◌∷◌, ◌++◌, length, Option, refl, sym, ap, subst, ◌∙◌, inl, inr, append-nil, length-append, arith}
 use Rattle.std.proofs.lemmas.List.{take_all}
 use Rattle.std.specs.Io.KnownBytes.{Appends, Consumes, Keeps, IsAtEnd}
 use Rattle.outside.proofs.Pieces.{Appends-nil, Appends-trans, Consumes-nil, Consumes-trans, Consumes-kept}
@@ -10,8 +10,8 @@ use Rattle.node_shell.specs.declared.session.Stop.{Stop}
 use Rattle.node_shell.specs.declared.session.Stop.TheVariants as stop
 use Rattle.node_shell.specs.Worlds.{World, opening}
 use Rattle.node_shell.specs.Script.{AreLines, without_cr, whole_lines, last_line}
-use Rattle.node_shell.specs.Serve.{Link, RunsShort}
-use Rattle.node_shell.specs.Story.{begins, goes_on, Answered, CutOff, LeftOff, all_lines, Progress, EndsWith, ScriptRun, StopsAs, status_of}
+use Rattle.node_shell.specs.Serve.{Link}
+use Rattle.node_shell.specs.Story.{begins, goes_on, Answered, all_lines, Progress, EndsWith, ScriptRun, StopsAs, status_of}
 use Rattle.node_shell.proofs.Splitting.{lines_none, lines_byte, lines_end, whole_more, last_one, take_known}
 
 module _ {F : Type 0} {w : Environment F} where

@@ -1,5 +1,5 @@
 -- What a node keeps over one more cause.
-use Rattle.std.proofs.Common.{◌≡◌, ℕ, zero, suc, ◌+◌, ◌<◌, ◌≤◌, ◌^◌, List, [], ◌∷◌, ◌++◌, Option, Some, None, Ok, length, slice_get, slice_set, drop, refl, sym, ap, subst, ◌∙◌, arith, IfSome, length-append, option_and_then}
+use Rattle.std.proofs.Common.{◌≡◌, ℕ, zero, suc, ◌+◌, ◌<◌, ◌≤◌, List, [], ◌∷◌, ◌++◌, Some, None, Ok, length, slice_get, slice_set, drop, refl, sym, ap, subst, ◌∙◌, arith, IfSome, length-append}
 use Rattle.std.specs.List.{AllByRecursion}
 use Rattle.std.proofs.lemmas.Bool.{eq-eqb}
 use Rattle.std.proofs.lemmas.List.{length-set}
@@ -11,16 +11,15 @@ use Rattle.flow_machine.specs.declared.flows.FlowState.{FlowState}
 use Rattle.net_model.specs.Environment.{Environment}
 use Rattle.net_model.specs.State.{NodeState, Effect, apply_effect, flows_on}
 use Rattle.net_model.specs.Steps.{place, live, effect_of, next_cause}
-use Rattle.net_model.specs.Enabled.{event_of, first_event, effect_on, part_of}
+use Rattle.net_model.specs.Enabled.{event_of, first_event, part_of}
 use Rattle.net_model.specs.Sound.{IsNumbered, AreNumbered, steps_of}
-use Rattle.net_model.specs.Runs.{network_of}
 use Rattle.net_model.proofs.Steps.{steps_on}
 use Rattle.net_model.proofs.Runs.{network_push}
 use Rattle.net_model.proofs.Enabled.{effect_at}
 use Rattle.net_model.proofs.Numbers.{numbered_push, numbered_set, set_on, push_on}
 use Rattle.node_shell.specs.declared.ready.Ready.{Ready}
 use Rattle.node_shell.specs.Worlds.{alone, node_at, IsBy, IsStateAfter}
-use Rattle.node_shell.specs.Turns.{begun, start_cause, IsBegun, GoesOn, IsFirst}
+use Rattle.node_shell.specs.Turns.{begun, start_cause, IsBegun, IsFirst}
 
 -- ---- bounds on steps
 

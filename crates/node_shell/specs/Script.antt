@@ -1,5 +1,5 @@
 -- The script: its lines, their words, and what the words ask for.
-use Rattle.std.specs.Prelude.{◌≡◌, ◌≢◌, ℕ, ◌-◌, List, [], ◌∷◌, ◌++◌, Bool, true, false, All, nat_lt, nat_le, ◌==◌, ◌&&◌, ◌||◌, not, if◌then◌else◌, length, codes, take, slice_index, map}
+use Rattle.std.specs.Prelude.{◌≡◌, ◌≢◌, ℕ, ◌-◌, List, [], ◌∷◌, ◌++◌, Bool, false, All, nat_lt, nat_le, ◌==◌, ◌&&◌, ◌||◌, not, if◌then◌else◌, length, codes, take, slice_index, map}
 use Rattle.std.specs.List.{list_all, flat_map}
 use Rattle.std.specs.Str.{bytes_eq}
 use Rattle.node_shell.specs.declared.commands.Command.{Command}

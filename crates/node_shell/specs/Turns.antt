@@ -11,7 +11,7 @@ use Rattle.flow_machine.specs.declared.flows.Checkpoint.{Checkpoint}
 use Rattle.flow_machine.specs.declared.flows.FlowState.{FlowState}
 use Rattle.flow_machine.specs.declared.flows.FlowState.TheVariants.{Live}
 use Rattle.net_model.specs.Environment.{Environment}
-use Rattle.net_model.specs.State.{NodeState, Effect}
+use Rattle.net_model.specs.State.{NodeState}
 use Rattle.net_model.specs.Steps.{place, next_cause}
 use Rattle.net_model.specs.Enabled.{event_of, first_event, effect_on, part_of}
 use Rattle.net_model.specs.Sound.{IsNumbered, steps_of}

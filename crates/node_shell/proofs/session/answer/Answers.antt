@@ -1,4 +1,4 @@
-use Rattle.std.proofs.Common.{inr, refl, sym, ◌∙◌}
+use Rattle.std.proofs.Common.{inr, refl}
 use Rattle.node_shell.specs.Serve.{reply_text}
 use Rattle.node_shell.proofs.session.answer.Goals as goal
 
