@@ -1,0 +1,15 @@
+pub mod Reading
+pub mod Forms
+pub mod Parts
+pub mod Laws
+pub mod Combining
+pub mod Fields
+pub mod Kinds
+pub mod Runs
+pub mod Framing
+pub mod Tested
+pub mod Values
+pub mod Numbers
+pub mod Order
+pub mod Names
+pub mod Parties

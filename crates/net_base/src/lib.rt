@@ -1,0 +1,38 @@
+//! The words that every crate uses: parties, moments, digests, lists, causes, and how values are
+//! spelt in bytes.
+#![tactic(auto)]
+
+mod ascending;
+mod block;
+mod bytes16;
+mod causes;
+mod fields;
+mod list;
+mod names;
+mod numbers;
+mod part;
+mod parties;
+mod reader;
+mod records;
+mod tested;
+mod values;
+mod writer;
+
+pub use ascending::{ByParty, read_ascending};
+pub use block::{Block, Component, write_component};
+pub use bytes16::{read_bytes16, write_bytes16};
+pub use causes::{Cause, CauseList, Event, NodeCauseList};
+pub use list::{ByteList, ListOf};
+pub use names::{Identity, Key, StateRef, Tag, Token};
+pub use numbers::number;
+pub use part::{
+    DecodeFault, PartFault, Spelt, decode, decode_whole, encode, one_spelling, read_below,
+    read_between, read_hash, read_kind, read_list, read_option, read_u8, read_u16, read_u32,
+    read_u64, write_list, write_option,
+};
+pub use parties::PartySet;
+pub use reader::{Extra, Reader, Short};
+pub use records::{FrameList, RecordList, WaitingList};
+pub use tested::{read_below_except, read_positive, read_stamp};
+pub use values::{Hash32, Moment, Party};
+pub use writer::Writer;

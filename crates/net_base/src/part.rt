@@ -1,0 +1,293 @@
+//! Reading and writing the parts of a value.
+
+ghost use Rattle.std.specs.Prelude.{◌≡◌, ◌++◌, ◌<◌, ◌≤◌, ◌∷◌, [], ℕ, List, Result, IfSome, IfOk, length};
+ghost use Rattle.std.specs.List.{flat_map, AllByRecursion};
+ghost use Rattle.std.specs.Int.{w16, w32, w64, to_be_bytes};
+ghost use Rattle.net_base.specs.declared.part.PartFault.TheVariants.{Memory, Left};
+ghost use Rattle.net_base.specs.Forms.{byte_at, bytes_at, number_at, below_at, option_at, items_at, list8_at, option_of, list8, ListWithin};
+ghost use Rattle.net_base.specs.Reading.{Puts};
+ghost use Rattle.net_base.specs.Parts.{Gives, Writes, Decodes, DecodesWhole};
+ghost use Rattle.net_base.specs.Laws.{Laws};
+ghost use Rattle.net_base.specs.Kinds.{kind_at, between_at};
+
+use crate::list::ListOf;
+use crate::reader::{Reader, Short};
+use crate::values::Hash32;
+use crate::writer::Writer;
+use std::alloc::{AllocError, AllocFailed, Global};
+
+/// Why a part could not be read.
+#[derive(Clone, Copy, Debug, PartialEq, Eq)]
+pub enum PartFault {
+    Memory,
+    /// No spelling goes on at the place with so many bytes left.
+    Left(usize),
+}
+
+/// Why a value could not be read.
+#[derive(Clone, Copy, Debug, PartialEq, Eq)]
+pub enum DecodeFault {
+    /// No spelling begins at the place.
+    Malformed { at: usize },
+    Memory,
+}
+
+impl From<AllocError> for PartFault {
+    ghost from_gives = { λ _ e. e ≡ Memory };
+
+    fn from(_e: AllocError) -> PartFault {
+        PartFault::Memory
+    }
+}
+
+impl<T: Drop> From<AllocFailed<T>> for PartFault {
+    ghost from_gives = { λ _ e. e ≡ Memory };
+
+    fn from(_e: AllocFailed<T>) -> PartFault {
+        PartFault::Memory
+    }
+}
+
+impl From<Short> for PartFault {
+    ghost from_gives = { λ _ e. e ≡ Left 0 };
+
+    fn from(_e: Short) -> PartFault {
+        PartFault::Left(0)
+    }
+}
+
+pub fn read_u8(from: &mut Reader) -> Result<u8, PartFault>
+    ensures { Gives (λ x. x) result from.old from.new (byte_at from.old.left) }
+{
+    Ok(from.u8()?)
+}
+
+#[tactic(auto, unfolding(crate::specs::Forms::number_at))]
+pub fn read_u16(from: &mut Reader) -> Result<u16, PartFault>
+    ensures { Gives (λ x. x) result from.old from.new (number_at w16 from.old.left) }
+{
+    Ok(from.u16()?)
+}
+
+#[tactic(auto, unfolding(crate::specs::Forms::number_at))]
+pub fn read_u32(from: &mut Reader) -> Result<u32, PartFault>
+    ensures { Gives (λ x. x) result from.old from.new (number_at w32 from.old.left) }
+{
+    Ok(from.u32()?)
+}
+
+#[tactic(auto, unfolding(crate::specs::Forms::number_at))]
+pub fn read_u64(from: &mut Reader) -> Result<u64, PartFault>
+    ensures { Gives (λ x. x) result from.old from.new (number_at w64 from.old.left) }
+{
+    Ok(from.u64()?)
+}
+
+/// A byte below a limit.
+#[tactic(auto, unfolding(crate::specs::Forms::below_at))]
+pub fn read_below(from: &mut Reader, limit: u8) -> Result<u8, PartFault>
+    ensures given { Gives (λ x. x) result from.old from.new (below_at limit from.old.left) }
+    ensures below { IfOk result (λ v. v < limit) }
+{
+    let left = from.remaining();
+    let b = read_u8(from)?;
+    if b < limit {
+        Ok(b)
+    } else {
+        Err(PartFault::Left(left))
+    }
+}
+
+#[tactic(auto, unfolding(crate::specs::Forms::bytes_at))]
+pub fn read_hash(from: &mut Reader) -> Result<Hash32, PartFault>
+    ensures { Gives (λ x. x.0) result from.old from.new (bytes_at 32 from.old.left) }
+{
+    Ok(from.hash()?)
+}
+
+/// A type whose values have one spelling, within limits.
+pub trait Spelt: Sized + Drop {
+    ghost use Rattle.std.specs.Prelude.{◌≡◌, ℕ, List, Result};
+    ghost use Rattle.net_base.specs.Laws.{Laws};
+
+    ghost spelling: { Self → List ℕ };
+
+    ghost within: { Self → Type 0 };
+
+    /// Reading from the left, on lists.
+    ghost reading: { List ℕ → Result (Self × List ℕ) ℕ };
+
+    /// Reads a value, or tells how many bytes are left where no spelling goes on.
+    fn read_part(alloc: Global, from: &mut Reader) -> Result<Self, PartFault>
+        ensures { Gives (λ x. x) result from.old from.new (reading from.old.left) };
+
+    /// Writes the value's spelling.
+    fn write_part(&self, alloc: Global, out: &mut Writer) -> Result<(), AllocError>
+        requires { within self.now }
+        ensures { Writes (spelling self.now) result out.old out.new };
+
+    ghost laws: { Laws within spelling reading };
+}
+
+#[tactic(auto, unfolding(crate::specs::Forms::option_at))]
+pub fn read_option<T: Spelt>(alloc: Global, from: &mut Reader) -> Result<Option<T>, PartFault>
+    ensures { Gives (λ x. x) result from.old from.new (option_at T.reading from.old.left) }
+{
+    let flag = read_below(from, 2)?;
+    if flag == 0 {
+        Ok(None)
+    } else {
+        Ok(Some(T::read_part(alloc, from)?))
+    }
+}
+
+pub fn write_option<T: Spelt>(
+    alloc: Global,
+    value: &Option<T>,
+    out: &mut Writer,
+) -> Result<(), AllocError>
+    requires { IfSome value.now T.within }
+    ensures { Writes (option_of T.spelling value.now) result out.old out.new }
+{
+    match value {
+        None => out.put_u8(alloc, 0),
+        Some(v) => {
+            out.put_u8(alloc, 1)?;
+            v.write_part(alloc, out)
+        }
+    }
+}
+
+fn read_items<T: Spelt>(alloc: Global, from: &mut Reader, count: u8) -> Result<Vec<T>, PartFault>
+    ensures given { Gives (λ x. x.items) result from.old from.new (items_at T.reading count from.old.left) }
+    ensures few { IfOk result (λ x. length x.items ≤ count) }
+{
+    let mut items = Vec::with_capacity(alloc, count as usize)?;
+    for _ in 0..count {
+        items.push(T::read_part(alloc, from)?)?;
+    }
+    Ok(items)
+}
+
+#[tactic(auto, unfolding(crate::specs::Forms::list8_at))]
+pub fn read_list<T: Spelt>(
+    alloc: Global,
+    from: &mut Reader,
+    limit: u8,
+) -> Result<ListOf<T>, PartFault>
+    requires { limit < 255 }
+    ensures given { Gives (λ x. x) result from.old from.new (list8_at limit T.reading from.old.left) }
+    ensures few { IfOk result (λ l. length l ≤ limit) }
+{
+    let count = read_below(from, limit + 1)?;
+    Ok(ListOf::from_vec(read_items(alloc, from, count)?))
+}
+
+fn write_items<T: Spelt>(alloc: Global, items: &[T], out: &mut Writer) -> Result<(), AllocError>
+    requires { AllByRecursion T.within items.now }
+    ensures { Writes (flat_map T.spelling items.now) result out.old out.new }
+{
+    for item in items {
+        item.write_part(alloc, out)?;
+    }
+    Ok(())
+}
+
+pub fn write_list<T: Spelt>(
+    alloc: Global,
+    list: &ListOf<T>,
+    out: &mut Writer,
+) -> Result<(), AllocError>
+    requires few { length list.now ≤ 255 }
+    requires within { AllByRecursion T.within list.now }
+    ensures { Writes (list8 T.spelling list.now) result out.old out.new }
+{
+    out.put_u8(alloc, list.len() as u8)?;
+    write_items(alloc, list.as_slice(), out)
+}
+
+/// The value whose spelling begins at the reader's place.
+pub fn decode<'a, T: Spelt>(alloc: Global, from: &mut Reader<'a>) -> Result<T, DecodeFault>
+    ensures { Decodes T.within T.spelling result from.old from.new }
+{
+    let at = from.place();
+    let mut trial = from.again();
+    match T::read_part(alloc, &mut trial) {
+        Ok(value) => {
+            *from = trial;
+            Ok(value)
+        }
+        Err(PartFault::Memory) => Err(DecodeFault::Memory),
+        Err(PartFault::Left(_)) => Err(DecodeFault::Malformed { at }),
+    }
+}
+
+/// Writes the value's spelling.
+pub fn encode<T: Spelt>(alloc: Global, value: &T, out: &mut Writer) -> Result<(), AllocError>
+    requires { T.within value.now }
+    ensures { Puts (T.spelling value.now) result out.old out.new }
+{
+    let length = out.len();
+    match value.write_part(alloc, out) {
+        Ok(()) => Ok(()),
+        Err(e) => {
+            out.truncate(length);
+            Err(e)
+        }
+    }
+}
+
+/// A byte that is one of the kinds.
+#[tactic(auto, unfolding(crate::specs::Kinds::kind_at))]
+pub fn read_kind(from: &mut Reader, kinds: &[u8]) -> Result<u8, PartFault>
+    ensures { Gives (λ x. x) result from.old from.new (kind_at kinds.now from.old.left) }
+{
+    let left = from.remaining();
+    let kind = read_u8(from)?;
+    if kinds.contains(&kind) {
+        Ok(kind)
+    } else {
+        Err(PartFault::Left(left))
+    }
+}
+
+/// A byte from `low` up to below `high`.
+#[tactic(auto, unfolding(crate::specs::Kinds::between_at))]
+pub fn read_between(from: &mut Reader, low: u8, high: u8) -> Result<u8, PartFault>
+    ensures given { Gives (λ x. x) result from.old from.new (between_at low high from.old.left) }
+    ensures range { IfOk result (λ v. (low ≤ v) × (v < high)) }
+{
+    let left = from.remaining();
+    let b = read_u8(from)?;
+    if low <= b && b < high {
+        Ok(b)
+    } else {
+        Err(PartFault::Left(left))
+    }
+}
+
+/// The value whose spelling all of the bytes are.
+pub fn decode_whole<T: Spelt>(alloc: Global, bytes: &[u8]) -> Result<T, DecodeFault>
+    ensures { DecodesWhole T.within T.spelling result bytes.now }
+{
+    let mut from = Reader::new(bytes);
+    match T::read_part(alloc, &mut from) {
+        Ok(value) => {
+            if from.remaining() > 0 {
+                return Err(DecodeFault::Malformed { at: from.place() });
+            }
+            Ok(value)
+        }
+        Err(fault) => match fault {
+            PartFault::Memory => Err(DecodeFault::Memory),
+            PartFault::Left(left) => Err(DecodeFault::Malformed {
+                at: bytes.len() - left,
+            }),
+        },
+    }
+}
+
+/// No spelling begins another of the same type, and each value has one.
+pub fn one_spelling<T: Spelt>()
+    ensures { (v w : T) (x y : List ℕ) → T.within v → T.within w → T.spelling v ++ x ≡ T.spelling w ++ y → (v ≡ w) × (x ≡ y) }
+{}

@@ -1,0 +1,92 @@
+//! Sets of parties.
+
+ghost use Rattle.std.specs.Prelude.{◌≡◌, ◌++◌, ◌+◌, ◌≤◌, ◌<◌, List, ℕ, length};
+ghost use Rattle.net_base.specs.Parts.{Gives};
+ghost use Rattle.net_base.specs.Kinds.{between_at};
+ghost use Rattle.net_base.specs.Runs.{ascending_at};
+ghost use Rattle.net_base.specs.Combining.{mapped_at};
+ghost use Rattle.net_base.specs.Parties.{members_from, bits_of, members, party_set, IsPartySet, party_set_at, party_set_laws};
+
+use crate::block::{Block, Component, write_component};
+use crate::part::{PartFault, Spelt, read_below, read_between};
+use crate::reader::Reader;
+use crate::writer::Writer;
+use std::alloc::{AllocError, Global};
+
+/// A set of parties; bit `p` stands for party `p`.
+#[derive(Clone, Copy, Debug, PartialEq, Eq, PartialOrd, Ord, Hash)]
+pub struct PartySet(pub u16);
+
+fn count_members(bits: u16) -> u8
+    ensures { result ≡ length (members_from 0 16 bits) }
+{
+    let mut rest = bits;
+    let mut count = 0;
+    for _ in 0..16u8 {
+        count += (rest % 2) as u8;
+        rest /= 2;
+    }
+    count
+}
+
+fn put_members(bits: u16, block: &mut Block)
+    requires { length block.old + 16 ≤ 64 }
+    ensures text { block.new ≡ block.old ++ members_from 0 16 bits }
+    ensures size { length block.new ≤ length block.old + 16 }
+{
+    let mut rest = bits;
+    for party in 0..16u8 {
+        if rest % 2 == 1 {
+            block.put_u8(party);
+        }
+        rest /= 2;
+    }
+}
+
+#[tactic(auto, unfolding(crate::specs::Parties::party_set, crate::specs::Parties::members))]
+impl Component for PartySet {
+    ghost text = { party_set };
+
+    ghost limits = { IsPartySet };
+
+    ghost size = { 17 };
+
+    fn put(&self, block: &mut Block) {
+        block.put_u8(count_members(self.0));
+        put_members(self.0, block);
+    }
+}
+
+fn read_members(from: &mut Reader, count: u8) -> Result<u16, PartFault>
+    requires { count ≤ 16 }
+    ensures { Gives (λ x. x) result from.old from.new (mapped_at bits_of (ascending_at (λ p. p) 16 between_at count) from.old.left) }
+{
+    let mut bits: u16 = 0;
+    let mut low: u8 = 0;
+    for i in 0..count {
+        let party = read_between(from, low, 16 - (count - (i + 1)))?;
+        bits += 2u16.pow(party as u32);
+        low = party + 1;
+    }
+    Ok(bits)
+}
+
+#[tactic(auto, unfolding(crate::specs::Parties::party_set_at, crate::specs::Runs::ascending8_at))]
+impl Spelt for PartySet {
+    ghost spelling = { party_set };
+
+    ghost within = { IsPartySet };
+
+    ghost reading = { party_set_at };
+
+    ghost laws = { party_set_laws };
+
+    fn read_part(_alloc: Global, from: &mut Reader) -> Result<PartySet, PartFault> {
+        let count = read_below(from, 17)?;
+        Ok(PartySet(read_members(from, count)?))
+    }
+
+    fn write_part(&self, alloc: Global, out: &mut Writer) -> Result<(), AllocError> {
+        write_component(alloc, self, out)
+    }
+}

@@ -1,0 +1,132 @@
+//! Reading from the left.
+
+ghost use Rattle.std.specs.Prelude.{◌≡◌, ◌+◌, ◌^◌, ℕ, List, [], ◌<◌, take, length, slice_index, MatchResult};
+ghost use Rattle.std.specs.Int.{w16, w32, w64, from_be_bytes};
+ghost use Rattle.net_base.specs.Reading.{Reading, Took, IsShort, IsBytes};
+
+use crate::values::Hash32;
+use std::marker::Model;
+
+/// Too few bytes are left.
+#[derive(Clone, Copy, Debug, PartialEq, Eq)]
+pub struct Short {
+    pub at: usize,
+}
+
+/// Bytes are left.
+#[derive(Clone, Copy, Debug, PartialEq, Eq)]
+pub struct Extra {
+    pub at: usize,
+}
+
+/// Bytes, and how many of them were read.
+#[derive(Clone, Drop)]
+pub struct Reader<'a> {
+    bytes: &'a [u8],
+    place: usize,
+}
+
+impl<'a> Model for Reader<'a> {
+    ghost use Rattle.std.specs.Prelude.{ℕ, ◌≤◌, length, drop};
+    ghost use Rattle.net_base.specs.Reading.{Reading, IsBytes};
+
+    ghost Value = { Reading };
+
+    ghost view = { λ r. record { left = drop r.place r.bytes.now; place = r.place } };
+
+    ghost invariant = { λ r. (r.place ≤ length r.bytes.now) × IsBytes r.bytes.now };
+}
+
+impl<'a> Reader<'a> {
+    pub fn new(bytes: &'a [u8]) -> Reader<'a>
+        ensures { result ≡ record { left = bytes.now; place = 0 } }
+    {
+        Reader { bytes, place: 0 }
+    }
+
+    /// The next bytes.
+    pub fn bytes(&mut self, n: usize) -> Result<&'a [u8], Short>
+        ensures { MatchResult result (λ v. Took n self.old self.new × (v.now ≡ take n self.old.left)) (λ e. IsShort n e.at self.old self.new) }
+    {
+        if self.bytes.len() - self.place < n {
+            return Err(Short { at: self.place });
+        }
+        let start = self.place;
+        let taken = &self.bytes[start..start + n];
+        self.place = start + n;
+        Ok(taken)
+    }
+
+    pub fn u8(&mut self) -> Result<u8, Short>
+        ensures { MatchResult result (λ v. Took 1 self.old self.new × (v ≡ slice_index (take 1 self.old.left) 0)) (λ e. IsShort 1 e.at self.old self.new) }
+    {
+        let taken = self.bytes(1)?;
+        Ok(taken[0])
+    }
+
+    pub fn u16(&mut self) -> Result<u16, Short>
+        ensures { MatchResult result (λ v. Took 2 self.old self.new × (v ≡ from_be_bytes w16 (take 2 self.old.left))) (λ e. IsShort 2 e.at self.old self.new) }
+    {
+        let b = self.bytes(2)?;
+        Ok(u16::from_be_bytes([b[0], b[1]]))
+    }
+
+    pub fn u32(&mut self) -> Result<u32, Short>
+        ensures { MatchResult result (λ v. Took 4 self.old self.new × (v ≡ from_be_bytes w32 (take 4 self.old.left))) (λ e. IsShort 4 e.at self.old self.new) }
+    {
+        let b = self.bytes(4)?;
+        Ok(u32::from_be_bytes([b[0], b[1], b[2], b[3]]))
+    }
+
+    pub fn u64(&mut self) -> Result<u64, Short>
+        ensures { MatchResult result (λ v. Took 8 self.old self.new × (v ≡ from_be_bytes w64 (take 8 self.old.left))) (λ e. IsShort 8 e.at self.old self.new) }
+    {
+        let b = self.bytes(8)?;
+        Ok(u64::from_be_bytes([b[0], b[1], b[2], b[3], b[4], b[5], b[6], b[7]]))
+    }
+
+    pub fn hash(&mut self) -> Result<Hash32, Short>
+        ensures { MatchResult result (λ v. Took 32 self.old self.new × (v.0 ≡ take 32 self.old.left)) (λ e. IsShort 32 e.at self.old self.new) }
+    {
+        let b = self.bytes(32)?;
+        let mut copy = [0; 32];
+        copy.copy_from_slice(b);
+        Ok(Hash32(copy))
+    }
+
+    /// How many bytes were read.
+    pub fn place(&self) -> usize
+        ensures place { result ≡ self.now.place }
+        ensures bytes { IsBytes self.now.left }
+    {
+        let _ = &self.bytes;
+        self.place
+    }
+
+    /// A second reader at the same place.
+    pub fn again(&self) -> Reader<'a>
+        ensures { result ≡ self.now }
+    {
+        Reader {
+            bytes: self.bytes,
+            place: self.place,
+        }
+    }
+
+    /// How many bytes are left.
+    pub fn remaining(&self) -> usize
+        ensures count { result ≡ length self.now.left }
+        ensures small { result < 2 ^ 63 }
+    {
+        self.bytes.len() - self.place
+    }
+
+    pub fn finish(&self) -> Result<(), Extra>
+        ensures { MatchResult result (λ _. self.now.left ≡ []) (λ e. (0 < length self.now.left) × (e.at ≡ self.now.place)) }
+    {
+        if self.place < self.bytes.len() {
+            return Err(Extra { at: self.place });
+        }
+        Ok(())
+    }
+}
