@@ -1,0 +1,10 @@
+pub mod Ids
+pub mod Txs
+pub mod Names
+pub mod Rules
+pub mod Verdicts
+pub mod Signatures
+pub mod Tears
+pub mod Windows
+pub mod Notary
+pub mod Vaults

@@ -1,0 +1,6 @@
+-- STAND-IN: reading a window.
+use Rattle.std.specs.Prelude.{ℕ, List, Result, Err}
+use Rattle.ledger_types.specs.declared.tx.Window.{Window}
+
+unfoldable pub window_at : List ℕ → Result (Window × List ℕ) ℕ
+window_at bytes = Err 0
