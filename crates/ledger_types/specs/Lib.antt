@@ -8,3 +8,4 @@ pub mod Tears
 pub mod Windows
 pub mod Notary
 pub mod Vaults
+pub mod Stores
