@@ -4,3 +4,4 @@ pub mod Stamps
 pub mod Whole
 mod NumberLemmas
 mod Sets
+mod Members

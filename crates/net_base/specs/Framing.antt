@@ -1,14 +1,15 @@
 -- Parts that depend on those before, and bytes behind their length.
 use Rattle.std.proofs.Common.{◌≡◌, ◌≢◌, ◌⊎◌, inl, inr, ◌+◌, ◌-◌, ◌*◌, ◌/◌, ◌%◌, ◌<◌, ◌≤◌, ◌^◌, ℕ, zero, suc, Bool, true, false, cond, List, [], ◌∷◌, ◌++◌, length, take, drop, Result, Ok, Err, refl, sym, ap, subst, ◌∙◌, append_assoc, arith}
 use Rattle.std.specs.Prelude.{nat_eq}
+use Rattle.std.specs.List.{flat_map, AllByRecursion}
 use Rattle.std.specs.Int.{w16, w32, w64, to_be_bytes}
 use Rattle.std.proofs.lemmas.Bool.{eqb-true, eqb-false, cases_lt}
 use Rattle.net_base.specs.Reading.{IsBytes, number}
-use Rattle.net_base.specs.Forms.{◌>>=◌, byte_at, bytes_at, below_at, number_at, bytes16}
+use Rattle.net_base.specs.Forms.{◌>>=◌, byte_at, bytes_at, below_at, number_at, bytes16, list8, items_at}
 use Rattle.net_base.specs.Laws.{IsFault, Laws, done, stopped, ok_is, err_is, ok_not_err, bind_ok, bind_err}
 use Rattle.net_base.specs.Combining.{Joins, bind_laws, mapped_at, mapped_laws, pair_at, pair_laws, restated_laws}
-use Rattle.net_base.specs.Fields.{below_laws, byte_laws, bytes_laws}
-use Rattle.net_base.specs.Kinds.{cond_laws}
+use Rattle.net_base.specs.Fields.{below_laws, byte_laws, bytes_laws, items_laws}
+use Rattle.net_base.specs.Kinds.{IsBetween, between_at, between_laws, cond_laws}
 
 -- ---- two parts, the second by the first
 
@@ -74,4 +75,26 @@ bytes16_laws limit small =
     (record {
       join = λ n b hn hb. (omega (arith, hn, hb), ap (λ (k : ℕ). number w16 k ++ b) hb);
       split = λ b h. (length b, (h, refl));
+    })
+
+-- ---- a byte of count from least to limit, and the items
+
+-- from least to limit items, each within its limits
+abbrev pub ListBetween : {V : Type 0} → ℕ → ℕ → (V → Type 0) → List V → Type 0
+ListBetween least limit within vs = IsBetween least (limit + 1) (length vs) × AllByRecursion within vs
+
+-- reading such a list
+unfoldable pub list8_between_at : {V : Type 0} → ℕ → ℕ → (List ℕ → Result (V × List ℕ) ℕ) → List ℕ → Result (List V × List ℕ) ℕ
+list8_between_at least limit read bytes = between_at least (limit + 1) bytes >>= λ n. items_at read n.0 n.1
+
+-- the laws of such lists
+pub list8_between_laws : {V : Type 0} {within : V → Type 0} {spelling : V → List ℕ} {reading : List ℕ → Result (V × List ℕ) ℕ} (least limit : ℕ) → least ≤ limit
+    → Laws within spelling reading → Laws (λ (vs : List V). ListBetween least limit within vs) (λ (vs : List V). list8 spelling vs) (list8_between_at least limit reading)
+unfolding list8_between_at
+list8_between_laws {V} {within} {spelling} {reading} least limit le one =
+    bind_laws {second = λ n (vs : List V). (length vs ≡ n) × AllByRecursion within vs} {second_spelling = λ n (vs : List V). flat_map spelling vs} {second_reading = λ n bytes. items_at reading n bytes} (between_laws least (limit + 1) (omega arith))
+    (λ n h. items_laws one n)
+    (record {
+      join = λ n vs hn h. ((subst (λ (k : ℕ). IsBetween least (limit + 1) k) (sym h.0) hn, h.1), ap (λ (k : ℕ). k ∷ flat_map spelling vs) h.0);
+      split = λ vs h. (length vs, (h.0, (refl, h.1)));
     })

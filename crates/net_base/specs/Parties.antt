@@ -1,44 +1,70 @@
 -- Sets of parties as the bits of a number, and their spelling.
 use Rattle.std.proofs.Common.{◌≡◌, ◌⊎◌, inl, inr, ◌<◌, ◌≤◌, ◌+◌, ◌-◌, ◌*◌, ◌/◌, ◌%◌, ◌^◌, ℕ, zero, suc, Bool, true, false, cond, List, [], ◌∷◌, ◌++◌, length, Result, refl, ap, sym, subst, ◌∙◌, ◌≢◌, append_assoc, arith}
-use Rattle.std.specs.Prelude.{◌==◌}
-use Rattle.std.specs.List.{flat_map, AllByRecursion}
+use Rattle.std.specs.Prelude.{◌==◌, filter}
+use Rattle.std.specs.List.{flat_map, AllByRecursion, range_with_len}
 use Rattle.std.proofs.lemmas.List.Concat.{flat_map-cons}
 use Rattle.std.proofs.lemmas.Nat.{pow_pos}
 use Rattle.std.proofs.lemmas.Bool.{cases_lt}
 use Rattle.std.proofs.lemmas.List.{length-append}
-use Rattle.std.proofs.Math.Pow.{pow_mono}
+use Rattle.std.proofs.Math.Nat.{div-div-eq-div-mul, pow-suc}
 use Rattle.net_base.specs.Laws.{Laws}
 use Rattle.net_base.specs.Combining.{mapped_at, mapped_laws, restated_laws}
 use Rattle.net_base.specs.Kinds.{IsBetween, between_at, between_laws}
 use Rattle.net_base.specs.Runs.{Ascends, AscendingWithin, ascending8_at, ascending8_laws}
 use Rattle.net_base.specs.declared.parties.PartySet.{PartySet}
 
--- the parties i, i + 1, .. of n bits, the lowest bit standing for i
-unfoldable pub members_from : ℕ → ℕ → ℕ → List ℕ
-members_from i zero bits = []
-members_from i (suc n) bits = cond (bits % 2 == 1) (i ∷ members_from (suc i) n (bits / 2)) (members_from (suc i) n (bits / 2))
+-- whether a party is in a set: the party's bit is 1
+abbrev pub has_party : PartySet → ℕ → Bool
+has_party s p = s.0 / 2 ^ p % 2 == 1
 
 -- the parties in a set, ascending
 unfoldable pub members : PartySet → List ℕ
-members s = members_from 0 16 s.0
+members s = filter (λ p. has_party s p) (range_with_len 0 16)
+
+-- the limit of a set: each 16 bits are one
+abbrev pub IsPartySet : PartySet → Type 0
+IsPartySet s = s.0 < 2 ^ 16
+
+-- u8 count, parties strictly ascending
+unfoldable pub party_set : PartySet → List ℕ
+party_set s = length (members s) ∷ members s
+
+-- ---- reading a set
 
 -- the bits of these parties
 abbrev pub bits_of : List ℕ → ℕ
 bits_of [] = 0
 bits_of (p ∷ ps) = 2 ^ p + bits_of ps
 
--- u8 count, parties strictly ascending
-unfoldable pub party_set : PartySet → List ℕ
-party_set s = length (members s) ∷ members s
-
-abbrev pub IsPartySet : PartySet → Type 0
-IsPartySet s = s.0 < 2 ^ 16
-
+-- the set of these parties
 abbrev set_of : List ℕ → PartySet
 set_of ps = record { 0 = bits_of ps }
 
+-- reading a set of parties
 unfoldable pub party_set_at : List ℕ → Result (PartySet × List ℕ) ℕ
 party_set_at = mapped_at set_of (ascending8_at (λ p. p) 16 between_at)
+
+-- ---- the members bit by bit
+
+-- the parties i, i + 1, .. of n bits, the lowest bit standing for i
+unfoldable pub members_from : ℕ → ℕ → ℕ → List ℕ
+members_from i zero bits = []
+members_from i (suc n) bits = cond (bits % 2 == 1) (i ∷ members_from (suc i) n (bits / 2)) (members_from (suc i) n (bits / 2))
+
+-- the members from i on, by the bits from i on
+from_bits : (all i n bits : ℕ) → bits ≡ all / 2 ^ i → filter (λ p. all / 2 ^ p % 2 == 1) (range_with_len i n) ≡ members_from i n bits
+unfolding members_from
+from_bits all i zero bits e = refl
+from_bits all i (suc n) bits e =
+    let one : i + 1 ≡ suc i = omega arith in
+    let half : bits / 2 ≡ all / 2 ^ suc i = ap (λ (b : ℕ). b / 2) e ∙ div-div-eq-div-mul all (2 ^ i) 2 ∙ ap (λ (k : ℕ). all / k) (sym (pow-suc 2 i)) in
+    let rest : filter (λ p. all / 2 ^ p % 2 == 1) (range_with_len (i + 1) n) ≡ members_from (suc i) n (bits / 2) = rw one (from_bits all (suc i) n (bits / 2) half) in
+    rw (← e) (ap (λ (l : List ℕ). cond (bits % 2 == 1) (i ∷ l) l) rest)
+
+-- the members by halving
+pub members_is : (s : PartySet) → members s ≡ members_from 0 16 s.0
+unfolding members
+members_is s = from_bits s.0 0 16 s.0 (let one : s.0 / 2 ^ 0 ≡ s.0 = omega arith in sym one)
 
 -- ---- a number below 2 ^ n is the set of its bits
 
@@ -145,8 +171,9 @@ few_members i (suc n) bits =
       | false ↦ omega (arith, few_members (suc i) n (bits / 2))
     ]
 
+-- the laws of sets of parties
 pub party_set_laws : Laws IsPartySet party_set party_set_at
-unfolding members members_from party_set party_set_at
+unfolding party_set party_set_at
 party_set_laws =
     mapped_laws set_of
     (ascending8_laws {within = λ p. p < 16} {spelling = λ p. p ∷ []} (λ p. p) 16 (λ p h. h)
@@ -155,7 +182,7 @@ party_set_laws =
       keeps = λ ps h.
           let k = known 0 16 ps refl h.1.0 h.1.1 in
           let worth : bits_of ps ≡ k.0 = omega (arith, k.1.worth) in
-          let same : members_from 0 16 (bits_of ps) ≡ ps = ap (λ (b : ℕ). members_from 0 16 b) worth ∙ k.1.same in
+          let same : members (set_of ps) ≡ ps = members_is (set_of ps) ∙ ap (λ (b : ℕ). members_from 0 16 b) worth ∙ k.1.same in
           (omega (arith, worth, k.1.fits), ap (λ (l : List ℕ). length l ∷ l) same ∙ ap (λ (l : List ℕ). length ps ∷ l) (sym (singles ps)));
       from = λ s h.
           let m = made 0 16 s.0 h in

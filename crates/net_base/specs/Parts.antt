@@ -20,6 +20,12 @@ abbrev pub Gives : {X Y : Type 0} → (X → Y) → Result X PartFault → Readi
 Gives view (Ok x) old new read = (read ≡ Ok (view x, new.left)) × SameEnd old new
 Gives view (Err e) old new read = Fails e read
 
+-- memory isn't what was wanting
+abbrev pub TakesNoMemory : {X : Type 0} → Result X PartFault → Type 0
+TakesNoMemory (Err faults.Memory) = ⊥
+TakesNoMemory (Err (faults.Left n)) = Unit {0}
+TakesNoMemory (Ok x) = Unit {0}
+
 -- the bytes begin with those of old
 abbrev pub Grows : List ℕ → List ℕ → Type 0
 Grows old new = (more : List ℕ) × (new ≡ old ++ more)

@@ -6,7 +6,7 @@ ghost use Rattle.net_base.specs.Forms.{bytes16};
 ghost use Rattle.net_base.specs.Framing.{at_most_at, bytes16_at};
 
 use crate::list::{ByteList, ListOf};
-use crate::part::{PartFault, read_below, read_u8};
+use crate::part::{PartFault, read_u8, read_up_to};
 use crate::reader::Reader;
 use crate::writer::Writer;
 use std::alloc::{AllocError, Global};
@@ -14,13 +14,11 @@ use std::alloc::{AllocError, Global};
 /// A length of at most the limit.
 #[tactic(auto, unfolding(crate::specs::Framing::at_most_at))]
 fn read_at_most(from: &mut Reader, limit: u16) -> Result<u16, PartFault>
-    requires low { limit % 256 < 255 }
-    requires high { limit < 65280 }
-    ensures { Gives (λ x. x) result from.old from.new (at_most_at limit from.old.left) }
+    ensures given { Gives (λ x. x) result from.old from.new (at_most_at limit from.old.left) }
 {
-    let high = read_below(from, (limit / 256) as u8 + 1)?;
+    let high = read_up_to(from, (limit / 256) as u8)?;
     let low = if high as u16 == limit / 256 {
-        read_below(from, (limit % 256) as u8 + 1)?
+        read_up_to(from, (limit % 256) as u8)?
     } else {
         read_u8(from)?
     };
@@ -30,8 +28,6 @@ fn read_at_most(from: &mut Reader, limit: u16) -> Result<u16, PartFault>
 /// Bytes of a length of at most the limit.
 #[tactic(auto, unfolding(crate::specs::Framing::bytes16_at, crate::specs::Forms::bytes_at))]
 pub fn read_bytes16(alloc: Global, from: &mut Reader, limit: u16) -> Result<ByteList, PartFault>
-    requires low { limit % 256 < 255 }
-    requires high { limit < 65280 }
     ensures { Gives (λ x. x) result from.old from.new (bytes16_at limit from.old.left) }
 {
     let count = read_at_most(from, limit)?;

@@ -7,6 +7,7 @@ mod block;
 mod bytes16;
 mod causes;
 mod fields;
+mod known;
 mod list;
 mod names;
 mod numbers;
@@ -22,13 +23,14 @@ pub use ascending::{ByParty, read_ascending};
 pub use block::{Block, Component, write_component};
 pub use bytes16::{read_bytes16, write_bytes16};
 pub use causes::{Cause, CauseList, Event, NodeCauseList};
-pub use list::{ByteList, ListOf};
+pub use known::{Unlimited, known_items};
+pub use list::{ByteList, ListOf, TryCopy};
 pub use names::{Identity, Key, StateRef, Tag, Token};
 pub use numbers::number;
 pub use part::{
     DecodeFault, PartFault, Spelt, decode, decode_whole, encode, one_spelling, read_below,
-    read_between, read_hash, read_kind, read_list, read_option, read_u8, read_u16, read_u32,
-    read_u64, write_list, write_option,
+    read_between, read_hash, read_kind, read_list, read_list_between, read_option, read_u8,
+    read_u16, read_u32, read_u64, read_up_to, write_list, write_option,
 };
 pub use parties::PartySet;
 pub use reader::{Extra, Reader, Short};

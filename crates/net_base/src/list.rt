@@ -72,7 +72,25 @@ impl<T: Drop> ListOf<T> {
     }
 }
 
+/// A type whose values can be copied where there is memory.
+pub trait TryCopy: Sized + Drop {
+    ghost use Rattle.std.specs.Prelude.{◌≡◌, IfOk};
+
+    /// An equal value.
+    fn try_copy(&self, alloc: Global) -> Result<Self, AllocError>
+        ensures { IfOk result (λ v. v ≡ self.now) };
+}
+
 impl<T: Copy> ListOf<T> {
+    /// The list of these items.
+    pub fn from_slice(alloc: Global, items: &[T]) -> Result<ListOf<T>, AllocError>
+        ensures { IfOk result (λ l. l ≡ items.now) }
+    {
+        Ok(ListOf {
+            items: Vec::from_slice(alloc, items)?,
+        })
+    }
+
     /// An equal list.
     pub fn copy(&self, alloc: Global) -> Result<ListOf<T>, AllocError>
         ensures { IfOk result (λ l. l ≡ self.now) }
@@ -81,4 +99,29 @@ impl<T: Copy> ListOf<T> {
             items: Vec::from_slice(alloc, self.as_slice())?,
         })
     }
+}
+
+impl<T: Copy> TryCopy for ListOf<T> {
+    fn try_copy(&self, alloc: Global) -> Result<ListOf<T>, AllocError> {
+        self.copy(alloc)
+    }
+}
+
+impl<T: TryCopy> ListOf<T> {
+    /// An equal list, item by item.
+    pub fn copy_each(&self, alloc: Global) -> Result<ListOf<T>, AllocError>
+        ensures { IfOk result (λ l. l ≡ self.now) }
+    {
+        Ok(ListOf::from_vec(copy_items(alloc, self.as_slice())?))
+    }
+}
+
+fn copy_items<T: TryCopy>(alloc: Global, items: &[T]) -> Result<Vec<T>, AllocError>
+    ensures { IfOk result (λ v. v.items ≡ items.now) }
+{
+    let mut copies = Vec::with_capacity(alloc, items.len())?;
+    for item in items {
+        copies.push(item.try_copy(alloc)?)?;
+    }
+    Ok(copies)
 }

@@ -12,7 +12,7 @@ use crate::writer::Writer;
 use std::alloc::{AllocError, Global};
 
 /// A currency of an issuer.
-#[derive(Clone, Copy, Debug, PartialEq, Eq, PartialOrd, Ord, Hash)]
+#[derive(Clone, Copy, Debug, PartialEq, Eq, Hash)]
 pub struct Token {
     pub issuer: Party,
     /// Three letters A to Z.
@@ -20,7 +20,7 @@ pub struct Token {
 }
 
 /// A party's mark under a transaction id.
-#[derive(Clone, Copy, Debug, PartialEq, Eq, PartialOrd, Ord, Hash)]
+#[derive(Clone, Copy, Debug, PartialEq, Eq)]
 pub struct Tag {
     pub by: Party,
     pub of: Hash32,
@@ -28,21 +28,21 @@ pub struct Tag {
 }
 
 /// An output of a transaction: the transaction's id, and the output's place, counted from 0.
-#[derive(Clone, Copy, Debug, PartialEq, Eq, PartialOrd, Ord, Hash)]
+#[derive(Clone, Copy, Debug, PartialEq, Eq, Hash)]
 pub struct StateRef {
     pub id: Hash32,
     pub index: u32,
 }
 
 /// A session: the party that opened it, and which of that party's sessions it is, counted from 0.
-#[derive(Clone, Copy, Debug, PartialEq, Eq, PartialOrd, Ord, Hash)]
+#[derive(Clone, Copy, Debug, PartialEq, Eq, Hash)]
 pub struct Key {
     pub initiator: Party,
     pub number: u32,
 }
 
 /// Which node of which network a journal belongs to.
-#[derive(Clone, Copy, Debug, PartialEq, Eq, PartialOrd, Ord, Hash)]
+#[derive(Clone, Copy, Debug, PartialEq, Eq)]
 pub struct Identity {
     pub party: Party,
     /// How many nodes the network has, 1 to 16.

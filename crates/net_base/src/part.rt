@@ -1,14 +1,15 @@
 //! Reading and writing the parts of a value.
 
-ghost use Rattle.std.specs.Prelude.{◌≡◌, ◌++◌, ◌<◌, ◌≤◌, ◌∷◌, [], ℕ, List, Result, IfSome, IfOk, length};
+ghost use Rattle.std.specs.Prelude.{◌≡◌, ◌+◌, ◌++◌, ◌<◌, ◌≤◌, ◌∷◌, [], ℕ, List, Result, IfSome, IfOk, length};
 ghost use Rattle.std.specs.List.{flat_map, AllByRecursion};
 ghost use Rattle.std.specs.Int.{w16, w32, w64, to_be_bytes};
 ghost use Rattle.net_base.specs.declared.part.PartFault.TheVariants.{Memory, Left};
 ghost use Rattle.net_base.specs.Forms.{byte_at, bytes_at, number_at, below_at, option_at, items_at, list8_at, option_of, list8, ListWithin};
 ghost use Rattle.net_base.specs.Reading.{Puts};
-ghost use Rattle.net_base.specs.Parts.{Gives, Writes, Decodes, DecodesWhole};
+ghost use Rattle.net_base.specs.Parts.{Gives, TakesNoMemory, Writes, Decodes, DecodesWhole};
 ghost use Rattle.net_base.specs.Laws.{Laws};
 ghost use Rattle.net_base.specs.Kinds.{kind_at, between_at};
+ghost use Rattle.net_base.specs.Framing.{list8_between_at};
 
 use crate::list::ListOf;
 use crate::reader::{Reader, Short};
@@ -57,28 +58,32 @@ impl From<Short> for PartFault {
 }
 
 pub fn read_u8(from: &mut Reader) -> Result<u8, PartFault>
-    ensures { Gives (λ x. x) result from.old from.new (byte_at from.old.left) }
+    ensures given { Gives (λ x. x) result from.old from.new (byte_at from.old.left) }
+    ensures no_memory { TakesNoMemory result }
 {
     Ok(from.u8()?)
 }
 
 #[tactic(auto, unfolding(crate::specs::Forms::number_at))]
 pub fn read_u16(from: &mut Reader) -> Result<u16, PartFault>
-    ensures { Gives (λ x. x) result from.old from.new (number_at w16 from.old.left) }
+    ensures given { Gives (λ x. x) result from.old from.new (number_at w16 from.old.left) }
+    ensures no_memory { TakesNoMemory result }
 {
     Ok(from.u16()?)
 }
 
 #[tactic(auto, unfolding(crate::specs::Forms::number_at))]
 pub fn read_u32(from: &mut Reader) -> Result<u32, PartFault>
-    ensures { Gives (λ x. x) result from.old from.new (number_at w32 from.old.left) }
+    ensures given { Gives (λ x. x) result from.old from.new (number_at w32 from.old.left) }
+    ensures no_memory { TakesNoMemory result }
 {
     Ok(from.u32()?)
 }
 
 #[tactic(auto, unfolding(crate::specs::Forms::number_at))]
 pub fn read_u64(from: &mut Reader) -> Result<u64, PartFault>
-    ensures { Gives (λ x. x) result from.old from.new (number_at w64 from.old.left) }
+    ensures given { Gives (λ x. x) result from.old from.new (number_at w64 from.old.left) }
+    ensures no_memory { TakesNoMemory result }
 {
     Ok(from.u64()?)
 }
@@ -88,6 +93,7 @@ pub fn read_u64(from: &mut Reader) -> Result<u64, PartFault>
 pub fn read_below(from: &mut Reader, limit: u8) -> Result<u8, PartFault>
     ensures given { Gives (λ x. x) result from.old from.new (below_at limit from.old.left) }
     ensures below { IfOk result (λ v. v < limit) }
+    ensures no_memory { TakesNoMemory result }
 {
     let left = from.remaining();
     let b = read_u8(from)?;
@@ -98,9 +104,27 @@ pub fn read_below(from: &mut Reader, limit: u8) -> Result<u8, PartFault>
     }
 }
 
+/// A byte of at most `most`.
+#[tactic(auto, unfolding(crate::specs::Forms::below_at))]
+pub fn read_up_to(from: &mut Reader, most: u8) -> Result<u8, PartFault>
+    ensures given { Gives (λ x. x) result from.old from.new (below_at (most + 1) from.old.left) }
+    ensures range { IfOk result (λ v. v ≤ most) }
+    ensures no_memory { TakesNoMemory result }
+{
+    let left = from.remaining();
+    let b = read_u8(from)?;
+    if b <= most {
+        Ok(b)
+    } else {
+        Err(PartFault::Left(left))
+    }
+}
+
+/// The 32 bytes of a digest.
 #[tactic(auto, unfolding(crate::specs::Forms::bytes_at))]
 pub fn read_hash(from: &mut Reader) -> Result<Hash32, PartFault>
-    ensures { Gives (λ x. x.0) result from.old from.new (bytes_at 32 from.old.left) }
+    ensures given { Gives (λ x. x.0) result from.old from.new (bytes_at 32 from.old.left) }
+    ensures no_memory { TakesNoMemory result }
 {
     Ok(from.hash()?)
 }
@@ -175,11 +199,25 @@ pub fn read_list<T: Spelt>(
     from: &mut Reader,
     limit: u8,
 ) -> Result<ListOf<T>, PartFault>
-    requires { limit < 255 }
     ensures given { Gives (λ x. x) result from.old from.new (list8_at limit T.reading from.old.left) }
     ensures few { IfOk result (λ l. length l ≤ limit) }
 {
-    let count = read_below(from, limit + 1)?;
+    let count = read_up_to(from, limit)?;
+    Ok(ListOf::from_vec(read_items(alloc, from, count)?))
+}
+
+/// A list of `least` to `limit` values behind a byte of count.
+#[tactic(auto, unfolding(crate::specs::Framing::list8_between_at))]
+pub fn read_list_between<T: Spelt>(
+    alloc: Global,
+    from: &mut Reader,
+    least: u8,
+    limit: u8,
+) -> Result<ListOf<T>, PartFault>
+    requires { limit < 255 }
+    ensures { Gives (λ x. x) result from.old from.new (list8_between_at least limit T.reading from.old.left) }
+{
+    let count = read_between(from, least, limit + 1)?;
     Ok(ListOf::from_vec(read_items(alloc, from, count)?))
 }
 
@@ -240,7 +278,8 @@ pub fn encode<T: Spelt>(alloc: Global, value: &T, out: &mut Writer) -> Result<()
 /// A byte that is one of the kinds.
 #[tactic(auto, unfolding(crate::specs::Kinds::kind_at))]
 pub fn read_kind(from: &mut Reader, kinds: &[u8]) -> Result<u8, PartFault>
-    ensures { Gives (λ x. x) result from.old from.new (kind_at kinds.now from.old.left) }
+    ensures given { Gives (λ x. x) result from.old from.new (kind_at kinds.now from.old.left) }
+    ensures no_memory { TakesNoMemory result }
 {
     let left = from.remaining();
     let kind = read_u8(from)?;
@@ -256,6 +295,7 @@ pub fn read_kind(from: &mut Reader, kinds: &[u8]) -> Result<u8, PartFault>
 pub fn read_between(from: &mut Reader, low: u8, high: u8) -> Result<u8, PartFault>
     ensures given { Gives (λ x. x) result from.old from.new (between_at low high from.old.left) }
     ensures range { IfOk result (λ v. (low ≤ v) × (v < high)) }
+    ensures no_memory { TakesNoMemory result }
 {
     let left = from.remaining();
     let b = read_u8(from)?;

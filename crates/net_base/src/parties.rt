@@ -1,21 +1,86 @@
 //! Sets of parties.
 
-ghost use Rattle.std.specs.Prelude.{◌≡◌, ◌++◌, ◌+◌, ◌≤◌, ◌<◌, List, ℕ, length};
+ghost use Rattle.std.specs.Prelude.{◌≡◌, ◌++◌, ◌+◌, ◌/◌, ◌%◌, ◌^◌, ◌≤◌, ◌<◌, ◌↔◌, ◌==◌, ◌||◌, ◌&&◌, not, false, IsTrue, List, [], ℕ, length};
 ghost use Rattle.net_base.specs.Parts.{Gives};
 ghost use Rattle.net_base.specs.Kinds.{between_at};
 ghost use Rattle.net_base.specs.Runs.{ascending_at};
 ghost use Rattle.net_base.specs.Combining.{mapped_at};
-ghost use Rattle.net_base.specs.Parties.{members_from, bits_of, members, party_set, IsPartySet, party_set_at, party_set_laws};
+ghost use Rattle.net_base.specs.Parties.{has_party, members_from, bits_of, members, party_set, IsPartySet, party_set_at, party_set_laws};
 
 use crate::block::{Block, Component, write_component};
 use crate::part::{PartFault, Spelt, read_below, read_between};
 use crate::reader::Reader;
+use crate::values::Party;
 use crate::writer::Writer;
 use std::alloc::{AllocError, Global};
 
 /// A set of parties; bit `p` stands for party `p`.
-#[derive(Clone, Copy, Debug, PartialEq, Eq, PartialOrd, Ord, Hash)]
+#[derive(Clone, Copy, Debug, PartialEq, Eq)]
 pub struct PartySet(pub u16);
+
+impl PartySet {
+    /// The set of no party.
+    pub fn empty() -> PartySet
+        ensures { (p : ℕ) → has_party result p ≡ false }
+    {
+        PartySet(0)
+    }
+
+    /// Whether the party is in the set.
+    pub fn contains(self, party: Party) -> bool
+        ensures { result ≡ has_party self party.0 }
+    {
+        has_bit(self.0, party.0)
+    }
+
+    /// The set with the party added.
+    pub fn with(self, party: Party) -> PartySet
+        requires { party.0 < 16 }
+        ensures { (p : ℕ) → has_party result p ≡ (p == party.0 || has_party self p) }
+    {
+        PartySet(self.0 | 1 << party.0)
+    }
+
+    /// The parties that are in one of the sets, or in both.
+    pub fn union(self, other: PartySet) -> PartySet
+        ensures { (p : ℕ) → has_party result p ≡ (has_party self p || has_party other p) }
+    {
+        PartySet(self.0 | other.0)
+    }
+
+    /// The parties that are in this set and not in the other.
+    pub fn without(self, other: PartySet) -> PartySet
+        ensures { (p : ℕ) → has_party result p ≡ (has_party self p && not (has_party other p)) }
+    {
+        PartySet(without_bits(self.0, other.0))
+    }
+
+    /// Whether no party is in the set.
+    pub fn is_empty(self) -> bool
+        ensures { IsTrue result ↔ (members self ≡ []) }
+    {
+        self.len() == 0
+    }
+
+    /// How many parties are in the set, 0 to 16.
+    pub fn len(self) -> u8
+        ensures { result ≡ length (members self) }
+    {
+        count_members(self.0)
+    }
+}
+
+fn has_bit(bits: u16, place: u8) -> bool
+    ensures { result ≡ (bits / 2 ^ place % 2 == 1) }
+{
+    place < 16 && (bits >> place) % 2 == 1
+}
+
+fn without_bits(bits: u16, others: u16) -> u16
+    ensures { (p : ℕ) → (result / 2 ^ p % 2 == 1) ≡ ((bits / 2 ^ p % 2 == 1) && not (others / 2 ^ p % 2 == 1)) }
+{
+    bits & !others
+}
 
 fn count_members(bits: u16) -> u8
     ensures { result ≡ length (members_from 0 16 bits) }
@@ -43,7 +108,7 @@ fn put_members(bits: u16, block: &mut Block)
     }
 }
 
-#[tactic(auto, unfolding(crate::specs::Parties::party_set, crate::specs::Parties::members))]
+#[tactic(auto, unfolding(crate::specs::Parties::party_set))]
 impl Component for PartySet {
     ghost text = { party_set };
 

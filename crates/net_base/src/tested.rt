@@ -2,7 +2,7 @@
 
 ghost use Rattle.std.specs.Prelude.{◌≡◌, ◌<◌, ◌≤◌, ◌≢◌, IfOk};
 ghost use Rattle.std.specs.Int.{w32, w64};
-ghost use Rattle.net_base.specs.Parts.{Gives};
+ghost use Rattle.net_base.specs.Parts.{Gives, TakesNoMemory};
 ghost use Rattle.net_base.specs.Tested.{below_except_at, positive_at, headed_at, stamp_at};
 
 use crate::part::{PartFault, read_u8, read_u32, read_u64};
@@ -11,7 +11,8 @@ use crate::reader::Reader;
 /// A byte below the limit, and not another.
 #[tactic(auto, unfolding(crate::specs::Tested::below_except_at))]
 pub fn read_below_except(from: &mut Reader, limit: u8, other: u8) -> Result<u8, PartFault>
-    ensures { Gives (λ x. x) result from.old from.new (below_except_at limit other from.old.left) }
+    ensures given { Gives (λ x. x) result from.old from.new (below_except_at limit other from.old.left) }
+    ensures no_memory { TakesNoMemory result }
 {
     let left = from.remaining();
     let n = read_u8(from)?;
@@ -25,7 +26,8 @@ pub fn read_below_except(from: &mut Reader, limit: u8, other: u8) -> Result<u8, 
 /// A number that isn't 0.
 #[tactic(auto, unfolding(crate::specs::Tested::positive_at))]
 pub fn read_positive(from: &mut Reader) -> Result<u32, PartFault>
-    ensures { Gives (λ x. x) result from.old from.new (positive_at w32 from.old.left) }
+    ensures given { Gives (λ x. x) result from.old from.new (positive_at w32 from.old.left) }
+    ensures no_memory { TakesNoMemory result }
 {
     let n = read_u32(from)?;
     if n == 0 {
@@ -37,7 +39,8 @@ pub fn read_positive(from: &mut Reader) -> Result<u32, PartFault>
 /// A number that isn't 0 and is below 2^63.
 #[tactic(auto, unfolding(crate::specs::Tested::stamp_at, crate::specs::Tested::headed_at, crate::specs::Tested::positive_at))]
 pub fn read_stamp(from: &mut Reader) -> Result<u64, PartFault>
-    ensures { Gives (λ x. x) result from.old from.new (stamp_at from.old.left) }
+    ensures given { Gives (λ x. x) result from.old from.new (stamp_at from.old.left) }
+    ensures no_memory { TakesNoMemory result }
 {
     let left = from.remaining();
     if read_u8(&mut from.again())? >= 128 {
