@@ -29,15 +29,15 @@ ref_eq a b = hash_eq a.id b.id && (a.index == b.index)
 
 -- whether the reference is one of these
 abbrev pub has_ref : StateRef → List StateRef → Bool
-has_ref r refs = list_any (ref_eq r) refs
+has_ref r refs = list_any (λ s. ref_eq s r) refs
 
 -- whether the id is one of these
 abbrev pub has_hash : Hash32 → List Hash32 → Bool
-has_hash id ids = list_any (hash_eq id) ids
+has_hash id ids = list_any (λ h. hash_eq h id) ids
 
 -- whether the number is one of these
 abbrev pub has_number : ℕ → List ℕ → Bool
-has_number n numbers = list_any (λ m. n == m) numbers
+has_number n numbers = list_any (λ m. m == n) numbers
 
 -- whether a value stands twice in the list
 abbrev pub has_repeat : {A : Type 0} → (A → A → Bool) → List A → Bool

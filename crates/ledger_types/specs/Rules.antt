@@ -101,9 +101,13 @@ has_encumbrance_out_of_range tx = list_any (λ p. nat_le (length tx.outputs) p.1
 abbrev pub has_self_encumbrance : Tx → Bool
 has_self_encumbrance tx = list_any (λ p. p.0 == p.1) (encumbrances tx.outputs)
 
+-- whether another output names the same encumbrance
+abbrev pub shares_encumbrance : List TxState → ℕ × ℕ → Bool
+shares_encumbrance outputs p = list_any (λ q. not (q.0 == p.0) && (q.1 == p.1)) (encumbrances outputs)
+
 -- rule 14: two outputs name the same encumbrance
 abbrev pub has_shared_encumbrance : Tx → Bool
-has_shared_encumbrance tx = has_repeat (λ p q. p.1 == q.1) (encumbrances tx.outputs)
+has_shared_encumbrance tx = list_any (λ p. shares_encumbrance tx.outputs p) (encumbrances tx.outputs)
 
 -- rule 15: the set of encumbered outputs differs from the set of encumbering ones
 abbrev pub has_open_encumbrance : Tx → Bool

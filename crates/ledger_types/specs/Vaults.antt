@@ -1,5 +1,5 @@
 -- What a party holds, over the list of recorded transactions.
-use Rattle.std.specs.Prelude.{ℕ, ◌+◌, ◌-◌, ◌==◌, ◌&&◌, ◌||◌, not, List, [], ◌∷◌, Option, Some, None, Bool, true, false, map, filter, find, flat_map, option_map, is_none, take, sum, if◌then◌else◌}
+use Rattle.std.specs.Prelude.{ℕ, ◌+◌, ◌-◌, ◌==◌, ◌&&◌, ◌||◌, not, List, [], ◌∷◌, Option, Some, None, Bool, true, false, filter, find, flat_map, option_map, is_none, take, sum_by, if◌then◌else◌}
 use Rattle.std.specs.List.{list_any}
 use Rattle.net_base.specs.declared.values.Hash32.{Hash32}
 use Rattle.net_base.specs.declared.values.Party.{Party}
@@ -82,7 +82,7 @@ coins_of token vault = filter (is_coin_of token) vault
 
 -- the sum of the Cash of a token, locked or not
 abbrev pub balance_of : Token → List Held → ℕ
-balance_of token vault = sum (map (λ h. cash_amount h.state.body) (filter (λ h. is_cash_of token h.state.body) vault))
+balance_of token vault = sum_by (λ h. cash_amount h.state.body) (filter (λ h. is_cash_of token h.state.body) vault)
 
 -- the first of these that have a sum of at least the amount, and no more than are needed
 abbrev pub least_prefix : ℕ → List Held → Option (List Held)
@@ -95,4 +95,4 @@ reserved token amount vault = least_prefix amount (take 64 (coins_of token vault
 
 -- the sum of the first 64 coins of the token
 abbrev pub reservable : Token → List Held → ℕ
-reservable token vault = sum (map (λ h. cash_amount h.state.body) (take 64 (coins_of token vault)))
+reservable token vault = sum_by (λ h. cash_amount h.state.body) (take 64 (coins_of token vault))

@@ -2,6 +2,7 @@
 #![tactic(auto)]
 
 mod held;
+mod id;
 mod notary;
 mod state;
 mod torn;
