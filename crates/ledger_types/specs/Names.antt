@@ -42,4 +42,4 @@ has_number n numbers = list_any (λ m. m == n) numbers
 -- whether a value stands twice in the list
 abbrev pub has_repeat : {A : Type 0} → (A → A → Bool) → List A → Bool
 has_repeat same [] = false
-has_repeat same (x ∷ xs) = list_any (same x) xs || has_repeat same xs
+has_repeat same (x ∷ xs) = list_any (λ y. same y x) xs || has_repeat same xs

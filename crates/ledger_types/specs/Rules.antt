@@ -143,6 +143,10 @@ rules tx resolved =
     ∷ (16, leaves_encumbrance tx resolved)
     ∷ []
 
+-- the number of the first outcome that is true
+abbrev pub first_true : List (ℕ × Bool) → Option ℕ
+first_true outcomes = option_map (λ p. p.0) (find (λ p. p.1) outcomes)
+
 -- the number of the first rule that is broken
 unfoldable pub first_broken : Tx → Resolved → Option ℕ
-first_broken tx resolved = option_map (λ p. p.0) (find (λ p. p.1) (rules tx resolved))
+first_broken tx resolved = first_true (rules tx resolved)
