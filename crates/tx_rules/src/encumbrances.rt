@@ -137,8 +137,9 @@ pub(crate) fn leaves_encumbrance(tx: &Tx, resolved: &Resolved) -> bool
     ensures { result ≡ rule.leaves_encumbrance tx.now resolved.now }
 {
     let inputs = tx.inputs.as_slice();
-    inputs
-        .iter()
-        .zip(resolved.inputs.as_slice().iter())
-        .any(|(input, state)| lacks_encumbrance(inputs, input, state.encumbrance))
+    inputs.iter().zip(resolved.inputs.as_slice().iter()).any(|(input, state)| lacks_encumbrance(
+        inputs,
+        input,
+        state.encumbrance,
+    ))
 }

@@ -10,6 +10,8 @@ mod notaries;
 mod references;
 mod shape;
 mod signers;
+#[cfg(test)]
+mod tests;
 
 pub use checking::{Broken, check, first_true};
 pub use signers::{missing_tags, needed_signers};

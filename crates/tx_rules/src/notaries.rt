@@ -32,7 +32,10 @@ pub(crate) fn has_foreign_output(tx: &Tx) -> bool
     ensures { result ≡ rule.has_foreign_output tx.now }
 {
     let notary = tx.notary;
-    tx.outputs.as_slice().iter().any(|state| is_other(notary, state.notary))
+    tx.outputs
+        .as_slice()
+        .iter()
+        .any(|state| is_other(notary, state.notary))
 }
 
 fn has_foreign(notary: Option<Party>, states: &[TxState]) -> bool

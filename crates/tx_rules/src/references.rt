@@ -45,5 +45,8 @@ pub(crate) fn refers_to_input(tx: &Tx) -> bool
     ensures { result ≡ rule.refers_to_input tx.now }
 {
     let references = tx.references.as_slice();
-    tx.inputs.as_slice().iter().any(|input| contains(references, input))
+    tx.inputs
+        .as_slice()
+        .iter()
+        .any(|input| contains(references, input))
 }

@@ -37,16 +37,17 @@ fn is_unsigned(command: &Command) -> bool
 pub(crate) fn has_unsigned_command(tx: &Tx) -> bool
     ensures { result ≡ rule.has_unsigned_command tx.now }
 {
-    tx.commands.as_slice().iter().any(|command| is_unsigned(command))
+    tx.commands
+        .as_slice()
+        .iter()
+        .any(|command| is_unsigned(command))
 }
 
 /// Whether a notary has to sign: there is an input, a reference or a time window.
 pub(crate) fn asks_notary(tx: &Tx) -> bool
     ensures { result ≡ rule.asks_notary tx.now }
 {
-    !tx.inputs.as_slice().is_empty()
-        || !tx.references.as_slice().is_empty()
-        || tx.window.is_some()
+    !tx.inputs.as_slice().is_empty() || !tx.references.as_slice().is_empty() || tx.window.is_some()
 }
 
 /// Whether a notary has to sign and none is named.

@@ -1,0 +1,13 @@
+//! The contract that governs Cash.
+//!
+//! Cash is issued by its issuer, moved by its owners and exited by both (Corda 4 documentation, "Contracts", on the Cash
+//! contract). No function here takes memory.
+#![tactic(auto)]
+
+mod amounts;
+mod cash;
+mod value;
+#[cfg(test)]
+mod tests;
+
+pub use cash::Cash;
