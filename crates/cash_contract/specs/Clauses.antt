@@ -77,9 +77,17 @@ token_of (CashIssue token amount) = Some token
 token_of (CashExit token amount) = Some token
 token_of _ = None
 
--- every token that a transaction speaks of
+-- the tokens of states
+abbrev pub tokens_of_states : List TxState → List Token
+tokens_of_states states = filter_map (λ s. token_in s.body) states
+
+-- the tokens that the commands issue or exit
+abbrev pub tokens_of_commands : Tx → List Token
+tokens_of_commands tx = filter_map (λ c. token_of c.deed) tx.commands
+
+-- every token that a transaction speaks of; of any other nothing goes in or out
 abbrev pub tokens_in : Tx → Resolved → List Token
-tokens_in tx resolved = filter_map (λ s. token_in s.body) (resolved.inputs ++ tx.outputs) ++ filter_map (λ c. token_of c.deed) tx.commands
+tokens_in tx resolved = (tokens_of_states resolved.inputs ++ tokens_of_states tx.outputs) ++ tokens_of_commands tx
 
 -- clause 3: for some token, what goes in and is issued differs from what goes out and is exited
 abbrev pub loses_value : Tx → Resolved → Bool

@@ -1,12 +1,11 @@
 //! Sums over states and commands, in 128 bits.
 
-ghost use Rattle.std.specs.Prelude.{◌≡◌, ◌<◌, ◌≤◌, ◌*◌, ◌^◌, length, not};
+ghost use Rattle.std.specs.Prelude.{◌≡◌, ◌++◌, not};
 ghost use Rattle.std.specs.List.{list_any};
-ghost use Rattle.std.specs.Prelude.{filter_map};
-ghost use Rattle.cash_contract.specs.Clauses.{value_in, value_issued, value_exited, is_conserved, token_in, token_of, loses_value};
+ghost use Rattle.cash_contract.specs.Clauses.{value_in, value_issued, value_exited, is_conserved, tokens_of_states, tokens_of_commands, loses_value};
 
 use crate::amounts::{amount_in, exited_by, issued_by, token_in, token_of};
-use ledger_types::{Command, Resolved, Tx, TxState};
+use ledger_types::{Resolved, Tx, TxState};
 use net_base::Token;
 
 /// The value of the token in the states.
@@ -24,8 +23,9 @@ fn value_in(token: &Token, states: &[TxState]) -> u128
 fn value_issued(token: &Token, tx: &Tx) -> u128
     ensures { result ≡ value_issued token.now tx.now }
 {
+    let commands = tx.commands.as_slice();
     let mut value: u128 = 0;
-    for command in tx.commands.as_slice() {
+    for command in commands {
         value += issued_by(token, &command.deed) as u128;
     }
     value
@@ -35,8 +35,9 @@ fn value_issued(token: &Token, tx: &Tx) -> u128
 fn value_exited(token: &Token, tx: &Tx) -> u128
     ensures { result ≡ value_exited token.now tx.now }
 {
+    let commands = tx.commands.as_slice();
     let mut value: u128 = 0;
-    for command in tx.commands.as_slice() {
+    for command in commands {
         value += exited_by(token, &command.deed) as u128;
     }
     value
@@ -52,7 +53,7 @@ fn is_conserved(tx: &Tx, resolved: &Resolved, token: &Token) -> bool
 }
 
 fn loses_of_states(states: &[TxState], tx: &Tx, resolved: &Resolved) -> bool
-    ensures { result ≡ list_any (λ token. not (is_conserved tx.now resolved.now token)) (filter_map (λ s. token_in s.body) states.now) }
+    ensures { result ≡ list_any (λ token. not (is_conserved tx.now resolved.now token)) (tokens_of_states states.now) }
 {
     states
         .iter()
@@ -60,10 +61,18 @@ fn loses_of_states(states: &[TxState], tx: &Tx, resolved: &Resolved) -> bool
         .any(|token| !is_conserved(tx, resolved, &token))
 }
 
-fn loses_of_commands(commands: &[Command], tx: &Tx, resolved: &Resolved) -> bool
-    ensures { result ≡ list_any (λ token. not (is_conserved tx.now resolved.now token)) (filter_map (λ c. token_of c.deed) commands.now) }
+fn loses_of_any_state(tx: &Tx, resolved: &Resolved) -> bool
+    ensures { result ≡ list_any (λ token. not (is_conserved tx.now resolved.now token)) (tokens_of_states resolved.now.inputs ++ tokens_of_states tx.now.outputs) }
 {
-    commands
+    loses_of_states(resolved.inputs.as_slice(), tx, resolved)
+        || loses_of_states(tx.outputs.as_slice(), tx, resolved)
+}
+
+fn loses_of_commands(tx: &Tx, resolved: &Resolved) -> bool
+    ensures { result ≡ list_any (λ token. not (is_conserved tx.now resolved.now token)) (tokens_of_commands tx.now) }
+{
+    tx.commands
+        .as_slice()
         .iter()
         .filter_map(|command| token_of(&command.deed))
         .any(|token| !is_conserved(tx, resolved, &token))
@@ -73,7 +82,5 @@ fn loses_of_commands(commands: &[Command], tx: &Tx, resolved: &Resolved) -> bool
 pub(crate) fn loses_value(tx: &Tx, resolved: &Resolved) -> bool
     ensures { result ≡ loses_value tx.now resolved.now }
 {
-    loses_of_states(resolved.inputs.as_slice(), tx, resolved)
-        || loses_of_states(tx.outputs.as_slice(), tx, resolved)
-        || loses_of_commands(tx.commands.as_slice(), tx, resolved)
+    loses_of_any_state(tx, resolved) || loses_of_commands(tx, resolved)
 }
