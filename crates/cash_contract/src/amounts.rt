@@ -122,7 +122,9 @@ fn is_unsigned_cash(token: &Token, signers: PartySet, body: &StateData) -> bool
 fn has_unsigned_cash(token: &Token, signers: PartySet, inputs: &[TxState]) -> bool
     ensures { result ≡ list_any (λ s. is_unsigned_cash token.now signers s.body) inputs.now }
 {
-    inputs.iter().any(|state| is_unsigned_cash(token, signers, &state.body))
+    inputs
+        .iter()
+        .any(|state| is_unsigned_cash(token, signers, &state.body))
 }
 
 /// Whether the deed, with these signers, exits a token without its issuer, or without an owner of an input of it.

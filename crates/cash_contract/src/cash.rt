@@ -24,38 +24,46 @@ pub struct Cash;
 fn has_worthless_output(tx: &Tx) -> bool
     ensures { result ≡ clause.has_worthless_output tx.now }
 {
-    tx.outputs.as_slice().iter().any(|state| is_worthless(&state.body))
+    tx.outputs
+        .as_slice()
+        .iter()
+        .any(|state| is_worthless(&state.body))
 }
 
 fn has_void_deed(tx: &Tx) -> bool
     ensures { result ≡ clause.has_void_deed tx.now }
 {
-    tx.commands.as_slice().iter().any(|command| is_void(&command.deed))
+    tx.commands
+        .as_slice()
+        .iter()
+        .any(|command| is_void(&command.deed))
 }
 
 fn has_unbacked_issue(tx: &Tx) -> bool
     ensures { result ≡ clause.has_unbacked_issue tx.now }
 {
-    tx.commands.as_slice().iter().any(|command| is_unbacked(command.signers, &command.deed))
+    tx.commands
+        .as_slice()
+        .iter()
+        .any(|command| is_unbacked(command.signers, &command.deed))
 }
 
 fn has_unsigned_exit(tx: &Tx, resolved: &Resolved) -> bool
     ensures { result ≡ clause.has_unsigned_exit tx.now resolved.now }
 {
     let inputs = resolved.inputs.as_slice();
-    tx.commands
-        .as_slice()
-        .iter()
-        .any(|command| is_unsigned_exit(inputs, command.signers, &command.deed))
+    tx.commands.as_slice().iter().any(|command| is_unsigned_exit(
+        inputs,
+        command.signers,
+        &command.deed,
+    ))
 }
 
 fn signs_spending(tx: &Tx, token: &Token, owner: Party) -> bool
     ensures { result ≡ clause.signs_spending tx.now token.now owner }
 {
-    tx.commands
-        .as_slice()
-        .iter()
-        .any(|command| spends(token, &command.deed) && command.signers.contains(owner))
+    tx.commands.as_slice().iter().any(|command| spends(token, &command.deed)
+        && command.signers.contains(owner))
 }
 
 fn is_taken(tx: &Tx, body: &StateData) -> bool
@@ -70,7 +78,11 @@ fn is_taken(tx: &Tx, body: &StateData) -> bool
 fn takes_cash(tx: &Tx, resolved: &Resolved) -> bool
     ensures { result ≡ clause.takes_cash tx.now resolved.now }
 {
-    resolved.inputs.as_slice().iter().any(|state| is_taken(tx, &state.body))
+    resolved
+        .inputs
+        .as_slice()
+        .iter()
+        .any(|state| is_taken(tx, &state.body))
 }
 
 fn outcomes(tx: &Tx, resolved: &Resolved) -> [(u8, bool); 6]

@@ -6,8 +6,8 @@
 
 mod amounts;
 mod cash;
-mod value;
 #[cfg(test)]
 mod tests;
+mod value;
 
 pub use cash::Cash;

@@ -47,7 +47,9 @@ fn value_exited(token: &Token, tx: &Tx) -> u128
 fn is_conserved(tx: &Tx, resolved: &Resolved, token: &Token) -> bool
     ensures { result ≡ is_conserved tx.now resolved.now token.now }
 {
-    let gained = value_in(token, resolved.inputs.as_slice()).overflowing_add(value_issued(token, tx));
+    let gained = value_in(token, resolved.inputs.as_slice()).overflowing_add(value_issued(
+        token, tx,
+    ));
     let spent = value_in(token, tx.outputs.as_slice()).overflowing_add(value_exited(token, tx));
     gained.0 == spent.0 && gained.1 == spent.1
 }

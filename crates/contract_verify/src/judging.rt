@@ -23,7 +23,9 @@ fn contract_number(body: &StateData) -> u8
 fn is_governed(states: &[TxState], id: u8) -> bool
     ensures { result ≡ governs states.now id }
 {
-    states.iter().any(|state| contract_number(&state.body) == id)
+    states
+        .iter()
+        .any(|state| contract_number(&state.body) == id)
 }
 
 /// What the first contract of this number says, and nothing where there is none.
@@ -72,12 +74,7 @@ fn refusal<C: LedgerContract>(
 
 /// What the contracts of these numbers say, of those that govern an input or an output.
 #[tactic(auto, using(crate::proofs::Skips::judged_at))]
-fn judge<C: LedgerContract>(
-    contracts: &[C],
-    ids: &[u8],
-    tx: &Tx,
-    resolved: &Resolved,
-) -> Verdict
+fn judge<C: LedgerContract>(contracts: &[C], ids: &[u8], tx: &Tx, resolved: &Resolved) -> Verdict
     ensures { result ≡ judged_by (λ id. told_by C.number C.says contracts.now id tx.now resolved.now) (filter (λ id. governs resolved.now.inputs id || governs tx.now.outputs id) ids.now) }
 {
     for id in ids {

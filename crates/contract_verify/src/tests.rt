@@ -111,9 +111,26 @@ fn the_first_that_is_absent_or_refuses_decides(rt: HostRuntime) -> Result<(), Fa
     let verdict = judged(alloc, &[(3, None), (1, None)], &both, &[command])?;
     assert_eq!(rt; verdict, Some(Verdict::Accepted));
     let verdict = judged(alloc, &[(3, Some(2)), (1, Some(4))], &both, &[command])?;
-    assert_eq!(rt; verdict, Some(Verdict::Refused { contract: 1, clause: 4 }));
-    let verdict = judged(alloc, &[(1, None), (1, Some(4)), (3, Some(2))], &both, &[command])?;
-    assert_eq!(rt; verdict, Some(Verdict::Refused { contract: 3, clause: 2 }));
+    assert_eq!(rt;
+        verdict,
+        Some(Verdict::Refused {
+            contract: 1,
+            clause: 4
+        })
+    );
+    let verdict = judged(
+        alloc,
+        &[(1, None), (1, Some(4)), (3, Some(2))],
+        &both,
+        &[command],
+    )?;
+    assert_eq!(rt;
+        verdict,
+        Some(Verdict::Refused {
+            contract: 3,
+            clause: 2
+        })
+    );
     let verdict = judged(alloc, &[(1, None), (2, Some(1))], &[fact()], &[command])?;
     assert_eq!(rt; verdict, Some(Verdict::NoContract { id: 3 }));
     let verdict = judged(alloc, &[(1, None), (3, None)], &both, &[])?;

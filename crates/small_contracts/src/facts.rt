@@ -3,7 +3,7 @@
 ghost use Rattle.std.specs.Prelude.{◌≡◌};
 ghost use Rattle.small_contracts.specs.Facts as clause;
 
-use crate::signing::{signs_fact_change, signs_fact_output};
+use crate::commands::{signs_fact_change, signs_fact_output};
 use contract_verify::LedgerContract;
 use ledger_types::{Resolved, StateData, Tx, TxState};
 use tx_rules::first_true;
@@ -53,22 +53,27 @@ fn same_fact(one: &StateData, other: &StateData) -> bool
 fn is_told_twice(outputs: &[TxState], place: usize, state: &TxState) -> bool
     ensures { result ≡ clause.is_told_twice outputs.now (place, state.now) }
 {
-    outputs
-        .iter()
-        .enumerate()
-        .any(|(other, output)| other != place && same_fact(&output.body, &state.body))
+    outputs.iter().enumerate().any(|(other, output)| other != place
+        && same_fact(&output.body, &state.body))
 }
 
 fn has_unclaimed_fact(tx: &Tx) -> bool
     ensures { result ≡ clause.has_unclaimed_fact tx.now }
 {
-    tx.outputs.as_slice().iter().any(|state| is_unclaimed(tx, &state.body))
+    tx.outputs
+        .as_slice()
+        .iter()
+        .any(|state| is_unclaimed(tx, &state.body))
 }
 
 fn replaces_fact(tx: &Tx, resolved: &Resolved) -> bool
     ensures { result ≡ clause.replaces_fact tx.now resolved.now }
 {
-    resolved.inputs.as_slice().iter().any(|state| is_replaced(tx, &state.body))
+    resolved
+        .inputs
+        .as_slice()
+        .iter()
+        .any(|state| is_replaced(tx, &state.body))
 }
 
 fn tells_twice(tx: &Tx) -> bool

@@ -3,7 +3,7 @@
 ghost use Rattle.std.specs.Prelude.{◌≡◌};
 ghost use Rattle.small_contracts.specs.Ious as clause;
 
-use crate::signing::{both_sign_iou_make, signs_iou_settle};
+use crate::commands::{both_sign_iou_make, signs_iou_settle};
 use crate::sums::{owed_in, paid_in};
 use contract_verify::LedgerContract;
 use ledger_types::{Resolved, StateData, Tx};
@@ -37,7 +37,9 @@ fn is_disputed(tx: &Tx, body: &StateData) -> bool
 {
     match body {
         StateData::Iou {
-            lender, borrower, ..
+            lender,
+            borrower,
+            ..
         } => !both_sign_iou_make(tx, *lender, *borrower),
         _ => false,
     }
@@ -67,25 +69,39 @@ fn is_unpaid(tx: &Tx, resolved: &Resolved, body: &StateData) -> bool
 fn has_senseless_iou(tx: &Tx) -> bool
     ensures { result ≡ clause.has_senseless_iou tx.now }
 {
-    tx.outputs.as_slice().iter().any(|state| is_senseless(&state.body))
+    tx.outputs
+        .as_slice()
+        .iter()
+        .any(|state| is_senseless(&state.body))
 }
 
 fn has_disputed_iou(tx: &Tx) -> bool
     ensures { result ≡ clause.has_disputed_iou tx.now }
 {
-    tx.outputs.as_slice().iter().any(|state| is_disputed(tx, &state.body))
+    tx.outputs
+        .as_slice()
+        .iter()
+        .any(|state| is_disputed(tx, &state.body))
 }
 
 fn forgets_iou(tx: &Tx, resolved: &Resolved) -> bool
     ensures { result ≡ clause.forgets_iou tx.now resolved.now }
 {
-    resolved.inputs.as_slice().iter().any(|state| is_forgotten(tx, &state.body))
+    resolved
+        .inputs
+        .as_slice()
+        .iter()
+        .any(|state| is_forgotten(tx, &state.body))
 }
 
 fn underpays(tx: &Tx, resolved: &Resolved) -> bool
     ensures { result ≡ clause.underpays tx.now resolved.now }
 {
-    resolved.inputs.as_slice().iter().any(|state| is_unpaid(tx, resolved, &state.body))
+    resolved
+        .inputs
+        .as_slice()
+        .iter()
+        .any(|state| is_unpaid(tx, resolved, &state.body))
 }
 
 fn outcomes(tx: &Tx, resolved: &Resolved) -> [(u8, bool); 4]

@@ -4,10 +4,10 @@
 //! memory.
 #![tactic(auto)]
 
+mod commands;
 mod facts;
 mod ious;
 mod locks;
-mod signing;
 mod sums;
 #[cfg(test)]
 mod tests;

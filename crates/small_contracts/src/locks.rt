@@ -3,7 +3,7 @@
 ghost use Rattle.std.specs.Prelude.{◌≡◌};
 ghost use Rattle.small_contracts.specs.Locks as clause;
 
-use crate::signing::{signs_lock_make, signs_lock_open};
+use crate::commands::{signs_lock_make, signs_lock_open};
 use contract_verify::LedgerContract;
 use ledger_types::{Resolved, StateData, Tx, Window};
 use net_base::Moment;
@@ -65,19 +65,30 @@ fn is_imposed(tx: &Tx, body: &StateData) -> bool
 fn opens_early(tx: &Tx, resolved: &Resolved) -> bool
     ensures { result ≡ clause.opens_early tx.now resolved.now }
 {
-    resolved.inputs.as_slice().iter().any(|state| is_closed(tx, &state.body))
+    resolved
+        .inputs
+        .as_slice()
+        .iter()
+        .any(|state| is_closed(tx, &state.body))
 }
 
 fn forces_lock(tx: &Tx, resolved: &Resolved) -> bool
     ensures { result ≡ clause.forces_lock tx.now resolved.now }
 {
-    resolved.inputs.as_slice().iter().any(|state| is_forced(tx, &state.body))
+    resolved
+        .inputs
+        .as_slice()
+        .iter()
+        .any(|state| is_forced(tx, &state.body))
 }
 
 fn imposes_lock(tx: &Tx) -> bool
     ensures { result ≡ clause.imposes_lock tx.now }
 {
-    tx.outputs.as_slice().iter().any(|state| is_imposed(tx, &state.body))
+    tx.outputs
+        .as_slice()
+        .iter()
+        .any(|state| is_imposed(tx, &state.body))
 }
 
 fn outcomes(tx: &Tx, resolved: &Resolved) -> [(u8, bool); 3]

@@ -65,35 +65,50 @@ fn is_iou_settle(deed: &Deed) -> bool
 pub(crate) fn signs_lock_make(tx: &Tx, party: Party) -> bool
     ensures { result ≡ kind.signs kind.is_lock_make tx.now party }
 {
-    tx.commands.as_slice().iter().any(|c| is_lock_make(&c.deed) && c.signers.contains(party))
+    tx.commands
+        .as_slice()
+        .iter()
+        .any(|c| is_lock_make(&c.deed) && c.signers.contains(party))
 }
 
 /// Whether the party signs a `LockOpen`.
 pub(crate) fn signs_lock_open(tx: &Tx, party: Party) -> bool
     ensures { result ≡ kind.signs kind.is_lock_open tx.now party }
 {
-    tx.commands.as_slice().iter().any(|c| is_lock_open(&c.deed) && c.signers.contains(party))
+    tx.commands
+        .as_slice()
+        .iter()
+        .any(|c| is_lock_open(&c.deed) && c.signers.contains(party))
 }
 
 /// Whether the party signs a `FactIssue` or a `FactChange`.
 pub(crate) fn signs_fact_output(tx: &Tx, party: Party) -> bool
     ensures { result ≡ kind.signs kind.is_fact_output tx.now party }
 {
-    tx.commands.as_slice().iter().any(|c| is_fact_output(&c.deed) && c.signers.contains(party))
+    tx.commands
+        .as_slice()
+        .iter()
+        .any(|c| is_fact_output(&c.deed) && c.signers.contains(party))
 }
 
 /// Whether the party signs a `FactChange`.
 pub(crate) fn signs_fact_change(tx: &Tx, party: Party) -> bool
     ensures { result ≡ kind.signs kind.is_fact_change tx.now party }
 {
-    tx.commands.as_slice().iter().any(|c| is_fact_change(&c.deed) && c.signers.contains(party))
+    tx.commands
+        .as_slice()
+        .iter()
+        .any(|c| is_fact_change(&c.deed) && c.signers.contains(party))
 }
 
 /// Whether the party signs an `IouSettle`.
 pub(crate) fn signs_iou_settle(tx: &Tx, party: Party) -> bool
     ensures { result ≡ kind.signs kind.is_iou_settle tx.now party }
 {
-    tx.commands.as_slice().iter().any(|c| is_iou_settle(&c.deed) && c.signers.contains(party))
+    tx.commands
+        .as_slice()
+        .iter()
+        .any(|c| is_iou_settle(&c.deed) && c.signers.contains(party))
 }
 
 /// Whether both parties sign one `IouMake`.
