@@ -1,11 +1,15 @@
-pub mod Ids
+pub mod States
+pub mod Windows
 pub mod Txs
+pub mod Torn
+pub mod Requests
+pub mod Values
+pub mod Ids
 pub mod Names
 pub mod Rules
 pub mod Verdicts
 pub mod Signatures
 pub mod Tears
-pub mod Windows
 pub mod Notary
 pub mod Vaults
 pub mod Stores

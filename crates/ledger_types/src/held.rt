@@ -3,7 +3,7 @@
 use crate::state::TxState;
 use net_base::{ListOf, StateRef};
 
-/// An unconsumed state of a vault, with the flow that has it soft-locked.
+/// An unconsumed state of a vault.
 #[derive(Clone, Copy, Debug, PartialEq, Eq)]
 pub struct Held {
     pub reference: StateRef,

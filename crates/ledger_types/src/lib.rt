@@ -1,20 +1,29 @@
-//! The ledger's values, and what they mean.
+//! The values of the ledger: states, transactions and tear-offs, what a notary is asked and answers, and
+//! what flows hand to one another, each with its one spelling in bytes; and the id of a transaction.
 #![tactic(auto)]
 
+mod change;
 mod held;
 mod id;
 mod notary;
 mod state;
+#[cfg(test)]
+mod tests;
 mod torn;
 mod tx;
+mod value;
 mod verdict;
 
+pub use change::LedgerChange;
 pub use held::{Held, HeldList};
-pub use notary::{ConflictItem, ConflictList, Entry, NotaryAnswer, RefKind, Request};
+pub use notary::{
+    ConflictItem, ConflictList, Entry, NotaryAnswer, RefKind, Request, consumer_hash,
+};
 pub use state::{StateData, TxState};
 pub use torn::{PartList, TornGroup, TornList, TornPart, TornTx, Visible};
 pub use tx::{
-    Command, CommandList, Deed, HashList, RefList, Resolved, SignedTx, StateList, TagList, Tx,
-    Window,
+    Command, CommandList, Deed, HashList, IdList, RefList, Resolved, SignedTx, StateList, TagList,
+    Tx, Window,
 };
+pub use value::Value;
 pub use verdict::Verdict;

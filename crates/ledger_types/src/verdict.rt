@@ -5,16 +5,9 @@
 pub enum Verdict {
     Accepted,
     /// The first structural rule that is broken, 1 to 16.
-    Broken {
-        rule: u8,
-    },
+    Broken { rule: u8 },
     /// No contract of this number is known.
-    NoContract {
-        id: u8,
-    },
+    NoContract { id: u8 },
     /// A contract refuses, by this clause.
-    Refused {
-        contract: u8,
-        clause: u8,
-    },
+    Refused { contract: u8, clause: u8 },
 }

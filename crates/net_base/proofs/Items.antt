@@ -1,8 +1,8 @@
 -- Reading items one after the other, as a loop does.
 use Rattle.std.proofs.Common.{◌≡◌, ℕ, suc, ◌-◌, ◌+◌, ◌≤◌, ◌<◌, List, [], ◌∷◌, ◌++◌, Result, Ok, Err, refl, sym, ap, ◌∙◌, append_assoc, arith}
 use Rattle.std.proofs.lemmas.List.{append-nil}
-use Rattle.net_base.specs.declared.part.PartFault.{PartFault}
-use Rattle.net_base.specs.declared.part.PartFault.TheVariants as faults
+use Rattle.net_base.specs.declared.fault.PartFault.{PartFault}
+use Rattle.net_base.specs.declared.fault.PartFault.TheVariants as faults
 use Rattle.net_base.specs.Parts.{Fails, Grows}
 use Rattle.net_base.specs.Forms.{◌>>=◌, items_at}
 use Rattle.net_base.specs.Runs.{run_at}

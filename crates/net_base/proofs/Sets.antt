@@ -1,9 +1,8 @@
 -- Reading the members of a set one after the other.
-use Rattle.std.proofs.Common.{◌≡◌, ℕ, suc, ◌-◌, ◌+◌, ◌*◌, ◌≤◌, ◌<◌, ◌^◌, List, [], ◌∷◌, ◌++◌, Result, Ok, Err, refl, sym, ap, ◌∙◌, arith}
+use Rattle.std.proofs.Common.{◌≡◌, ℕ, suc, ◌-◌, ◌+◌, ◌*◌, ◌≤◌, ◌<◌, ◌^◌, List, [], ◌∷◌, ◌++◌, Result, Ok, Err, refl, ap, ◌∙◌, arith}
 use Rattle.std.proofs.Math.Pow.{pow_mono}
-use Rattle.net_base.specs.declared.part.PartFault.{PartFault}
-use Rattle.net_base.specs.declared.part.PartFault.TheVariants as faults
-use Rattle.net_base.specs.Forms.{◌>>=◌}
+use Rattle.net_base.specs.declared.fault.PartFault.{PartFault}
+use Rattle.net_base.specs.declared.fault.PartFault.TheVariants as faults
 use Rattle.net_base.specs.Parts.{Fails}
 use Rattle.net_base.specs.Combining.{mapped_at}
 use Rattle.net_base.specs.Kinds.{between_at}

@@ -1,7 +1,7 @@
 -- A stamp of which no byte is there.
-use Rattle.std.proofs.Common.{◌≡◌, ℕ, List, [], ◌∷◌, ◌++◌, Result, Ok, Err, refl, sym}
-use Rattle.net_base.specs.declared.part.PartFault.{PartFault}
-use Rattle.net_base.specs.declared.part.PartFault.TheVariants as faults
+use Rattle.std.proofs.Common.{ℕ, List, [], ◌∷◌}
+use Rattle.net_base.specs.declared.fault.PartFault.{PartFault}
+use Rattle.net_base.specs.declared.fault.PartFault.TheVariants as faults
 use Rattle.net_base.specs.Parts.{Fails}
 use Rattle.net_base.specs.Forms.{byte_at, number_at}
 use Rattle.net_base.specs.Tested.{positive_at, headed_at, stamp_at}

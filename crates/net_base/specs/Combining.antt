@@ -1,8 +1,8 @@
 -- The laws of a spelling that is made of others.
-use Rattle.std.proofs.Common.{◌≡◌, ◌⊎◌, inl, inr, ◌+◌, ◌-◌, ◌<◌, ◌≤◌, ℕ, zero, suc, Bool, true, false, cond, ltb, List, [], ◌∷◌, ◌++◌, length, get_or, take, drop, Result, Ok, Err, refl, sym, ap, subst, ◌∙◌, append_assoc, arith}
+use Rattle.std.proofs.Common.{◌≡◌, inl, inr, ℕ, List, [], ◌∷◌, ◌++◌, Result, Ok, refl, sym, ap, subst, ◌∙◌, append_assoc}
 use Rattle.net_base.specs.Reading.{IsBytes}
 use Rattle.net_base.specs.Forms.{◌>>=◌}
-use Rattle.net_base.specs.Laws.{IsFault, Laws, ok_is, err_is, ok_not_err, bind_ok, bind_err, IsBytes-rest, split_prefix, cancels}
+use Rattle.net_base.specs.Laws.{Laws, ok_is, ok_not_err, bind_ok, bind_err, IsBytes-rest, split_prefix, cancels}
 
 -- ---- a first part, and what is read after it
 
@@ -11,6 +11,7 @@ pub record Joins {A V : Type 0} (first : A → Type 0) (first_spelling : A → L
   pub join : (a : A) (v : V) → first a → second a v → within v × (spelling v ≡ first_spelling a ++ second_spelling a v)
   pub split : (v : V) → within v → (a : A) × (first a × second a v)
 
+-- the laws of a whole whose second part is read after the first
 pub bind_laws : {A V : Type 0} {first : A → Type 0} {first_spelling : A → List ℕ} {first_reading : List ℕ → Result (A × List ℕ) ℕ} {second : A → V → Type 0} {second_spelling : A → V → List ℕ} {second_reading : A → List ℕ → Result (V × List ℕ) ℕ} {within : V → Type 0} {spelling : V → List ℕ}
     → Laws first first_spelling first_reading → ((a : A) → first a → Laws (second a) (second_spelling a) (second_reading a))
     → Joins first first_spelling second second_spelling within spelling
@@ -86,16 +87,20 @@ bind_laws {A} {V} {first} {first_spelling} {first_reading} {second} {second_spel
 
 -- ---- the same, seen as another type
 
+-- a value of A within its limits is seen as one of B, with the same spelling, and each one of B is
 pub record Seen {A B : Type 0} (to : A → B) (inner : A → Type 0) (inner_spelling : A → List ℕ) (within : B → Type 0) (spelling : B → List ℕ) : Type 0 where
   pub keeps : (a : A) → inner a → within (to a) × (spelling (to a) ≡ inner_spelling a)
   pub from : (b : B) → within b → (a : A) × (inner a × (to a ≡ b))
 
+-- reading by an inner reading, and seeing what it gives as another type
 abbrev pub mapped_at : {A B : Type 0} → (A → B) → (List ℕ → Result (A × List ℕ) ℕ) → List ℕ → Result (B × List ℕ) ℕ
 mapped_at to reading bytes = reading bytes >>= λ x. Ok (to x.0, x.1)
 
+-- what was read, seen as another type
 abbrev seen_as : {A B : Type 0} → (A → B) → Result (A × List ℕ) ℕ → Result (B × List ℕ) ℕ
 seen_as to read = read >>= λ x. Ok (to x.0, x.1)
 
+-- the laws of a spelling that is seen as another type's
 pub mapped_laws : {A B : Type 0} {inner : A → Type 0} {inner_spelling : A → List ℕ} {reading : List ℕ → Result (A × List ℕ) ℕ} {within : B → Type 0} {spelling : B → List ℕ} (to : A → B)
     → Laws inner inner_spelling reading → Seen to inner inner_spelling within spelling → Laws within spelling (mapped_at to reading)
 mapped_laws {A} {B} {inner} {inner_spelling} {reading} {within} {spelling} to one seen = record {
@@ -133,9 +138,11 @@ mapped_laws {A} {B} {inner} {inner_spelling} {reading} {within} {spelling} to on
 
 -- ---- two parts
 
+-- reading a pair
 abbrev pub pair_at : {A B : Type 0} → (List ℕ → Result (A × List ℕ) ℕ) → (List ℕ → Result (B × List ℕ) ℕ) → List ℕ → Result ((A × B) × List ℕ) ℕ
 pair_at a b bytes = a bytes >>= λ x. b x.1 >>= λ y. Ok ((x.0, y.0), y.1)
 
+-- the laws of pairs
 pub pair_laws : {A B : Type 0} {wa : A → Type 0} {sa : A → List ℕ} {ra : List ℕ → Result (A × List ℕ) ℕ} {wb : B → Type 0} {sb : B → List ℕ} {rb : List ℕ → Result (B × List ℕ) ℕ}
     → Laws wa sa ra → Laws wb sb rb → Laws (λ (p : A × B). wa p.0 × wb p.1) (λ (p : A × B). sa p.0 ++ sb p.1) (pair_at ra rb)
 pair_laws {A} {B} {wa} {sa} {ra} {wb} {sb} {rb} one two =

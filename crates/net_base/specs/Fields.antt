@@ -1,5 +1,5 @@
 -- The laws of fields: numbers, bytes, options and lists.
-use Rattle.std.proofs.Common.{◌≡◌, ◌⊎◌, inl, inr, ◌+◌, ◌-◌, ◌<◌, ◌≤◌, ◌^◌, ℕ, zero, suc, Bool, true, false, cond, ltb, List, [], ◌∷◌, ◌++◌, length, get_or, take, drop, replicate, Option, Some, None, Result, Ok, Err, refl, sym, ap, subst, ◌∙◌, append_assoc, arith}
+use Rattle.std.proofs.Common.{◌≡◌, inl, inr, ◌-◌, ◌<◌, ◌≤◌, ◌^◌, ℕ, zero, suc, Bool, true, false, cond, ltb, List, [], ◌∷◌, ◌++◌, length, take, drop, replicate, Option, Some, None, Result, Ok, Err, refl, sym, ap, subst, ◌∙◌, arith}
 use Rattle.std.specs.Prelude.{IfSome, ◌==◌}
 use Rattle.std.specs.List.{flat_map, AllByRecursion}
 use Rattle.std.specs.Int.{Width, w16, w32, w64, byte_len, from_be_bytes, to_be_bytes}
@@ -9,11 +9,12 @@ use Rattle.std.proofs.lemmas.List.Concat.{flat_map-cons}
 use Rattle.std.proofs.lemmas.Nat.{be_bytes_2, be_bytes_4, be_bytes_8, from_be_bytes-to_be_bytes_2, from_be_bytes-to_be_bytes_4, from_be_bytes-to_be_bytes_8}
 use Rattle.net_base.specs.Reading.{IsBytes, number}
 use Rattle.net_base.specs.Forms.{◌>>=◌, byte_at, bytes_at, number_at, below_at, option_at, items_at, list8_at, option_of, list8, ListWithin}
-use Rattle.net_base.specs.Laws.{IsFault, Laws, done, stopped, ok_is, err_is, ok_not_err, bind_ok, bind_err, IsBytes-rest}
-use Rattle.net_base.specs.Combining.{Joins, bind_laws, Seen, mapped_at, mapped_laws, pair_at, pair_laws, same_laws, restated_laws}
+use Rattle.net_base.specs.Laws.{Laws, done, ok_is, err_is, ok_not_err}
+use Rattle.net_base.specs.Combining.{bind_laws, mapped_laws, restated_laws}
 
 -- ---- nothing is read
 
+-- the laws of one value that is spelt by nothing
 pub done_laws : {V : Type 0} (v : V) → Laws (λ (w : V). w ≡ v) (λ (w : V). []) (λ (bytes : List ℕ). done (v, bytes))
 done_laws {V} v = record {
   takes = λ bytes x fits e. (ap (λ (p : V × List ℕ). p.1) (ok_is (v, bytes) x e), sym (ap (λ (p : V × List ℕ). p.0) (ok_is (v, bytes) x e)));
@@ -25,14 +26,17 @@ done_laws {V} v = record {
 
 -- ---- a byte that passes a test
 
+-- what passed a test
 pub guard_ok : {A : Type 0} (b : Bool) (d : ℕ) (x y : A) → cond b (Ok x) (Err d) ≡ Ok y → (b ≡ true) × (x ≡ y)
 guard_ok true d x y e = (refl, cc)
 guard_ok false d x y e = absurd cc
 
+-- what failed a test
 pub guard_err : {A : Type 0} (b : Bool) (d n : ℕ) (x : A) → cond b (Ok x) (Err d) ≡ Err n → (b ≡ false) × (d ≡ n)
 guard_err true d n x e = absurd cc
 guard_err {A} false d n x e = (refl, err_is {A = A} d n e)
 
+-- the laws of a byte below a limit
 pub below_laws : (limit : ℕ) → 0 < limit → Laws (λ (n : ℕ). n < limit) (λ (n : ℕ). n ∷ []) (below_at limit)
 unfolding below_at
 below_laws limit some = record {
@@ -65,21 +69,26 @@ below_laws limit some = record {
 
 -- ---- bytes of one length
 
+-- what did not fall short
 pub guard_less_ok : {A : Type 0} (b : Bool) (d : ℕ) (x y : A) → cond b (Err d) (Ok x) ≡ Ok y → (b ≡ false) × (x ≡ y)
 guard_less_ok true d x y e = absurd cc
 guard_less_ok false d x y e = (refl, cc)
 
+-- what fell short
 pub guard_less_err : {A : Type 0} (b : Bool) (d n : ℕ) (x : A) → cond b (Err d) (Ok x) ≡ Err n → (b ≡ true) × (d ≡ n)
 guard_less_err {A} true d n x e = (refl, err_is {A = A} d n e)
 guard_less_err false d n x e = absurd cc
 
+-- filled up with zeros
 filled : ℕ → List ℕ → List ℕ
 filled n bytes = bytes ++ replicate (n - length bytes) 0
 
+-- the length of what is filled up
 length-filled : (n : ℕ) (bytes : List ℕ) → length bytes < n → length (filled n bytes) ≡ n
 unfolding filled
 length-filled n bytes lt = omega (arith, length-append bytes (replicate (n - length bytes) 0), length-replicate {A = ℕ} (n - length bytes) 0)
 
+-- the laws of bytes of one length
 pub bytes_laws : (n : ℕ) → Laws (λ (b : List ℕ). length b ≡ n) (λ (b : List ℕ). b) (bytes_at n)
 unfolding filled bytes_at
 bytes_laws n = record {
@@ -107,6 +116,7 @@ bytes_laws n = record {
 
 -- ---- numbers
 
+-- a width's numbers and their bytes
 pub record IsWide (w : Width) (limit : ℕ) : Type 0 where
   pub len : (n : ℕ) → length (to_be_bytes w n) ≡ byte_len w
   pub back : (bytes : List ℕ) → length bytes ≡ byte_len w → IsBytes bytes → to_be_bytes w (from_be_bytes w bytes) ≡ bytes
@@ -114,6 +124,7 @@ pub record IsWide (w : Width) (limit : ℕ) : Type 0 where
   pub below : (bytes : List ℕ) → IsBytes bytes → from_be_bytes w bytes < limit
   pub some : 0 < limit
 
+-- numbers of 16 bits
 pub wide16 : IsWide w16 (2 ^ 16)
 wide16 = record {
   len = λ n. refl;
@@ -123,6 +134,7 @@ wide16 = record {
   some = omega arith;
 }
 
+-- numbers of 32 bits
 pub wide32 : IsWide w32 (2 ^ 32)
 wide32 = record {
   len = λ n. refl;
@@ -132,6 +144,7 @@ wide32 = record {
   some = omega arith;
 }
 
+-- numbers of 64 bits
 pub wide64 : IsWide w64 (2 ^ 64)
 wide64 = record {
   len = λ n. refl;
@@ -141,6 +154,7 @@ wide64 = record {
   some = omega arith;
 }
 
+-- the first of some bytes are bytes
 IsBytes-take : (n : ℕ) (bytes : List ℕ) → IsBytes bytes → IsBytes (take n bytes)
 IsBytes-take n bytes h i =
     elim (cases_lt i n) [
@@ -148,6 +162,7 @@ IsBytes-take n bytes h i =
       | inr le ↦ rw (get_or_past (take n bytes) i 0 (omega (arith, length-take n bytes))) (omega arith)
     ]
 
+-- zeros are bytes
 IsBytes-zeros : (n : ℕ) → IsBytes (replicate n 0)
 IsBytes-zeros n i =
     elim (cases_lt i n) [
@@ -155,6 +170,7 @@ IsBytes-zeros n i =
       | inr le ↦ rw (get_or_past {X = ℕ} (replicate n 0) i 0 (omega (arith, length-replicate {A = ℕ} n 0))) (omega arith)
     ]
 
+-- bytes after bytes are bytes
 pub IsBytes-append : (a b : List ℕ) → IsBytes a → IsBytes b → IsBytes (a ++ b)
 IsBytes-append a b ha hb i =
     elim (cases_lt i (length a)) [
@@ -162,6 +178,7 @@ IsBytes-append a b ha hb i =
       | inr le ↦ rw (get_or-append_right a b (length a) i 0 refl le) (hb (i - length a))
     ]
 
+-- the laws of numbers of a width
 pub number_laws : (w : Width) (limit : ℕ) → IsWide w limit → Laws (λ (n : ℕ). n < limit) (λ (n : ℕ). number w n) (number_at w)
 unfolding filled number number_at
 number_laws w limit wide = record {
@@ -192,25 +209,31 @@ number_laws w limit wide = record {
   some_within = wide.some;
 }
 
+-- the laws of numbers of 16 bits
 pub u16_laws : Laws (λ (n : ℕ). n < 2 ^ 16) (λ (n : ℕ). number w16 n) (number_at w16)
 u16_laws = number_laws w16 (2 ^ 16) wide16
 
+-- the laws of numbers of 32 bits
 pub u32_laws : Laws (λ (n : ℕ). n < 2 ^ 32) (λ (n : ℕ). number w32 n) (number_at w32)
 u32_laws = number_laws w32 (2 ^ 32) wide32
 
+-- the laws of numbers of 64 bits
 pub u64_laws : Laws (λ (n : ℕ). n < 2 ^ 64) (λ (n : ℕ). number w64 n) (number_at w64)
 u64_laws = number_laws w64 (2 ^ 64) wide64
 
 -- ---- options
 
+-- the flag of an option
 flag_of : {V : Type 0} → Option V → ℕ
 flag_of None = 0
 flag_of (Some v) = 1
 
+-- what stands behind the flag
 behind : {V : Type 0} → (V → List ℕ) → Option V → List ℕ
 behind spell None = []
 behind spell (Some v) = spell v
 
+-- the laws of options
 pub option_laws : {V : Type 0} {within : V → Type 0} {spelling : V → List ℕ} {reading : List ℕ → Result (V × List ℕ) ℕ}
     → Laws within spelling reading → Laws (λ (o : Option V). IfSome o within) (λ (o : Option V). option_of spelling o) (option_at reading)
 unfolding option_at flag_of behind
@@ -228,6 +251,7 @@ option_laws {V} {within} {spelling} {reading} one =
 
 -- ---- lists
 
+-- the laws of n items
 pub items_laws : {V : Type 0} {within : V → Type 0} {spelling : V → List ℕ} {reading : List ℕ → Result (V × List ℕ) ℕ}
     → Laws within spelling reading → (n : ℕ) → Laws (λ (vs : List V). (length vs ≡ n) × AllByRecursion within vs) (λ (vs : List V). flat_map spelling vs) (items_at reading n)
 unfolding items_at
@@ -244,6 +268,7 @@ items_laws {V} {within} {spelling} {reading} one (suc n) =
       split = elim [ [] ↦ λ h. absurd cc | v ∷ vs ↦ λ h. (v, (h.1.0, (vs, ((omega (arith, h.0), h.1.1), refl)))) ];
     })
 
+-- the laws of a byte of count and the items
 pub list8_laws : {V : Type 0} {within : V → Type 0} {spelling : V → List ℕ} {reading : List ℕ → Result (V × List ℕ) ℕ} (limit : ℕ)
     → Laws within spelling reading → Laws (λ (vs : List V). ListWithin limit within vs) (λ (vs : List V). list8 spelling vs) (list8_at limit reading)
 unfolding list8_at
@@ -257,6 +282,7 @@ list8_laws {V} {within} {spelling} {reading} limit one =
 
 -- ---- a byte
 
+-- the laws of a byte
 pub byte_laws : Laws (λ (n : ℕ). n < 256) (λ (n : ℕ). n ∷ []) byte_at
 byte_laws = record {
   takes = elim [

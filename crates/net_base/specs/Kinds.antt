@@ -1,13 +1,12 @@
 -- Values that begin with a byte of kind.
-use Rattle.std.proofs.Common.{◌≡◌, ◌⊎◌, inl, inr, ◌<◌, ◌≤◌, ℕ, zero, suc, Bool, true, false, cond, List, [], ◌∷◌, ◌++◌, length, map, Result, Ok, Err, refl, sym, ap, subst, ◌∙◌, arith}
+use Rattle.std.proofs.Common.{◌≡◌, ◌<◌, ◌≤◌, ℕ, suc, Bool, true, false, cond, List, [], ◌∷◌, length, Result, Ok, Err, refl, ap, subst, ◌∙◌, arith}
 use Rattle.std.specs.Prelude.{nat_eq, nat_le, nat_lt, ◌||◌, ◌&&◌}
 use Rattle.std.specs.List.{list_any}
 use Rattle.std.proofs.lemmas.Bool.{eqb-true, le-leb, lt-ltb}
 use Rattle.std.proofs.lemmas.Bool.Decides.{nat_tests}
-use Rattle.net_base.specs.Reading.{IsBytes}
 use Rattle.net_base.specs.Forms.{◌>>=◌, byte_at}
-use Rattle.net_base.specs.Laws.{IsFault, Laws, done, stopped, ok_is, err_is, ok_not_err, bind_ok, bind_err}
-use Rattle.net_base.specs.Combining.{Joins, bind_laws, mapped_at, mapped_laws, pair_laws, restated_laws}
+use Rattle.net_base.specs.Laws.{Laws, done, err_is}
+use Rattle.net_base.specs.Combining.{bind_laws, restated_laws}
 use Rattle.net_base.specs.Fields.{guard_ok, guard_err, done_laws}
 
 -- one of these kinds
@@ -20,10 +19,12 @@ arms_at [] k bytes = Err 0
 arms_at (a ∷ []) k bytes = a.1 bytes
 arms_at (a ∷ b ∷ more) k bytes = cond (nat_eq a.0 k) (a.1 bytes) (arms_at (b ∷ more) k bytes)
 
+-- the kinds of arms
 abbrev pub kinds_of : {V : Type 0} → List (ℕ × (List ℕ → Result (V × List ℕ) ℕ)) → List ℕ
 kinds_of [] = []
 kinds_of (a ∷ arms) = a.0 ∷ kinds_of arms
 
+-- reading a byte of kind, and what stands behind it
 abbrev pub cases_at : {V : Type 0} → List (ℕ × (List ℕ → Result (V × List ℕ) ℕ)) → List ℕ → Result (V × List ℕ) ℕ
 cases_at arms bytes = kind_at (kinds_of arms) bytes >>= λ k. arms_at arms k.0 k.1
 
@@ -32,6 +33,7 @@ abbrev pub ArmsLaws : {V : Type 0} → (V → Type 0) → (V → ℕ) → (V →
 ArmsLaws within kind body [] = Unit {0}
 ArmsLaws {V} within kind body (a ∷ arms) = Laws (λ (v : V). within v × (kind v ≡ a.0)) body a.1 × ArmsLaws within kind body arms
 
+-- the laws of a byte of kind
 pub kind_laws : (first : ℕ) (kinds : List ℕ) → list_any (λ y. nat_eq y first) kinds ≡ true → Laws (λ (k : ℕ). list_any (λ y. nat_eq y k) kinds ≡ true) (λ (k : ℕ). k ∷ []) (kind_at kinds)
 unfolding kind_at
 kind_laws first kinds is_first = record {
@@ -67,14 +69,17 @@ pub cond_laws : {V : Type 0} {within : V → Type 0} {spelling : V → List ℕ}
 cond_laws true r s holds fails = holds refl
 cond_laws false r s holds fails = fails refl
 
+-- if not the one, then the other
 or_else : (a b : Bool) → (a || b) ≡ true → a ≡ false → b ≡ true
 or_else true b e fails = absurd cc
 or_else false b e fails = e
 
+-- the last of the tests
 or_last : (a : Bool) → (a || false) ≡ true → a ≡ true
 or_last true e = refl
 or_last false e = absurd cc
 
+-- the laws of what stands behind one kind
 arm_laws : {V : Type 0} {within : V → Type 0} {kind : V → ℕ} {body : V → List ℕ} (arms : List (ℕ × (List ℕ → Result (V × List ℕ) ℕ))) (k : ℕ)
     → ArmsLaws within kind body arms → list_any (λ y. nat_eq y k) (kinds_of arms) ≡ true → Laws (λ (v : V). within v × (kind v ≡ k)) body (arms_at arms k)
 arm_laws [] k laws among = absurd cc
@@ -86,6 +91,7 @@ arm_laws {V} {within} {kind} {body} (a ∷ b ∷ more) k laws among =
     (λ holds. subst (λ (n : ℕ). Laws (λ (v : V). within v × (kind v ≡ n)) body a.1) (eqb-true a.0 k holds) laws.0)
     (λ fails. arm_laws (b ∷ more) k laws.1 (or_else (nat_eq a.0 k) (list_any (λ y. nat_eq y k) (kinds_of (b ∷ more))) among fails))
 
+-- the laws of values that begin with a byte of kind
 pub cases_laws : {V : Type 0} {within : V → Type 0} {kind : V → ℕ} {body : V → List ℕ} {spelling : V → List ℕ} (arms : List (ℕ × (List ℕ → Result (V × List ℕ) ℕ))) (first : ℕ)
     → list_any (λ y. nat_eq y first) (kinds_of arms) ≡ true
     → ((v : V) → within v → (list_any (λ y. nat_eq y (kind v)) (kinds_of arms) ≡ true) × (spelling v ≡ kind v ∷ body v))
@@ -104,18 +110,23 @@ bare_laws {V} {within} {spelling} v h e only = restated_laws (λ w is. rw is (h,
 
 -- ---- a byte from low up to below high
 
+-- reading a byte from low up to below high
 unfoldable pub between_at : ℕ → ℕ → List ℕ → Result (ℕ × List ℕ) ℕ
 between_at low high bytes = byte_at bytes >>= λ x. cond (nat_le low x.0 && nat_lt x.0 high) (Ok x) (Err (length bytes))
 
+-- from low up to below high
 abbrev pub IsBetween : ℕ → ℕ → ℕ → Type 0
 IsBetween low high n = (low ≤ n) × (n < high)
 
+-- what is between passes the test
 between_test : (low high n : ℕ) → IsBetween low high n → (nat_le low n && nat_lt n high) ≡ true
 between_test low high n h = rw (le-leb low n h.0, lt-ltb n high h.1) refl
 
+-- what passes the test is between
 test_between : (low high n : ℕ) → (nat_le low n && nat_lt n high) ≡ true → IsBetween low high n
 test_between low high n e = grind (arith, nat_tests)
 
+-- the laws of a byte from low up to below high
 pub between_laws : (low high : ℕ) → low < high → Laws (λ (n : ℕ). IsBetween low high n) (λ (n : ℕ). n ∷ []) (between_at low high)
 unfolding between_at
 between_laws low high lt = record {

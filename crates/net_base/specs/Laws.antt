@@ -1,6 +1,6 @@
 -- The laws of a spelling, and of a spelling that is made of others.
-use Rattle.std.proofs.Common.{◌≡◌, ◌⊎◌, inl, inr, ◌+◌, ◌-◌, ◌<◌, ◌≤◌, ℕ, zero, suc, Bool, true, false, cond, ltb, List, [], ◌∷◌, ◌++◌, length, get_or, take, drop, Result, Ok, Err, refl, sym, ap, subst, ◌∙◌, append_assoc, arith}
-use Rattle.std.proofs.lemmas.List.{append_cancel_left, get_or-append-add, nil_from_length}
+use Rattle.std.proofs.Common.{◌≡◌, ◌⊎◌, inl, inr, ◌+◌, ℕ, List, [], ◌∷◌, ◌++◌, length, Result, Ok, Err, refl, sym, ap, ◌∙◌}
+use Rattle.std.proofs.lemmas.List.{get_or-append-add}
 use Rattle.net_base.specs.Reading.{IsBytes}
 use Rattle.net_base.specs.Forms.{◌>>=◌}
 
@@ -23,29 +23,37 @@ pub record Laws {V : Type 0} (within : V → Type 0) (spelling : V → List ℕ)
 
 -- ---- tools
 
+-- what was read
 abbrev pub done : {A : Type 0} → A → Result A ℕ
 done x = Ok x
 
+-- nothing was read
 abbrev pub stopped : {A : Type 0} → ℕ → Result A ℕ
 stopped x = Err x
 
+-- what was read is one value
 pub ok_is : {A : Type 0} (x y : A) → done x ≡ done y → x ≡ y
 ok_is x y e = cc
 
+-- a fault is one number
 pub err_is : {A : Type 0} (x y : ℕ) → stopped {A = A} x ≡ stopped y → x ≡ y
 err_is x y e = cc
 
+-- what was read is no fault
 pub ok_not_err : {A : Type 0} (r : Result A ℕ) (x : A) (n : ℕ) → r ≡ Ok x → r ≡ Err n → ⊥
 ok_not_err r x n e f = absurd cc
 
+-- a second part was read, so a first one was
 pub bind_ok : {A B : Type 0} (r : Result A ℕ) (f : A → Result B ℕ) (y : B) → (r >>= f) ≡ Ok y → (x : A) × ((r ≡ Ok x) × (f x ≡ Ok y))
 bind_ok (Ok x) f y e = (x, (refl, e))
 bind_ok (Err d) f y e = absurd cc
 
+-- a fault is one of the first part or of the second
 pub bind_err : {A B : Type 0} (r : Result A ℕ) (f : A → Result B ℕ) (n : ℕ) → (r >>= f) ≡ Err n → (r ≡ Err n) ⊎ ((x : A) × ((r ≡ Ok x) × (f x ≡ Err n)))
 bind_err {A} (Ok x) f n e = inr (x, (refl, e))
 bind_err {A} (Err d) f n e = inl (ap (λ (k : ℕ). stopped {A = A} k) (err_is d n e))
 
+-- the last of some bytes are bytes
 pub IsBytes-rest : (a b : List ℕ) → IsBytes (a ++ b) → IsBytes b
 IsBytes-rest a b h i = rw (← get_or-append-add a b i 0) (h (length a + i))
 

@@ -3,14 +3,13 @@ use Rattle.std.proofs.Common.{◌≡◌, ◌⊎◌, inl, inr, ◌<◌, ◌≤◌
 use Rattle.std.specs.Prelude.{◌==◌, filter}
 use Rattle.std.specs.List.{flat_map, AllByRecursion, range_with_len}
 use Rattle.std.proofs.lemmas.List.Concat.{flat_map-cons}
-use Rattle.std.proofs.lemmas.Nat.{pow_pos}
 use Rattle.std.proofs.lemmas.Bool.{cases_lt}
 use Rattle.std.proofs.lemmas.List.{length-append}
 use Rattle.std.proofs.Math.Nat.{div-div-eq-div-mul, pow-suc}
 use Rattle.net_base.specs.Laws.{Laws}
 use Rattle.net_base.specs.Combining.{mapped_at, mapped_laws, restated_laws}
-use Rattle.net_base.specs.Kinds.{IsBetween, between_at, between_laws}
-use Rattle.net_base.specs.Runs.{Ascends, AscendingWithin, ascending8_at, ascending8_laws}
+use Rattle.net_base.specs.Kinds.{between_at, between_laws}
+use Rattle.net_base.specs.Runs.{Ascends, ascending8_at, ascending8_laws}
 use Rattle.net_base.specs.declared.parties.PartySet.{PartySet}
 
 -- whether a party is in a set: the party's bit is 1
@@ -68,14 +67,17 @@ members_is s = from_bits s.0 0 16 s.0 (let one : s.0 / 2 ^ 0 ≡ s.0 = omega ari
 
 -- ---- a number below 2 ^ n is the set of its bits
 
+-- a number whose bits are these parties
 record Known (i n bits : ℕ) (ps : List ℕ) : Type 0 where
   fits : bits < 2 ^ n
   same : members_from i n bits ≡ ps
   worth : bits_of ps ≡ 2 ^ i * bits
 
+-- the next power of two
 pow_double : (n : ℕ) → 2 ^ suc n ≡ 2 * 2 ^ n
 pow_double n = omega arith
 
+-- a lowest bit that is 1 stands for a member
 odd_member : (i n bits : ℕ) → members_from i (suc n) (1 + 2 * bits) ≡ i ∷ members_from (suc i) n bits
 unfolding members_from
 odd_member i n bits =
@@ -83,6 +85,7 @@ odd_member i n bits =
     let q : (1 + 2 * bits) / 2 ≡ bits = omega arith in
     rw (r, q) refl
 
+-- a lowest bit that is 0 stands for none
 even_member : (i n bits : ℕ) → members_from i (suc n) (2 * bits) ≡ members_from (suc i) n bits
 unfolding members_from
 even_member i n bits =
@@ -90,6 +93,7 @@ even_member i n bits =
     let q : (2 * bits) / 2 ≡ bits = omega arith in
     rw (r, q) refl
 
+-- the first party is i, or all are greater
 higher : (i : ℕ) (ps : List ℕ) → AllByRecursion (λ p. p < 16) ps → Ascends (λ p. p) i ps → (AllByRecursion (λ p. p < 16) ps × Ascends (λ p. p) (suc i) ps) ⊎ ((rest : List ℕ) × ((ps ≡ i ∷ rest) × (AllByRecursion (λ p. p < 16) rest × Ascends (λ p. p) (suc i) rest)))
 higher i [] all up = inl (tt, tt)
 higher i (p ∷ ps) all up =
@@ -100,9 +104,11 @@ higher i (p ∷ ps) all up =
           inr (ps, (ap (λ (k : ℕ). k ∷ ps) same, (all.1, subst (λ (k : ℕ). Ascends (λ (q : ℕ). q) (suc k) ps) same up.1)))
     ]
 
+-- bits one place further on
 twice : (i b : ℕ) → 2 ^ suc i * b ≡ 2 ^ i * (2 * b)
 twice i b = let p = pow_double i in grind (arith, p)
 
+-- ascending parties are the bits of a number
 known : (i n : ℕ) (ps : List ℕ) → i + n ≡ 16 → AllByRecursion (λ p. p < 16) ps → Ascends (λ p. p) i ps → (bits : ℕ) × Known i n bits ps
 unfolding members_from
 known i zero [] e all up = (0, record { fits = omega arith; same = refl; worth = omega arith })
@@ -124,10 +130,12 @@ record Members (i n bits : ℕ) : Type 0 where
   up : Ascends (λ p. p) i (members_from i n bits)
   worth : bits_of (members_from i n bits) ≡ 2 ^ i * bits
 
+-- what ascends from the next ascends from here
 lower : (low : ℕ) (ps : List ℕ) → Ascends (λ p. p) (suc low) ps → Ascends (λ p. p) low ps
 lower low [] up = tt
 lower low (p ∷ ps) up = (omega (arith, up.0), up.1)
 
+-- the bits of a number are ascending parties
 made : (i n bits : ℕ) → bits < 2 ^ n → Members i n bits
 unfolding members_from
 made i zero bits lt = let none : bits ≡ 0 = omega arith in record { all = tt; up = tt; worth = rw none (omega arith) }
@@ -158,10 +166,12 @@ made i (suc n) bits lt =
           }
     ]
 
+-- parties, each of one byte
 singles : (ps : List ℕ) → flat_map (λ p. p ∷ []) ps ≡ ps
 singles [] = refl
 singles (p ∷ ps) = flat_map-cons (λ (q : ℕ). q ∷ []) p ps ∙ ap (λ (l : List ℕ). p ∷ l) (singles ps)
 
+-- n bits stand for at most n parties
 pub few_members : (i n bits : ℕ) → length (members_from i n bits) ≤ n
 unfolding members_from
 few_members i zero bits = omega arith
@@ -192,10 +202,12 @@ party_set_laws =
 
 -- ---- a bit at a time, as loops go
 
+-- one more party, or not
 picked : (b : Bool) (p : ℕ) (ps : List ℕ) → cond b (p ∷ ps) ps ≡ (cond b (p ∷ []) []) ++ ps
 picked true p ps = refl
 picked false p ps = refl
 
+-- a bit counts one member or none
 one_bit : (i bits : ℕ) → length (cond (bits % 2 == 1) (i ∷ []) []) ≡ bits % 2
 one_bit i bits =
     elim (cases_lt (bits % 2) 1) [
@@ -203,6 +215,7 @@ one_bit i bits =
       | inr ge ↦ let e : bits % 2 ≡ 1 = omega arith in rw e refl
     ]
 
+-- the members, one bit further on
 pub member_step : (i n bits : ℕ) → i < 16 → n ≡ 16 - i → members_from i n bits ≡ (cond (bits % 2 == 1) (i ∷ []) []) ++ members_from (i + 1) (16 - (i + 1)) (bits / 2)
 unfolding members_from
 member_step i n bits lt e =
@@ -210,18 +223,22 @@ member_step i n bits lt e =
     let j : suc i ≡ i + 1 = omega arith in
     rw (k, ← j) (picked (bits % 2 == 1) i (members_from (suc i) (16 - suc i) (bits / 2)))
 
+-- the number of members, one bit further on
 pub count_step : (i bits : ℕ) → i < 16 → length (members_from i (16 - i) bits) ≡ bits % 2 + length (members_from (i + 1) (16 - (i + 1)) (bits / 2))
 count_step i bits lt = ap length (member_step i (16 - i) bits lt refl) ∙ length-append _ _ ∙ ap (λ (k : ℕ). k + length (members_from (i + 1) (16 - (i + 1)) (bits / 2))) (one_bit i bits)
 
+-- no bits, no members
 pub no_member : (i n bits : ℕ) → n ≡ 0 → members_from i n bits ≡ []
 unfolding members_from
 no_member i n bits e = rw e refl
 
+-- a party that is written
 pub step_in : (i bits : ℕ) (text whole : List ℕ) → i < 16 → bits % 2 ≡ 1 → text ++ members_from i (16 - i) bits ≡ whole → (text ++ i ∷ []) ++ members_from (i + 1) (16 - (i + 1)) (bits / 2) ≡ whole
 step_in i bits text whole lt odd so_far =
     let step : members_from i (16 - i) bits ≡ i ∷ members_from (i + 1) (16 - (i + 1)) (bits / 2) = member_step i (16 - i) bits lt refl ∙ ap (λ (r : ℕ). (cond (r == 1) (i ∷ []) []) ++ members_from (i + 1) (16 - (i + 1)) (bits / 2)) odd in
     append_assoc text (i ∷ []) _ ∙ ap (λ (l : List ℕ). text ++ l) (sym step) ∙ so_far
 
+-- a party that is passed over
 pub step_out : (i bits : ℕ) (text whole : List ℕ) → i < 16 → bits % 2 ≢ 1 → text ++ members_from i (16 - i) bits ≡ whole → text ++ members_from (i + 1) (16 - (i + 1)) (bits / 2) ≡ whole
 step_out i bits text whole lt not_odd so_far =
     let even : bits % 2 ≡ 0 = omega arith in

@@ -1,9 +1,9 @@
 -- What functions that read and write parts of a value do.
 use Rattle.std.specs.Prelude.{◌≡◌, ◌+◌, ℕ, List, ◌++◌, length, Result, Ok, Err}
-use Rattle.net_base.specs.declared.part.PartFault.{PartFault}
-use Rattle.net_base.specs.declared.part.PartFault.TheVariants as faults
-use Rattle.net_base.specs.declared.part.DecodeFault.{DecodeFault}
-use Rattle.net_base.specs.declared.part.DecodeFault.TheVariants as decoding
+use Rattle.net_base.specs.declared.fault.PartFault.{PartFault}
+use Rattle.net_base.specs.declared.fault.PartFault.TheVariants as faults
+use Rattle.net_base.specs.declared.fault.DecodeFault.{DecodeFault}
+use Rattle.net_base.specs.declared.fault.DecodeFault.TheVariants as decoding
 use Rattle.net_base.specs.Reading.{Reading}
 use Rattle.net_base.specs.Laws.{IsFault}
 
@@ -11,6 +11,7 @@ use Rattle.net_base.specs.Laws.{IsFault}
 abbrev pub SameEnd : Reading → Reading → Type 0
 SameEnd old new = new.place + length new.left ≡ old.place + length old.left
 
+-- memory ran out, or reading fails as told
 abbrev pub Fails : {Y : Type 0} → PartFault → Result Y ℕ → Type 0
 Fails faults.Memory read = Unit {0}
 Fails (faults.Left n) read = read ≡ Err n
@@ -56,6 +57,7 @@ pub record IsFirstFault {V : Type 0} (within : V → Type 0) (spelling : V → L
   pub fault : IsFault within spelling bytes left
   pub none : (v : V) → within v → bytes ≡ spelling v → ⊥
 
+-- memory ran out, or the first place at which no spelling goes on
 abbrev pub WholeFault : {V : Type 0} → (V → Type 0) → (V → List ℕ) → List ℕ → DecodeFault → Type 0
 WholeFault within spelling bytes decoding.Memory = Unit {0}
 WholeFault within spelling bytes (decoding.Malformed at) = IsFirstFault within spelling bytes at

@@ -1,6 +1,6 @@
 -- What a reader and a writer do.
 use Rattle.std.specs.Int.{Width, to_be_bytes}
-use Rattle.std.specs.Prelude.{◌≡◌, ◌+◌, ◌<◌, ◌≤◌, ℕ, List, [], ◌∷◌, ◌++◌, length, take, drop, get_or, Result, Ok, Err}
+use Rattle.std.specs.Prelude.{◌≡◌, ◌+◌, ◌<◌, ◌≤◌, ℕ, List, ◌++◌, length, drop, get_or, Result, Ok, Err}
 
 -- the bytes that are left, and how many were read
 pub record Reading : Type 0 where

@@ -1,9 +1,8 @@
 -- Lists in which what an item may be depends on those before it, and on how many come after it.
-use Rattle.std.proofs.Common.{◌≡◌, ◌<◌, ◌≤◌, ◌+◌, ◌-◌, ℕ, zero, suc, List, [], ◌∷◌, ◌++◌, length, drop, Result, Ok, Err, refl, sym, ap, subst, ◌∙◌, arith}
+use Rattle.std.proofs.Common.{◌≡◌, ◌<◌, ◌≤◌, ◌+◌, ◌-◌, ℕ, zero, suc, List, [], ◌∷◌, length, drop, Result, Ok, refl, sym, ap, subst, arith}
 use Rattle.std.specs.List.{flat_map, AllByRecursion}
 use Rattle.std.proofs.lemmas.List.{nil_from_length}
 use Rattle.std.proofs.lemmas.List.Concat.{flat_map-cons}
-use Rattle.net_base.specs.Reading.{IsBytes}
 use Rattle.net_base.specs.Forms.{◌>>=◌, below_at}
 use Rattle.net_base.specs.Laws.{Laws}
 use Rattle.net_base.specs.Combining.{bind_laws, mapped_laws, restated_laws}
@@ -15,10 +14,12 @@ unfoldable pub run_at : {S V : Type 0} → (ℕ → S → List ℕ → Result (V
 run_at step next zero s bytes = Ok ([], bytes)
 run_at step next (suc n) s bytes = step n s bytes >>= λ x. run_at step next n (next s x.0) x.1 >>= λ xs. Ok (x.0 ∷ xs.0, xs.1)
 
+-- each item is within what its state and the number of items behind it allow
 abbrev pub Runs : {S V : Type 0} → (ℕ → S → V → Type 0) → (S → V → S) → S → List V → Type 0
 Runs within next s [] = Unit {0}
 Runs within next s (v ∷ vs) = within (length vs) s v × Runs within next (next s v) vs
 
+-- the laws of n items from a state on
 pub run_laws : {S V : Type 0} {within : ℕ → S → V → Type 0} {spelling : V → List ℕ} {step : ℕ → S → List ℕ → Result (V × List ℕ) ℕ} (good : ℕ → S → Type 0) (next : S → V → S)
     → ((n : ℕ) (s : S) → good (suc n) s → Laws (within n s) spelling (step n s))
     → ((n : ℕ) (s : S) (v : V) → good (suc n) s → within n s v → good n (next s v))
@@ -49,9 +50,11 @@ abbrev pub Ascends : {V : Type 0} → (V → ℕ) → ℕ → List V → Type 0
 Ascends key low [] = Unit {0}
 Ascends key low (v ∷ vs) = (low ≤ key v) × Ascends key (suc (key v)) vs
 
+-- reading n items with ascending keys, each low enough for those behind it
 abbrev pub ascending_at : {V : Type 0} → (V → ℕ) → ℕ → (ℕ → ℕ → List ℕ → Result (V × List ℕ) ℕ) → ℕ → List ℕ → Result (List V × List ℕ) ℕ
 ascending_at key limit read n bytes = run_at (λ k low. read low (limit - k)) (λ low v. key v + 1) n 0 bytes
 
+-- reading a byte of count, and items with ascending keys
 unfoldable pub ascending8_at : {V : Type 0} → (V → ℕ) → ℕ → (ℕ → ℕ → List ℕ → Result (V × List ℕ) ℕ) → List ℕ → Result (List V × List ℕ) ℕ
 ascending8_at key limit read bytes = below_at (limit + 1) bytes >>= λ n. ascending_at key limit read n.0 n.1
 
@@ -59,9 +62,11 @@ ascending8_at key limit read bytes = below_at (limit + 1) bytes >>= λ n. ascend
 abbrev pub AscendingWithin : {V : Type 0} → ℕ → (V → ℕ) → (V → Type 0) → List V → Type 0
 AscendingWithin limit key within vs = (length vs ≤ limit) × (AllByRecursion within vs × Ascends key 0 vs)
 
+-- the limits of an item with n items behind it
 abbrev Between : {V : Type 0} → (V → ℕ) → ℕ → (V → Type 0) → ℕ → ℕ → V → Type 0
 Between key limit within n low v = within v × IsBetween low (limit - n) (key v)
 
+-- keys that ascend leave room for those behind
 room_left : {V : Type 0} (key : V → ℕ) (limit : ℕ) (within : V → Type 0) → ((v : V) → within v → key v < limit) → (low : ℕ) (vs : List V) → low ≤ limit → AllByRecursion within vs → Ascends key low vs → low + length vs ≤ limit
 room_left key limit within below low [] le all up = omega arith
 room_left key limit within below low (v ∷ vs) le all up =
@@ -69,6 +74,7 @@ room_left key limit within below low (v ∷ vs) le all up =
     let rest = room_left key limit within below (suc (key v)) vs (omega arith) all.1 up.1 in
     omega (arith, rest, up.0)
 
+-- ascending items are a run
 to_runs : {V : Type 0} (key : V → ℕ) (limit : ℕ) (within : V → Type 0) → ((v : V) → within v → key v < limit) → (low : ℕ) (vs : List V) → AllByRecursion within vs → Ascends key low vs → Runs (Between key limit within) (λ (k : ℕ) (v : V). key v + 1) low vs
 to_runs key limit within below low [] all up = tt
 to_runs key limit within below low (v ∷ vs) all up =
@@ -77,6 +83,7 @@ to_runs key limit within below low (v ∷ vs) all up =
     let one : key v + 1 ≡ suc (key v) = omega arith in
     ((all.0, (up.0, omega (arith, room))), rw one (to_runs key limit within below (suc (key v)) vs all.1 up.1))
 
+-- a run is ascending items
 from_runs : {V : Type 0} (key : V → ℕ) (limit : ℕ) (within : V → Type 0) (low : ℕ) (vs : List V) → Runs (Between key limit within) (λ (k : ℕ) (v : V). key v + 1) low vs → AllByRecursion within vs × Ascends key low vs
 from_runs key limit within low [] runs = (tt, tt)
 from_runs key limit within low (v ∷ vs) runs =
@@ -84,6 +91,7 @@ from_runs key limit within low (v ∷ vs) runs =
     let rest = from_runs key limit within (suc (key v)) vs (subst (λ (k : ℕ). Runs (Between key limit within) (λ (k : ℕ) (v : _). key v + 1) k vs) one runs.1) in
     ((runs.0.0, rest.0), (runs.0.1.0, rest.1))
 
+-- the laws of a byte of count and items with ascending keys
 pub ascending8_laws : {V : Type 0} {within : V → Type 0} {spelling : V → List ℕ} {read : ℕ → ℕ → List ℕ → Result (V × List ℕ) ℕ} (key : V → ℕ) (limit : ℕ)
     → ((v : V) → within v → key v < limit)
     → ((low high : ℕ) → low < high → high ≤ limit → Laws (λ (v : V). within v × IsBetween low high (key v)) spelling (read low high))

@@ -1,21 +1,23 @@
 -- Bytes and numbers that are tested where they stand.
-use Rattle.std.proofs.Common.{◌≡◌, ◌≢◌, ◌⊎◌, inl, inr, ◌+◌, ◌-◌, ◌*◌, ◌/◌, ◌%◌, ◌<◌, ◌≤◌, ◌^◌, ℕ, zero, suc, Bool, true, false, cond, List, [], ◌∷◌, ◌++◌, length, take, drop, replicate, get_or, Result, Ok, Err, refl, sym, ap, subst, ◌∙◌, append_assoc, arith}
+use Rattle.std.proofs.Common.{◌≡◌, ◌≢◌, ◌⊎◌, inl, inr, ◌+◌, ◌-◌, ◌/◌, ◌%◌, ◌<◌, ◌^◌, ℕ, suc, Bool, true, false, cond, List, [], ◌∷◌, ◌++◌, length, take, drop, replicate, get_or, Result, Ok, Err, refl, sym, ap, subst, ◌∙◌, append_assoc, arith}
 use Rattle.std.specs.Prelude.{nat_eq, nat_lt, not, ◌&&◌}
 use Rattle.std.specs.Int.{Width, w32, w64, byte_len, from_be_bytes, to_be_bytes}
 use Rattle.std.proofs.lemmas.Bool.{eqb-true, eqb-false, ne_eqb, lt-ltb, ltb-true, cases_lt}
 use Rattle.std.proofs.lemmas.Bool.Decides.{nat_tests}
-use Rattle.std.proofs.lemmas.List.{append_cancel_left, length-append, length-replicate, nil_from_length, get_or-append_right, get_or-replicate, get_or_past, get_or_at, append-nil}
+use Rattle.std.proofs.lemmas.List.{length-append, length-replicate, nil_from_length, get_or-append_right, get_or-replicate, get_or_past, get_or_at, append-nil}
 use Rattle.net_base.specs.Reading.{IsBytes, number}
 use Rattle.net_base.specs.Forms.{◌>>=◌, byte_at, number_at}
-use Rattle.net_base.specs.Laws.{IsFault, Laws, done, stopped, ok_is, err_is, ok_not_err, bind_ok, bind_err, cancels}
+use Rattle.net_base.specs.Laws.{IsFault, Laws, err_is, bind_ok, bind_err, cancels}
 use Rattle.net_base.specs.Combining.{restated_laws}
-use Rattle.net_base.specs.Fields.{guard_ok, guard_err, guard_less_ok, guard_less_err, IsWide, wide32, wide64, number_laws, u32_laws, u64_laws, IsBytes-append}
+use Rattle.net_base.specs.Fields.{guard_ok, guard_err, guard_less_ok, guard_less_err, IsWide, wide32, wide64, number_laws, IsBytes-append}
 
 -- ---- a byte that passes a test
 
+-- reading a byte that passes a test
 abbrev pub tested_at : (ℕ → Bool) → List ℕ → Result (ℕ × List ℕ) ℕ
 tested_at test bytes = byte_at bytes >>= λ x. cond (test x.0) (Ok x) (Err (length bytes))
 
+-- the laws of a byte that passes a test
 pub tested_laws : (test : ℕ → Bool) (first : ℕ) → test first ≡ true → Laws (λ (n : ℕ). test n ≡ true) (λ (n : ℕ). n ∷ []) (tested_at test)
 tested_laws test first is_first = record {
   takes = elim [
@@ -49,12 +51,15 @@ tested_laws test first is_first = record {
 unfoldable pub below_except_at : ℕ → ℕ → List ℕ → Result (ℕ × List ℕ) ℕ
 below_except_at limit other = tested_at (λ n. nat_lt n limit && not (nat_eq n other))
 
+-- such a byte passes the test
 below_except_test : (limit other n : ℕ) → n < limit → n ≢ other → (nat_lt n limit && not (nat_eq n other)) ≡ true
 below_except_test limit other n lt ne = rw (lt-ltb n limit lt, ne_eqb n other ne) refl
 
+-- what passes the test is such a byte
 test_below_except : (limit other n : ℕ) → (nat_lt n limit && not (nat_eq n other)) ≡ true → (n < limit) × (n ≢ other)
 test_below_except limit other n e = grind (arith, nat_tests)
 
+-- the laws of a byte below the limit that is not another
 pub below_except_laws : (limit other first : ℕ) → first < limit → first ≢ other → Laws (λ (n : ℕ). (n < limit) × (n ≢ other)) (λ (n : ℕ). n ∷ []) (below_except_at limit other)
 unfolding below_except_at
 below_except_laws limit other first lt ne =
@@ -62,18 +67,22 @@ below_except_laws limit other first lt ne =
 
 -- ---- a number that isn't 0
 
+-- reading a number that isn't 0
 unfoldable pub positive_at : Width → List ℕ → Result (ℕ × List ℕ) ℕ
 positive_at w bytes = number_at w bytes >>= λ x. cond (nat_eq x.0 0) (Err (suc (length x.1))) (Ok x)
 
+-- the spellings of 0 and 1 differ in the last byte alone
 pub record IsOrdered (w : Width) : Type 0 where
   pub none : number w 0 ≡ replicate (byte_len w - 1) 0 ++ 0 ∷ []
   pub one : number w 1 ≡ replicate (byte_len w - 1) 0 ++ 1 ∷ []
   pub some : 0 < byte_len w
 
+-- 0 and 1 in 32 bits
 ordered32 : IsOrdered w32
 unfolding number
 ordered32 = record { none = refl; one = refl; some = omega arith }
 
+-- 0 and 1 in 64 bits
 ordered64 : IsOrdered w64
 unfolding number
 ordered64 = record { none = refl; one = refl; some = omega arith }
@@ -82,6 +91,7 @@ ordered64 = record { none = refl; one = refl; some = omega arith }
 ones : ℕ → List ℕ → List ℕ
 ones n bytes = bytes ++ replicate (n - length bytes) 1
 
+-- ones are bytes
 IsBytes-ones : (n : ℕ) → IsBytes (replicate n 1)
 IsBytes-ones n i =
     elim (cases_lt i n) [
@@ -89,14 +99,17 @@ IsBytes-ones n i =
       | inr le ↦ rw (get_or_past {X = ℕ} (replicate n 1) i 0 (omega (arith, length-replicate {A = ℕ} n 1))) (omega arith)
     ]
 
+-- the length of what is filled up with ones
 length-ones : (n : ℕ) (bytes : List ℕ) → length bytes < n → length (ones n bytes) ≡ n
 unfolding ones
 length-ones n bytes lt = omega (arith, length-append bytes (replicate (n - length bytes) 1), length-replicate {A = ℕ} (n - length bytes) 1)
 
+-- what is filled up with ones ends with 1
 last_one : (n : ℕ) (bytes : List ℕ) → length bytes < n → get_or (ones n bytes) (n - 1) 0 ≡ 1
 unfolding ones
 last_one n bytes lt = get_or-append_right bytes (replicate (n - length bytes) 1) (length bytes) (n - 1) 0 refl (omega arith) ∙ get_or-replicate {A = ℕ} (n - length bytes) (n - 1 - length bytes) 1 0 (omega arith)
 
+-- a number whose last byte is 1 isn't 0
 not_zero : (w : Width) → IsOrdered w → (text : List ℕ) (v : ℕ) → number w v ≡ text → get_or text (byte_len w - 1) 0 ≡ 1 → 0 < v
 not_zero w ordered text v is one =
     elim (cases_lt 0 v) [
@@ -108,10 +121,12 @@ not_zero w ordered text v is one =
           absurd (omega (arith, one, here))
     ]
 
+-- each number of a width has as many bytes
 length-number : (w : Width) (limit : ℕ) → IsWide w limit → (n : ℕ) → length (number w n) ≡ byte_len w
 unfolding number
 length-number w limit wide n = wide.len n
 
+-- too few bytes for a number that isn't 0
 short_number : (w : Width) (limit : ℕ) → IsWide w limit → IsOrdered w → (bytes : List ℕ) (n : ℕ) → IsBytes bytes → number_at w bytes ≡ Err n → IsFault (λ (n : ℕ). (0 < n) × (n < limit)) (λ (n : ℕ). number w n) bytes n
 unfolding number_at number ones
 short_number w limit wide ordered bytes n fits e =
@@ -129,6 +144,7 @@ short_number w limit wide ordered bytes n fits e =
       stops = λ b after is v h more same. absurd cc;
     }
 
+-- the laws of numbers that aren't 0
 pub positive_laws : (w : Width) (limit : ℕ) → IsWide w limit → IsOrdered w → 1 < limit → Laws (λ (n : ℕ). (0 < n) × (n < limit)) (λ (n : ℕ). number w n) (positive_at w)
 unfolding positive_at
 positive_laws w limit wide ordered top =
@@ -174,26 +190,32 @@ positive_laws w limit wide ordered top =
       some_within = (omega arith, top);
     }
 
+-- the laws of numbers of 32 bits that aren't 0
 pub positive32_laws : Laws (λ (n : ℕ). (0 < n) × (n < 2 ^ 32)) (λ (n : ℕ). number w32 n) (positive_at w32)
 positive32_laws = positive_laws w32 (2 ^ 32) wide32 ordered32 (omega arith)
 
+-- the laws of numbers of 64 bits that aren't 0
 pub positive64_laws : Laws (λ (n : ℕ). (0 < n) × (n < 2 ^ 64)) (λ (n : ℕ). number w64 n) (positive_at w64)
 positive64_laws = positive_laws w64 (2 ^ 64) wide64 ordered64 (omega arith)
 
 -- ---- a first byte that passes a test
 
+-- reading a value whose first byte passes a test
 unfoldable pub headed_at : {V : Type 0} → (ℕ → Bool) → (List ℕ → Result (V × List ℕ) ℕ) → List ℕ → Result (V × List ℕ) ℕ
 headed_at test read [] = read []
 headed_at test read (b ∷ bytes) = cond (test b) (read (b ∷ bytes)) (Err (suc (length bytes)))
 
+-- what was read passed the test
 guard_cond : {A : Type 0} (b : Bool) (d : ℕ) (r : Result A ℕ) (y : A) → cond b r (Err d) ≡ Ok y → (b ≡ true) × (r ≡ Ok y)
 guard_cond true d r y e = (refl, e)
 guard_cond false d r y e = absurd cc
 
+-- a fault of the test, or behind it
 cond_err : {A : Type 0} (b : Bool) (d n : ℕ) (r : Result A ℕ) → cond b r (Err d) ≡ Err n → ((b ≡ false) × (d ≡ n)) ⊎ ((b ≡ true) × (r ≡ Err n))
 cond_err true d n r e = inr (refl, e)
 cond_err {A} false d n r e = inl (refl, err_is {A = A} d n e)
 
+-- a front with a first byte that passes goes on
 headed_goes : {V : Type 0} (test : ℕ → Bool) (head : V → ℕ) (spelling : V → List ℕ) (within : V → Type 0) → ((v : V) → within v → (tail : List ℕ) × (spelling v ≡ head v ∷ tail)) → (first : V) → within first → test (head first) ≡ true
     → (c : ℕ) (bytes front rest : List ℕ) → c ∷ bytes ≡ front ++ rest → test c ≡ true → (v : V) × (within v × ((more : List ℕ) × (spelling v ≡ front ++ more)))
     → (v : V) × ((within v × (test (head v) ≡ true)) × ((more : List ℕ) × (spelling v ≡ front ++ more)))
@@ -203,6 +225,7 @@ headed_goes test head spelling within begins first first_within first_passes c b
     let same : c ≡ head goes.0 = cc (parts, goes.1.1.1, s.1) in
     (goes.0, ((goes.1.0, subst (λ (k : ℕ). test k ≡ true) same passes), goes.1.1))
 
+-- the laws of a value whose first byte passes a test
 pub headed_laws : {V : Type 0} {within : V → Type 0} {spelling : V → List ℕ} {reading : List ℕ → Result (V × List ℕ) ℕ} (test : ℕ → Bool) (head : V → ℕ) → ((v : V) → within v → (tail : List ℕ) × (spelling v ≡ head v ∷ tail)) → (first : V) → within first → test (head first) ≡ true
     → Laws within spelling reading → Laws (λ (v : V). within v × (test (head v) ≡ true)) spelling (headed_at test reading)
 unfolding headed_at
@@ -265,16 +288,20 @@ headed_laws {V} {within} {spelling} {reading} test head begins first first_withi
 
 -- ---- a stamp: not 0, and below 2 ^ 63
 
+-- reading a stamp
 unfoldable pub stamp_at : List ℕ → Result (ℕ × List ℕ) ℕ
 stamp_at = headed_at (λ b. nat_lt b 128) (positive_at w64)
 
+-- the first byte of a number of 64 bits
 stamp_head : ℕ → ℕ
 stamp_head n = n / 2 ^ 56 % 256
 
+-- a number begins with its first byte
 stamp_begins : (n : ℕ) → (0 < n) × (n < 2 ^ 64) → (tail : List ℕ) × (number w64 n ≡ stamp_head n ∷ tail)
 unfolding number stamp_head
 stamp_begins n h = (drop 1 (to_be_bytes w64 n), refl)
 
+-- the laws of stamps
 pub stamp_laws : Laws (λ (n : ℕ). (0 < n) × (n < 2 ^ 63)) (λ (n : ℕ). number w64 n) stamp_at
 unfolding stamp_at stamp_head
 stamp_laws =

@@ -11,7 +11,8 @@ use crate::writer::Writer;
 use std::alloc::{AllocError, Global};
 use std::marker::Model;
 
-/// Up to 64 bytes.
+/// Up to 64 bytes, written one after the other without memory: a write has the condition that there is room.
+/// Contracts see the bytes.
 #[derive(Drop)]
 pub struct Block {
     bytes: [u8; 64],
@@ -29,6 +30,7 @@ impl Model for Block {
 }
 
 impl Block {
+    /// No bytes.
     pub fn new() -> Block
         ensures { result ≡ [] }
     {
@@ -38,12 +40,14 @@ impl Block {
         }
     }
 
+    /// The bytes that were written.
     pub fn bytes(&self) -> &[u8]
         ensures { result.now ≡ self.now }
     {
         &self.bytes[..self.len]
     }
 
+    /// Appends the bytes.
     pub fn put_bytes(&mut self, from: &[u8])
         requires { length self.old + length from.now ≤ 64 }
         ensures { self.new ≡ self.old ++ from.now }
@@ -53,6 +57,7 @@ impl Block {
         self.len = end;
     }
 
+    /// Appends one byte.
     pub fn put_u8(&mut self, n: u8)
         requires { length self.old + 1 ≤ 64 }
         ensures text { self.new ≡ self.old ++ n ∷ [] }
@@ -61,6 +66,7 @@ impl Block {
         self.put_bytes(&[n]);
     }
 
+    /// Appends 4 bytes, a big-endian number.
     #[tactic(auto, unfolding(crate::specs::Reading::number))]
     pub fn put_u32(&mut self, n: u32)
         requires { length self.old + 4 ≤ 64 }
@@ -70,6 +76,7 @@ impl Block {
         self.put_bytes(&n.to_be_bytes());
     }
 
+    /// Appends 8 bytes, a big-endian number.
     #[tactic(auto, unfolding(crate::specs::Reading::number))]
     pub fn put_u64(&mut self, n: u64)
         requires { length self.old + 8 ≤ 64 }
@@ -79,6 +86,7 @@ impl Block {
         self.put_bytes(&n.to_be_bytes());
     }
 
+    /// Appends 32 bytes.
     pub fn put_hash(&mut self, h: &Hash32)
         requires { length self.old + 32 ≤ 64 }
         ensures text { self.new ≡ self.old ++ h.now.0 }
@@ -88,12 +96,14 @@ impl Block {
     }
 }
 
-/// A type whose spelling is short.
+/// A type whose spelling has at most 64 bytes, as each component of a transaction has.
 pub trait Component {
     ghost use Rattle.std.specs.Prelude.{◌≡◌, ◌++◌, ◌+◌, ◌≤◌, ℕ, List, length};
 
+    /// The spelling.
     ghost text: { Self → List ℕ };
 
+    /// The limits within which a value is spelt.
     ghost limits: { Self → Type 0 };
 
     /// The greatest length of a spelling.
@@ -188,7 +198,7 @@ impl<T: Component> Component for Option<T> {
     }
 }
 
-/// Writes the spelling of a component.
+/// Writes the spelling of a component. After want of memory a front of it may stand in `out`.
 pub fn write_component<T: Component>(
     alloc: Global,
     value: &T,

@@ -5,8 +5,9 @@ ghost use Rattle.net_base.specs.Parts.{Gives, Writes};
 ghost use Rattle.net_base.specs.Forms.{bytes16};
 ghost use Rattle.net_base.specs.Framing.{at_most_at, bytes16_at};
 
+use crate::fault::PartFault;
 use crate::list::{ByteList, ListOf};
-use crate::part::{PartFault, read_u8, read_up_to};
+use crate::part::{read_u8, read_up_to};
 use crate::reader::Reader;
 use crate::writer::Writer;
 use std::alloc::{AllocError, Global};
@@ -25,7 +26,7 @@ fn read_at_most(from: &mut Reader, limit: u16) -> Result<u16, PartFault>
     Ok(256 * high as u16 + low as u16)
 }
 
-/// Bytes of a length of at most the limit.
+/// Two bytes of length, of at most the limit, and as many bytes.
 #[tactic(auto, unfolding(crate::specs::Framing::bytes16_at, crate::specs::Forms::bytes_at))]
 pub fn read_bytes16(alloc: Global, from: &mut Reader, limit: u16) -> Result<ByteList, PartFault>
     ensures { Gives (λ x. x) result from.old from.new (bytes16_at limit from.old.left) }
@@ -35,6 +36,7 @@ pub fn read_bytes16(alloc: Global, from: &mut Reader, limit: u16) -> Result<Byte
     Ok(ListOf::from_vec(Vec::from_slice(alloc, bytes)?))
 }
 
+/// Writes two bytes of length and the bytes. After want of memory a front of them may stand in `out`.
 pub fn write_bytes16(alloc: Global, bytes: &ByteList, out: &mut Writer) -> Result<(), AllocError>
     requires { length bytes.now < 65536 }
     ensures { Writes (bytes16 bytes.now) result out.old out.new }

@@ -10,20 +10,20 @@ use crate::values::{Moment, Party};
 /// What happened to a node.
 #[derive(Debug, Drop)]
 pub enum Event {
-    /// A new flow of the class begins.
+    /// A new flow begins: its number on its node, counted from 0, its class, and the words that it was given.
     Start {
         flow: u32,
         class: u16,
         args: ByteList,
     },
-    /// The first item of a session that another node opened makes a new flow.
+    /// The first item of a session that another node opened arrives, and answers it by a new flow or a refusal.
     Answer {
         key: Key,
     },
-    /// An item of a session arrives: `number` counts the items of the direction, from 0.
+    /// An item of a session arrives; `number` counts the items of the direction, from 0.
     Arrive {
         key: Key,
-        /// 0 from the initiator, 1 to it.
+        /// 0 from the session's initiator, 1 to it.
         direction: u8,
         number: u32,
     },
@@ -37,9 +37,11 @@ pub enum Event {
     },
 }
 
-/// An event with its logical stamp and the moment at which it was seen.
+/// An event with its logical stamp and its moment.
 #[derive(Debug, Drop)]
 pub struct Cause {
+    /// The logical stamp, 1 to 2^63 - 1; stamps rise along a node's causes (Lamport, Time, Clocks, and the
+    /// Ordering of Events in a Distributed System, 1978).
     pub stamp: u64,
     pub moment: Moment,
     pub event: Event,

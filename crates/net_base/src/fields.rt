@@ -7,11 +7,12 @@ ghost use Rattle.net_base.specs.Forms.{byte_at, number_at, option_of, option_at}
 ghost use Rattle.net_base.specs.Fields.{byte_laws, u16_laws, u32_laws, u64_laws, option_laws};
 ghost use Rattle.net_base.specs.Values.{IsHash, hash, hash_at, hash_laws, IsParty, party, party_at, party_laws, IsMoment, moment, moment_at, moment_laws};
 
+use crate::fault::PartFault;
 use crate::part::{
-    PartFault, Spelt, read_below, read_hash, read_option, read_u8, read_u16, read_u32, read_u64,
-    write_option,
+    read_below, read_hash, read_option, read_u8, read_u16, read_u32, read_u64, write_option,
 };
 use crate::reader::Reader;
+use crate::spelt::Spelt;
 use crate::values::{Hash32, Moment, Party};
 use crate::writer::Writer;
 use std::alloc::{AllocError, Global};

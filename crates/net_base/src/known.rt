@@ -7,8 +7,8 @@ ghost use Rattle.net_base.specs.Names.{IsStateRef};
 ghost use Rattle.net_base.specs.Parties.{IsPartySet};
 
 use crate::names::StateRef;
-use crate::part::Spelt;
 use crate::parties::PartySet;
+use crate::spelt::Spelt;
 use crate::values::{Hash32, Moment};
 
 /// A type each of whose values is within the limits of its spelling.

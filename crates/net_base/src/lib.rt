@@ -6,6 +6,7 @@ mod ascending;
 mod block;
 mod bytes16;
 mod causes;
+mod fault;
 mod fields;
 mod known;
 mod list;
@@ -15,7 +16,10 @@ mod part;
 mod parties;
 mod reader;
 mod records;
+mod spelt;
 mod tested;
+#[cfg(test)]
+mod tests;
 mod values;
 mod writer;
 
@@ -23,18 +27,19 @@ pub use ascending::{ByParty, read_ascending};
 pub use block::{Block, Component, write_component};
 pub use bytes16::{read_bytes16, write_bytes16};
 pub use causes::{Cause, CauseList, Event, NodeCauseList};
+pub use fault::{DecodeFault, PartFault};
 pub use known::{Unlimited, known_items};
 pub use list::{ByteList, ListOf, TryCopy};
 pub use names::{Identity, Key, StateRef, Tag, Token};
 pub use numbers::number;
 pub use part::{
-    DecodeFault, PartFault, Spelt, decode, decode_whole, encode, one_spelling, read_below,
-    read_between, read_hash, read_kind, read_list, read_list_between, read_option, read_u8,
-    read_u16, read_u32, read_u64, read_up_to, write_list, write_option,
+    read_below, read_between, read_hash, read_kind, read_list, read_list_between, read_option,
+    read_u8, read_u16, read_u32, read_u64, read_up_to, write_list, write_option,
 };
 pub use parties::PartySet;
 pub use reader::{Extra, Reader, Short};
 pub use records::{FrameList, RecordList, WaitingList};
+pub use spelt::{Spelt, decode, decode_whole, encode, one_spelling};
 pub use tested::{read_below_except, read_positive, read_stamp};
 pub use values::{Hash32, Moment, Party};
 pub use writer::Writer;

@@ -5,8 +5,10 @@ ghost use Rattle.net_base.specs.Names.{IsStateRef, state_ref, state_ref_at, stat
 
 use crate::ascending::ByParty;
 use crate::block::{Block, Component, write_component};
-use crate::part::{PartFault, Spelt, read_between};
+use crate::fault::PartFault;
+use crate::part::read_between;
 use crate::reader::Reader;
+use crate::spelt::Spelt;
 use crate::values::{Hash32, Party};
 use crate::writer::Writer;
 use std::alloc::{AllocError, Global};

@@ -26,7 +26,8 @@ fn is_numeral(word: &[u8]) -> bool
     all_digits(word) && is_plain(word)
 }
 
-/// The number that a word is: decimal digits with no leading zero, below 2^64.
+/// The number that a word is: decimal digits without a sign or a leading zero, below 2^64. `None` exactly where
+/// the word is no such number.
 pub fn number(word: &str) -> Option<u64>
     ensures { result ≡ number_of word.now }
 {

@@ -1,62 +1,25 @@
-//! Reading and writing the parts of a value.
+//! Reading and writing the parts of a value: numbers, tested bytes, options and lists.
+//!
+//! A function that reads a part answers it, or a fault that tells how many bytes are left at the first
+//! place where no spelling of the part goes on. After a fault the reader's place is not stated.
 
 ghost use Rattle.std.specs.Prelude.{◌≡◌, ◌+◌, ◌++◌, ◌<◌, ◌≤◌, ◌∷◌, [], ℕ, List, Result, IfSome, IfOk, length};
 ghost use Rattle.std.specs.List.{flat_map, AllByRecursion};
 ghost use Rattle.std.specs.Int.{w16, w32, w64, to_be_bytes};
-ghost use Rattle.net_base.specs.declared.part.PartFault.TheVariants.{Memory, Left};
 ghost use Rattle.net_base.specs.Forms.{byte_at, bytes_at, number_at, below_at, option_at, items_at, list8_at, option_of, list8, ListWithin};
-ghost use Rattle.net_base.specs.Reading.{Puts};
-ghost use Rattle.net_base.specs.Parts.{Gives, TakesNoMemory, Writes, Decodes, DecodesWhole};
-ghost use Rattle.net_base.specs.Laws.{Laws};
+ghost use Rattle.net_base.specs.Parts.{Gives, TakesNoMemory, Writes};
 ghost use Rattle.net_base.specs.Kinds.{kind_at, between_at};
 ghost use Rattle.net_base.specs.Framing.{list8_between_at};
 
+use crate::fault::PartFault;
 use crate::list::ListOf;
-use crate::reader::{Reader, Short};
+use crate::reader::Reader;
+use crate::spelt::Spelt;
 use crate::values::Hash32;
 use crate::writer::Writer;
-use std::alloc::{AllocError, AllocFailed, Global};
+use std::alloc::{AllocError, Global};
 
-/// Why a part could not be read.
-#[derive(Clone, Copy, Debug, PartialEq, Eq)]
-pub enum PartFault {
-    Memory,
-    /// No spelling goes on at the place with so many bytes left.
-    Left(usize),
-}
-
-/// Why a value could not be read.
-#[derive(Clone, Copy, Debug, PartialEq, Eq)]
-pub enum DecodeFault {
-    /// No spelling begins at the place.
-    Malformed { at: usize },
-    Memory,
-}
-
-impl From<AllocError> for PartFault {
-    ghost from_gives = { λ _ e. e ≡ Memory };
-
-    fn from(_e: AllocError) -> PartFault {
-        PartFault::Memory
-    }
-}
-
-impl<T: Drop> From<AllocFailed<T>> for PartFault {
-    ghost from_gives = { λ _ e. e ≡ Memory };
-
-    fn from(_e: AllocFailed<T>) -> PartFault {
-        PartFault::Memory
-    }
-}
-
-impl From<Short> for PartFault {
-    ghost from_gives = { λ _ e. e ≡ Left 0 };
-
-    fn from(_e: Short) -> PartFault {
-        PartFault::Left(0)
-    }
-}
-
+/// A byte.
 pub fn read_u8(from: &mut Reader) -> Result<u8, PartFault>
     ensures given { Gives (λ x. x) result from.old from.new (byte_at from.old.left) }
     ensures no_memory { TakesNoMemory result }
@@ -64,6 +27,7 @@ pub fn read_u8(from: &mut Reader) -> Result<u8, PartFault>
     Ok(from.u8()?)
 }
 
+/// A big-endian number of 2 bytes.
 #[tactic(auto, unfolding(crate::specs::Forms::number_at))]
 pub fn read_u16(from: &mut Reader) -> Result<u16, PartFault>
     ensures given { Gives (λ x. x) result from.old from.new (number_at w16 from.old.left) }
@@ -72,6 +36,7 @@ pub fn read_u16(from: &mut Reader) -> Result<u16, PartFault>
     Ok(from.u16()?)
 }
 
+/// A big-endian number of 4 bytes.
 #[tactic(auto, unfolding(crate::specs::Forms::number_at))]
 pub fn read_u32(from: &mut Reader) -> Result<u32, PartFault>
     ensures given { Gives (λ x. x) result from.old from.new (number_at w32 from.old.left) }
@@ -80,6 +45,7 @@ pub fn read_u32(from: &mut Reader) -> Result<u32, PartFault>
     Ok(from.u32()?)
 }
 
+/// A big-endian number of 8 bytes.
 #[tactic(auto, unfolding(crate::specs::Forms::number_at))]
 pub fn read_u64(from: &mut Reader) -> Result<u64, PartFault>
     ensures given { Gives (λ x. x) result from.old from.new (number_at w64 from.old.left) }
@@ -129,30 +95,7 @@ pub fn read_hash(from: &mut Reader) -> Result<Hash32, PartFault>
     Ok(from.hash()?)
 }
 
-/// A type whose values have one spelling, within limits.
-pub trait Spelt: Sized + Drop {
-    ghost use Rattle.std.specs.Prelude.{◌≡◌, ℕ, List, Result};
-    ghost use Rattle.net_base.specs.Laws.{Laws};
-
-    ghost spelling: { Self → List ℕ };
-
-    ghost within: { Self → Type 0 };
-
-    /// Reading from the left, on lists.
-    ghost reading: { List ℕ → Result (Self × List ℕ) ℕ };
-
-    /// Reads a value, or tells how many bytes are left where no spelling goes on.
-    fn read_part(alloc: Global, from: &mut Reader) -> Result<Self, PartFault>
-        ensures { Gives (λ x. x) result from.old from.new (reading from.old.left) };
-
-    /// Writes the value's spelling.
-    fn write_part(&self, alloc: Global, out: &mut Writer) -> Result<(), AllocError>
-        requires { within self.now }
-        ensures { Writes (spelling self.now) result out.old out.new };
-
-    ghost laws: { Laws within spelling reading };
-}
-
+/// A byte 0, or a byte 1 and a value.
 #[tactic(auto, unfolding(crate::specs::Forms::option_at))]
 pub fn read_option<T: Spelt>(alloc: Global, from: &mut Reader) -> Result<Option<T>, PartFault>
     ensures { Gives (λ x. x) result from.old from.new (option_at T.reading from.old.left) }
@@ -165,6 +108,7 @@ pub fn read_option<T: Spelt>(alloc: Global, from: &mut Reader) -> Result<Option<
     }
 }
 
+/// Writes a byte 0, or a byte 1 and the value.
 pub fn write_option<T: Spelt>(
     alloc: Global,
     value: &Option<T>,
@@ -193,6 +137,7 @@ fn read_items<T: Spelt>(alloc: Global, from: &mut Reader, count: u8) -> Result<V
     Ok(items)
 }
 
+/// A byte of count of at most the limit, and as many values.
 #[tactic(auto, unfolding(crate::specs::Forms::list8_at))]
 pub fn read_list<T: Spelt>(
     alloc: Global,
@@ -206,7 +151,7 @@ pub fn read_list<T: Spelt>(
     Ok(ListOf::from_vec(read_items(alloc, from, count)?))
 }
 
-/// A list of `least` to `limit` values behind a byte of count.
+/// A byte of count from `least` to `limit`, and as many values.
 #[tactic(auto, unfolding(crate::specs::Framing::list8_between_at))]
 pub fn read_list_between<T: Spelt>(
     alloc: Global,
@@ -231,6 +176,7 @@ fn write_items<T: Spelt>(alloc: Global, items: &[T], out: &mut Writer) -> Result
     Ok(())
 }
 
+/// Writes a byte of count and the values.
 pub fn write_list<T: Spelt>(
     alloc: Global,
     list: &ListOf<T>,
@@ -242,37 +188,6 @@ pub fn write_list<T: Spelt>(
 {
     out.put_u8(alloc, list.len() as u8)?;
     write_items(alloc, list.as_slice(), out)
-}
-
-/// The value whose spelling begins at the reader's place.
-pub fn decode<'a, T: Spelt>(alloc: Global, from: &mut Reader<'a>) -> Result<T, DecodeFault>
-    ensures { Decodes T.within T.spelling result from.old from.new }
-{
-    let at = from.place();
-    let mut trial = from.again();
-    match T::read_part(alloc, &mut trial) {
-        Ok(value) => {
-            *from = trial;
-            Ok(value)
-        }
-        Err(PartFault::Memory) => Err(DecodeFault::Memory),
-        Err(PartFault::Left(_)) => Err(DecodeFault::Malformed { at }),
-    }
-}
-
-/// Writes the value's spelling.
-pub fn encode<T: Spelt>(alloc: Global, value: &T, out: &mut Writer) -> Result<(), AllocError>
-    requires { T.within value.now }
-    ensures { Puts (T.spelling value.now) result out.old out.new }
-{
-    let length = out.len();
-    match value.write_part(alloc, out) {
-        Ok(()) => Ok(()),
-        Err(e) => {
-            out.truncate(length);
-            Err(e)
-        }
-    }
 }
 
 /// A byte that is one of the kinds.
@@ -305,29 +220,3 @@ pub fn read_between(from: &mut Reader, low: u8, high: u8) -> Result<u8, PartFaul
         Err(PartFault::Left(left))
     }
 }
-
-/// The value whose spelling all of the bytes are.
-pub fn decode_whole<T: Spelt>(alloc: Global, bytes: &[u8]) -> Result<T, DecodeFault>
-    ensures { DecodesWhole T.within T.spelling result bytes.now }
-{
-    let mut from = Reader::new(bytes);
-    match T::read_part(alloc, &mut from) {
-        Ok(value) => {
-            if from.remaining() > 0 {
-                return Err(DecodeFault::Malformed { at: from.place() });
-            }
-            Ok(value)
-        }
-        Err(fault) => match fault {
-            PartFault::Memory => Err(DecodeFault::Memory),
-            PartFault::Left(left) => Err(DecodeFault::Malformed {
-                at: bytes.len() - left,
-            }),
-        },
-    }
-}
-
-/// No spelling begins another of the same type, and each value has one.
-pub fn one_spelling<T: Spelt>()
-    ensures { (v w : T) (x y : List ℕ) → T.within v → T.within w → T.spelling v ++ x ≡ T.spelling w ++ y → (v ≡ w) × (x ≡ y) }
-{}

@@ -8,8 +8,10 @@ ghost use Rattle.net_base.specs.Combining.{mapped_at};
 ghost use Rattle.net_base.specs.Parties.{has_party, members_from, bits_of, members, party_set, IsPartySet, party_set_at, party_set_laws};
 
 use crate::block::{Block, Component, write_component};
-use crate::part::{PartFault, Spelt, read_below, read_between};
+use crate::fault::PartFault;
+use crate::part::{read_below, read_between};
 use crate::reader::Reader;
+use crate::spelt::Spelt;
 use crate::values::Party;
 use crate::writer::Writer;
 use std::alloc::{AllocError, Global};
@@ -70,18 +72,21 @@ impl PartySet {
     }
 }
 
+/// Whether the bit is 1.
 fn has_bit(bits: u16, place: u8) -> bool
     ensures { result ≡ (bits / 2 ^ place % 2 == 1) }
 {
     place < 16 && (bits >> place) % 2 == 1
 }
 
+/// The bits that are not among the others.
 fn without_bits(bits: u16, others: u16) -> u16
     ensures { (p : ℕ) → (result / 2 ^ p % 2 == 1) ≡ ((bits / 2 ^ p % 2 == 1) && not (others / 2 ^ p % 2 == 1)) }
 {
     bits & !others
 }
 
+/// How many bits are 1.
 fn count_members(bits: u16) -> u8
     ensures { result ≡ length (members_from 0 16 bits) }
 {
@@ -94,6 +99,7 @@ fn count_members(bits: u16) -> u8
     count
 }
 
+/// Writes the places of the bits that are 1, ascending.
 fn put_members(bits: u16, block: &mut Block)
     requires { length block.old + 16 ≤ 64 }
     ensures text { block.new ≡ block.old ++ members_from 0 16 bits }
@@ -122,6 +128,7 @@ impl Component for PartySet {
     }
 }
 
+/// Reads as many parties, strictly ascending.
 fn read_members(from: &mut Reader, count: u8) -> Result<u16, PartFault>
     requires { count ≤ 16 }
     ensures { Gives (λ x. x) result from.old from.new (mapped_at bits_of (ascending_at (λ p. p) 16 between_at count) from.old.left) }

@@ -6,20 +6,24 @@ ghost use Rattle.net_base.specs.Reading.{Reading, Took, IsShort, IsBytes};
 
 use crate::values::Hash32;
 use std::marker::Model;
+use thiserror::Error;
 
-/// Too few bytes are left.
-#[derive(Clone, Copy, Debug, PartialEq, Eq)]
+/// Too few bytes are left at the place, counted in bytes from the first.
+#[derive(Clone, Copy, Debug, PartialEq, Eq, Error)]
+#[error("too few bytes at byte {at}")]
 pub struct Short {
     pub at: usize,
 }
 
-/// Bytes are left.
-#[derive(Clone, Copy, Debug, PartialEq, Eq)]
+/// Bytes are left from the place on, counted in bytes from the first.
+#[derive(Clone, Copy, Debug, PartialEq, Eq, Error)]
+#[error("more bytes from byte {at} on")]
 pub struct Extra {
     pub at: usize,
 }
 
-/// Bytes, and how many of them were read.
+/// Bytes that are read from the left, and how many of them were read. Contracts see the bytes that are left
+/// and the place. A refused read leaves the reader where it was.
 #[derive(Clone, Drop)]
 pub struct Reader<'a> {
     bytes: &'a [u8],
@@ -38,13 +42,18 @@ impl<'a> Model for Reader<'a> {
 }
 
 impl<'a> Reader<'a> {
+    /// A reader at the first of the bytes.
     pub fn new(bytes: &'a [u8]) -> Reader<'a>
         ensures { result ≡ record { left = bytes.now; place = 0 } }
     {
         Reader { bytes, place: 0 }
     }
 
-    /// The next bytes.
+    /// The next `n` bytes, lent from the bytes that the reader was made of.
+    ///
+    /// # Errors
+    ///
+    /// `Short` exactly where fewer than `n` bytes are left; so with every read.
     pub fn bytes(&mut self, n: usize) -> Result<&'a [u8], Short>
         ensures { MatchResult result (λ v. Took n self.old self.new × (v.now ≡ take n self.old.left)) (λ e. IsShort n e.at self.old self.new) }
     {
@@ -57,6 +66,7 @@ impl<'a> Reader<'a> {
         Ok(taken)
     }
 
+    /// The next byte.
     pub fn u8(&mut self) -> Result<u8, Short>
         ensures { MatchResult result (λ v. Took 1 self.old self.new × (v ≡ slice_index (take 1 self.old.left) 0)) (λ e. IsShort 1 e.at self.old self.new) }
     {
@@ -64,6 +74,7 @@ impl<'a> Reader<'a> {
         Ok(taken[0])
     }
 
+    /// The next 2 bytes, a big-endian number.
     pub fn u16(&mut self) -> Result<u16, Short>
         ensures { MatchResult result (λ v. Took 2 self.old self.new × (v ≡ from_be_bytes w16 (take 2 self.old.left))) (λ e. IsShort 2 e.at self.old self.new) }
     {
@@ -71,6 +82,7 @@ impl<'a> Reader<'a> {
         Ok(u16::from_be_bytes([b[0], b[1]]))
     }
 
+    /// The next 4 bytes, a big-endian number.
     pub fn u32(&mut self) -> Result<u32, Short>
         ensures { MatchResult result (λ v. Took 4 self.old self.new × (v ≡ from_be_bytes w32 (take 4 self.old.left))) (λ e. IsShort 4 e.at self.old self.new) }
     {
@@ -78,6 +90,7 @@ impl<'a> Reader<'a> {
         Ok(u32::from_be_bytes([b[0], b[1], b[2], b[3]]))
     }
 
+    /// The next 8 bytes, a big-endian number.
     pub fn u64(&mut self) -> Result<u64, Short>
         ensures { MatchResult result (λ v. Took 8 self.old self.new × (v ≡ from_be_bytes w64 (take 8 self.old.left))) (λ e. IsShort 8 e.at self.old self.new) }
     {
@@ -85,6 +98,7 @@ impl<'a> Reader<'a> {
         Ok(u64::from_be_bytes([b[0], b[1], b[2], b[3], b[4], b[5], b[6], b[7]]))
     }
 
+    /// The next 32 bytes.
     pub fn hash(&mut self) -> Result<Hash32, Short>
         ensures { MatchResult result (λ v. Took 32 self.old self.new × (v.0 ≡ take 32 self.old.left)) (λ e. IsShort 32 e.at self.old self.new) }
     {
@@ -121,6 +135,11 @@ impl<'a> Reader<'a> {
         self.bytes.len() - self.place
     }
 
+    /// Tests that no byte is left.
+    ///
+    /// # Errors
+    ///
+    /// `Extra` with the place exactly where bytes are left.
     pub fn finish(&self) -> Result<(), Extra>
         ensures { MatchResult result (λ _. self.now.left ≡ []) (λ e. (0 < length self.now.left) × (e.at ≡ self.now.place)) }
     {

@@ -5,10 +5,11 @@ ghost use Rattle.std.specs.Int.{w32, w64};
 ghost use Rattle.net_base.specs.Parts.{Gives, TakesNoMemory};
 ghost use Rattle.net_base.specs.Tested.{below_except_at, positive_at, headed_at, stamp_at};
 
-use crate::part::{PartFault, read_u8, read_u32, read_u64};
+use crate::fault::PartFault;
+use crate::part::{read_u8, read_u32, read_u64};
 use crate::reader::Reader;
 
-/// A byte below the limit, and not another.
+/// A byte below the limit that isn't `other`.
 #[tactic(auto, unfolding(crate::specs::Tested::below_except_at))]
 pub fn read_below_except(from: &mut Reader, limit: u8, other: u8) -> Result<u8, PartFault>
     ensures given { Gives (λ x. x) result from.old from.new (below_except_at limit other from.old.left) }
@@ -23,7 +24,7 @@ pub fn read_below_except(from: &mut Reader, limit: u8, other: u8) -> Result<u8, 
     }
 }
 
-/// A number that isn't 0.
+/// A big-endian number of 4 bytes that isn't 0.
 #[tactic(auto, unfolding(crate::specs::Tested::positive_at))]
 pub fn read_positive(from: &mut Reader) -> Result<u32, PartFault>
     ensures given { Gives (λ x. x) result from.old from.new (positive_at w32 from.old.left) }
@@ -36,7 +37,7 @@ pub fn read_positive(from: &mut Reader) -> Result<u32, PartFault>
     Ok(n)
 }
 
-/// A number that isn't 0 and is below 2^63.
+/// A stamp: a big-endian number of 8 bytes, from 1 to 2^63 - 1.
 #[tactic(auto, unfolding(crate::specs::Tested::stamp_at, crate::specs::Tested::headed_at, crate::specs::Tested::positive_at))]
 pub fn read_stamp(from: &mut Reader) -> Result<u64, PartFault>
     ensures given { Gives (λ x. x) result from.old from.new (stamp_at from.old.left) }

@@ -9,7 +9,8 @@ use crate::values::Hash32;
 use std::alloc::{AllocError, Global};
 use std::marker::Model;
 
-/// Bytes that are written one after the other.
+/// Bytes that are written one after the other. Contracts see the bytes. Each `put_` call appends the
+/// big-endian spelling of its value, and a want of memory leaves the writer as it was.
 #[derive(Drop)]
 pub struct Writer {
     bytes: Vec<u8>,
@@ -24,6 +25,7 @@ impl Model for Writer {
 }
 
 impl Writer {
+    /// A writer of no bytes. Takes no memory.
     pub fn new(alloc: Global) -> Writer
         ensures { result ≡ [] }
     {
@@ -32,18 +34,21 @@ impl Writer {
         }
     }
 
+    /// Appends the bytes.
     pub fn put_bytes(&mut self, _alloc: Global, value: &[u8]) -> Result<(), AllocError>
         ensures { Puts value.now result self.old self.new }
     {
         self.bytes.extend_from_slice(value)
     }
 
+    /// Appends one byte.
     pub fn put_u8(&mut self, alloc: Global, value: u8) -> Result<(), AllocError>
         ensures { Puts (value ∷ []) result self.old self.new }
     {
         self.put_bytes(alloc, &[value])
     }
 
+    /// Appends 2 bytes.
     #[tactic(auto, unfolding(crate::specs::Reading::number))]
     pub fn put_u16(&mut self, alloc: Global, value: u16) -> Result<(), AllocError>
         ensures { Puts (number w16 value) result self.old self.new }
@@ -51,6 +56,7 @@ impl Writer {
         self.put_bytes(alloc, &value.to_be_bytes())
     }
 
+    /// Appends 4 bytes.
     #[tactic(auto, unfolding(crate::specs::Reading::number))]
     pub fn put_u32(&mut self, alloc: Global, value: u32) -> Result<(), AllocError>
         ensures { Puts (number w32 value) result self.old self.new }
@@ -58,6 +64,7 @@ impl Writer {
         self.put_bytes(alloc, &value.to_be_bytes())
     }
 
+    /// Appends 8 bytes.
     #[tactic(auto, unfolding(crate::specs::Reading::number))]
     pub fn put_u64(&mut self, alloc: Global, value: u64) -> Result<(), AllocError>
         ensures { Puts (number w64 value) result self.old self.new }
@@ -65,12 +72,14 @@ impl Writer {
         self.put_bytes(alloc, &value.to_be_bytes())
     }
 
+    /// Appends 32 bytes.
     pub fn put_hash(&mut self, alloc: Global, value: &Hash32) -> Result<(), AllocError>
         ensures { Puts value.now.0 result self.old self.new }
     {
         self.put_bytes(alloc, &value.0)
     }
 
+    /// How many bytes were written.
     pub fn len(&self) -> usize
         ensures { result ≡ length self.now }
     {

@@ -1,6 +1,6 @@
-use Rattle.std.proofs.Common.{◌≡◌, ◌++◌, ◌∷◌, [], ◌∙◌, ◌-◌, ◌+◌, ℕ, arith, List}
+use Rattle.std.proofs.Common.{◌-◌, ◌+◌, ℕ, arith}
 use Rattle.std.proofs.lemmas.Result.{err_from_is_err_and}
-use Rattle.net_base.specs.Runs.{run_at, ascending_at}
+use Rattle.net_base.specs.Runs.{ascending_at}
 use Rattle.net_base.proofs.Items.{run_goes_on, run_ends, run_is_done}
 use Rattle.net_base.proofs.ascending.read_ascending_items.Goals as goal
 

@@ -1,4 +1,4 @@
-use Rattle.std.proofs.Common.{◌≡◌, length, take, drop, arith, refl, ap}
+use Rattle.std.proofs.Common.{length, arith, refl}
 use Rattle.std.proofs.lemmas.Bool.{le-ltb}
 use Rattle.std.proofs.lemmas.List.{length-drop}
 use Rattle.net_base.specs.Forms.{bytes_at}

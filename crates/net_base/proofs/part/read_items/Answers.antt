@@ -1,4 +1,4 @@
-use Rattle.std.proofs.Common.{◌≡◌, ◌++◌, ◌∷◌, [], ◌∙◌, arith}
+use Rattle.std.proofs.Common.{arith}
 use Rattle.std.proofs.lemmas.Result.{err_from_is_err_and}
 use Rattle.std.proofs.lemmas.List.{length_push}
 use Rattle.net_base.specs.Forms.{items_at}
@@ -19,7 +19,7 @@ loop-preserved g c =
     let read = g.T.Spelt.reading in
     record {
       given = rw c.in_ok-push.ensures.items (goes_on read c.loop.items.items c.args.count c.loop.counter c.loop.from.left v c.read_part.new.from.left (items_at read c.args.count c.args.from.now.left) c.loop-test.true c.in_ok-read_part.ensures.0 c.loop.invariant.given);
-      end = c.in_ok-read_part.ensures.1 ∙ c.loop.invariant.end;
+      end = omega (arith, c.in_ok-read_part.ensures.1, c.loop.invariant.end);
       few = rw c.in_ok-push.ensures.items (omega (arith, length_push c.loop.items.items v, c.loop.invariant.few));
     }
 

@@ -1,4 +1,4 @@
-use Rattle.std.proofs.Common.{◌≡◌, ◌+◌, ◌-◌, ap, length, arith}
+use Rattle.std.proofs.Common.{◌-◌, ap, length, arith}
 use Rattle.net_base.specs.Parties.{count_step, no_member}
 use Rattle.net_base.proofs.parties.count_members.Goals as goal
 

@@ -1,4 +1,4 @@
-use Rattle.std.proofs.Common.{◌≡◌, ◌+◌, ◌-◌, ◌++◌, ◌∙◌, List, ℕ, [], ap, sym, arith}
+use Rattle.std.proofs.Common.{◌-◌, ◌++◌, ◌∙◌, List, ℕ, ap, sym, arith}
 use Rattle.std.proofs.lemmas.List.{append-nil}
 use Rattle.net_base.specs.Parties.{members_from, step_in, step_out, no_member}
 use Rattle.net_base.proofs.parties.put_members.Goals.{then-rest-eq1, else-rest-eq1}

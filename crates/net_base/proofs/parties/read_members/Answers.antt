@@ -1,6 +1,6 @@
-use Rattle.std.proofs.Common.{◌≡◌, ◌+◌, ◌-◌, ◌<◌, ◌≤◌, ◌∙◌, refl, sym, subst, ℕ, arith}
+use Rattle.std.proofs.Common.{◌<◌, refl, arith}
 use Rattle.std.proofs.lemmas.Result.{err_from_is_err_and}
-use Rattle.net_base.proofs.Sets.{Partly, partly_none, partly_fits, partly_more, partly_done, partly_ends}
+use Rattle.net_base.proofs.Sets.{partly_none, partly_fits, partly_more, partly_done, partly_ends}
 use Rattle.net_base.proofs.parties.read_members.Goals as goal
 
 pub loop-i-init : goal.loop-i-init

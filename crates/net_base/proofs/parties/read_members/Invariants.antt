@@ -1,4 +1,3 @@
-use Rattle.std.proofs.Common.{◌≡◌}
 use Rattle.net_base.specs.Parts.{SameEnd}
 use Rattle.net_base.proofs.Sets.{Partly}
 use Rattle.net_base.proofs.parties.read_members.Given as goal

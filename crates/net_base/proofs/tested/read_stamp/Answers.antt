@@ -1,4 +1,3 @@
-use Rattle.std.proofs.Common.{◌≡◌}
 use Rattle.std.proofs.lemmas.Result.{err_from_is_err_and}
 use Rattle.net_base.proofs.Stamps.{no_byte}
 use Rattle.net_base.proofs.tested.read_stamp.Goals as goal

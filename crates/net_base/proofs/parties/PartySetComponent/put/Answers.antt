@@ -1,5 +1,5 @@
-use Rattle.std.proofs.Common.{◌≡◌, ◌++◌, ◌∷◌, [], ◌∙◌, ℕ, List, length, ap, sym, append_assoc}
-use Rattle.net_base.specs.Parties.{members, members_from, members_is, party_set}
+use Rattle.std.proofs.Common.{◌++◌, ◌∷◌, [], ◌∙◌, ℕ, List, length, ap, sym, append_assoc}
+use Rattle.net_base.specs.Parties.{members_from, members_is, party_set}
 use Rattle.net_base.proofs.parties.PartySetComponent.put.Goals as goal
 
 pub returns-clause-text : goal.returns-clause-text

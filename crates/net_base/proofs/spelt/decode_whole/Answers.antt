@@ -1,7 +1,7 @@
-use Rattle.std.proofs.Common.{◌≡◌, ◌+◌, ◌-◌, ◌≤◌, length, ap, refl, arith}
+use Rattle.std.proofs.Common.{◌-◌, length, refl, arith}
 use Rattle.net_base.specs.Reading.{IsBytes}
 use Rattle.net_base.proofs.Whole.{fault_left, first_fault, extra_fault, is_whole}
-use Rattle.net_base.proofs.part.decode_whole.Goals as goal
+use Rattle.net_base.proofs.spelt.decode_whole.Goals as goal
 
 pub returns-then-remaining-gt0 : goal.returns-then-remaining-gt0
 returns-then-remaining-gt0 g c =

@@ -1,7 +1,6 @@
-use Rattle.std.proofs.Common.{◌≡◌, ◌∙◌, ℕ, List, ap, sym, Result, Ok}
-use Rattle.net_base.specs.Reading.{Reading}
+use Rattle.std.proofs.Common.{◌∙◌, sym}
 use Rattle.net_base.specs.Laws.{cancels}
-use Rattle.net_base.proofs.part.decode.Goals as goal
+use Rattle.net_base.proofs.spelt.decode.Goals as goal
 
 pub returns-in-Ok : goal.returns-in-Ok
 returns-in-Ok g c =
