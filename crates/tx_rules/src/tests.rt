@@ -1,8 +1,9 @@
 //! One transaction for each rule, the rows on encumbrances, and who has to sign.
 
 use super::*;
-use ledger_types::{Command, Deed, Resolved, StateData, Tx, TxState, Window};
-use net_base::{Hash32, ListOf, Moment, Party, PartySet, StateRef, Token};
+use ledger_types::{Command, Deed, Resolved, SignedTx, StateData, Tx, TxState, Window};
+use net_base::{Hash32, ListOf, Moment, Party, PartySet, Reader, StateRef, Tag, Token};
+use signing::{KeyedDigest, Signer};
 use std::alloc::{AllocError, Global};
 use std::test::Fail;
 
@@ -157,5 +158,52 @@ fn commands_and_the_notary_are_signed(rt: HostRuntime) -> Result<(), Fail> {
     tx.references = list(alloc, &[])?;
     tx.window = None;
     assert_eq!(rt; needed_signers(&tx), PartySet(2));
+    Ok(())
+}
+
+/// A transaction with one command, which parties 1 and 2 sign.
+fn spelt() -> [u8; 43] {
+    let mut bytes = [0; 43];
+    bytes[0] = 9;
+    bytes[34] = 1;
+    bytes[35] = 2;
+    bytes[36] = 2;
+    bytes[37] = 1;
+    bytes[38] = 2;
+    bytes
+}
+
+fn tag(by: u8, of: Hash32) -> Tag {
+    Tag {
+        by: Party(by),
+        of,
+        mark: KeyedDigest.mark(Party(by), &of),
+    }
+}
+
+/// The parties whose tags are missing beside these.
+fn missing(alloc: Global, tags: &[Tag]) -> Result<PartySet, Fail> {
+    let tags = list(alloc, tags)?;
+    let tx = Tx::decode(alloc, &mut Reader::new(&spelt()))?;
+    Ok(missing_tags(&SignedTx { tx, tags }, &KeyedDigest))
+}
+
+#[test]
+fn only_tags_over_the_id_that_check_count(rt: HostRuntime) -> Result<(), Fail> {
+    let alloc = rt.alloc();
+    let id = Tx::decode(alloc, &mut Reader::new(&spelt()))?.id();
+    assert_eq!(rt; missing(alloc, &[])?, PartySet(6));
+    assert_eq!(rt; missing(alloc, &[tag(1, id)])?, PartySet(4));
+    assert_eq!(rt; missing(alloc, &[tag(1, id), tag(2, id)])?, PartySet(0));
+    assert_eq!(rt;
+        missing(alloc, &[tag(1, hash(9)), tag(2, id)])?,
+        PartySet(2)
+    );
+    let forged = Tag {
+        by: Party(1),
+        of: id,
+        mark: hash(7),
+    };
+    assert_eq!(rt; missing(alloc, &[forged, tag(2, id)])?, PartySet(2));
     Ok(())
 }
