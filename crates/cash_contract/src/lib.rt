@@ -6,8 +6,10 @@
 
 mod amounts;
 mod cash;
+mod law;
 #[cfg(test)]
 mod tests;
 mod value;
 
 pub use cash::Cash;
+pub use law::accepted_conserves_value;

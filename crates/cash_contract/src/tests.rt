@@ -170,7 +170,9 @@ fn judged(
     };
     let mut contracts: Vec<BoxedContract> = Vec::new(alloc);
     contracts.push(Box::new(alloc, Cash)?)?;
-    if tx.inputs.len() != 0 || tx.references.len() != 0 {
+    if resolved.inputs.len() != tx.inputs.len()
+        || resolved.references.len() != tx.references.len()
+    {
         return Ok(None);
     }
     Ok(Some(ContractBook::new(contracts).verify(&tx, &resolved)))

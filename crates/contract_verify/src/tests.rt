@@ -94,7 +94,9 @@ fn judged(
             },
         )?)?;
     }
-    if tx.inputs.len() != 0 || tx.references.len() != 0 {
+    if resolved.inputs.len() != tx.inputs.len()
+        || resolved.references.len() != tx.references.len()
+    {
         return Ok(None);
     }
     Ok(Some(ContractBook::new(boxes).verify(&tx, &resolved)))
