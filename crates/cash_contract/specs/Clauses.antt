@@ -10,7 +10,6 @@ use Rattle.ledger_types.specs.declared.state.StateData.TheVariants.{Cash}
 use Rattle.ledger_types.specs.declared.state.TxState.{TxState}
 use Rattle.ledger_types.specs.declared.tx.Deed.{Deed}
 use Rattle.ledger_types.specs.declared.tx.Deed.TheVariants.{CashIssue, CashMove, CashExit}
-use Rattle.ledger_types.specs.declared.tx.Command.{Command}
 use Rattle.ledger_types.specs.declared.tx.Tx.{Tx}
 use Rattle.ledger_types.specs.declared.tx.Resolved.{Resolved}
 use Rattle.ledger_types.specs.Names.{token_eq}

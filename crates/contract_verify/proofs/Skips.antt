@@ -1,5 +1,5 @@
 -- Asking contracts goes past one of another number, and past one that accepts.
-use Rattle.std.proofs.Common.{◌≡◌, ℕ, ◌≤◌, ◌==◌, List, [], ◌∷◌, length, drop, get_or, Option, Some, None, Bool, true, false, ◌<◌, ◌+◌, filter, unwrap_or, cond, suc, refl, add-one, arith}
+use Rattle.std.proofs.Common.{◌≡◌, ℕ, ◌≤◌, List, [], ◌∷◌, length, drop, get_or, Option, Some, None, Bool, true, false, ◌<◌, ◌+◌, filter, unwrap_or, cond, suc, refl, add-one, arith}
 use Rattle.std.proofs.Math.Seq.{drop-cons}
 use Rattle.std.proofs.lemmas.Bool.Decides.{nat_tests}
 use Rattle.ledger_types.specs.declared.tx.Tx.{Tx}

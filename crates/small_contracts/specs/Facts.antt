@@ -1,5 +1,5 @@
 -- The clauses of the contract of facts. Each is a test of its own, true where the clause refuses.
-use Rattle.std.specs.Prelude.{ℕ, ◌==◌, ◌&&◌, not, Bool, true, false, List, [], ◌∷◌, Option}
+use Rattle.std.specs.Prelude.{ℕ, ◌==◌, ◌&&◌, not, Bool, false, List, [], ◌∷◌, Option}
 use Rattle.std.specs.List.{list_any, enumerate_from}
 use Rattle.ledger_types.specs.declared.state.StateData.{StateData}
 use Rattle.ledger_types.specs.declared.state.StateData.TheVariants.{Fact}

@@ -1,4 +1,4 @@
-use Rattle.std.proofs.Common.{◌≡◌, ◌≤◌, ◌*◌, take, sum_by}
+use Rattle.std.proofs.Common.{◌≡◌, ◌≤◌, ◌*◌, take}
 use Rattle.cash_contract.specs.Clauses.{value_in}
 use Rattle.cash_contract.proofs.value.value_in.Given as goal
 

@@ -1,4 +1,4 @@
-use Rattle.std.proofs.Common.{◌≡◌, ◌||◌, filter, drop, ◌+◌, Option, unwrap_or, ap, sym, ◌∙◌}
+use Rattle.std.proofs.Common.{◌||◌, filter, drop, ◌+◌, Option, unwrap_or, ap, sym, ◌∙◌}
 use Rattle.ledger_types.specs.declared.verdict.Verdict.{Verdict}
 use Rattle.ledger_types.specs.Verdicts.{governs, told_by, judged_by}
 use Rattle.contract_verify.proofs.Skips.{judged_at}
