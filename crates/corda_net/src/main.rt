@@ -1,0 +1,49 @@
+//! Runs a script of commands over a network of one node: `corda_net --nodes 1 < SCRIPT`.
+//!
+//! The script comes from standard input, and the answers go to standard output.
+#![tactic(auto)]
+
+mod streams;
+
+use flow_machine::Counter;
+use node_shell::run;
+use std::io::BufReader;
+use std::process::ExitCode;
+use std::{env, io};
+use streams::{StdSink, StdSource};
+
+/// The status for words that the program refuses.
+const BAD_WORDS: u8 = 2;
+
+/// The status for want of memory.
+const NO_MEMORY: u8 = 7;
+
+// The status where the program's own words can't be read: one isn't UTF-8, or there is no memory for them.
+fn status_of(fault: &io::Error) -> u8 {
+    if fault.kind() == io::ErrorKind::OutOfMemory {
+        NO_MEMORY
+    } else {
+        BAD_WORDS
+    }
+}
+
+fn main(rt: HostRuntime) -> ExitCode {
+    let alloc = rt.alloc();
+    let args = match env::args(&rt) {
+        Ok(args) => args,
+        Err(fault) => return ExitCode::from(status_of(&fault)),
+    };
+    let mut words = Vec::new(alloc);
+    for word in args.skip(1) {
+        if words.push(word).is_err() {
+            return ExitCode::from(NO_MEMORY);
+        }
+    }
+    let Ok(reader) = BufReader::new(alloc, rt.reader()) else {
+        return ExitCode::from(NO_MEMORY);
+    };
+    let mut source = StdSource::new(reader);
+    let mut sink = StdSink::new(io::writer(&rt));
+    let ended = run::<_, _, Counter>(alloc, words.as_slice(), &mut source, &mut sink);
+    ExitCode::from(ended.status)
+}

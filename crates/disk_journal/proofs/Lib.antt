@@ -1,0 +1,9 @@
+pub mod Records
+pub mod Crash
+pub mod Steps
+pub mod Appends
+pub mod Scans
+pub mod Fresh
+pub mod Opens
+pub mod Young
+pub mod Sizes

@@ -1,0 +1,9 @@
+//! A disk in memory, with a fuse and the four outcomes of a power cut.
+#![tactic(auto)]
+
+mod lay;
+mod mem;
+#[cfg(test)]
+mod tests;
+
+pub use mem::MemDisk;

@@ -1,0 +1,3 @@
+pub mod Flows
+pub mod Counter
+pub mod CounterLaws

@@ -1,0 +1,21 @@
+use super::{Act, Value};
+
+/// Where a live flow stands: the frame that waits, and the act that it waits on.
+#[derive(Debug, Drop)]
+pub struct Checkpoint<F> {
+    /// The flow's number at its node, counted from 0.
+    pub flow: u32,
+    /// How often the flow has been resumed.
+    pub step: u32,
+    pub class: u16,
+    pub waiting: Act<F>,
+    pub top: F,
+}
+
+/// A flow of a node.
+#[derive(Debug, Drop)]
+pub enum FlowState<F> {
+    Live(Checkpoint<F>),
+    Ended { step: u32, class: u16, value: Value },
+    Failed { step: u32, class: u16, code: u16 },
+}

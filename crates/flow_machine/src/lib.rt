@@ -1,0 +1,20 @@
+//! Flows: the acts that they wait on, and what a set of flows means.
+//!
+//! The terms are those of the flow framework in the Corda 4 documentation. A flow is a frame that waits on an act;
+//! when the act is performed the frame is resumed with the result, and gives the next frame and the next act.
+#![tactic(auto)]
+
+mod acts;
+mod counter;
+mod fields;
+mod flow_set;
+mod flows;
+#[cfg(test)]
+mod tests;
+
+pub use acts::{Act, Place, Resumed, Value};
+pub use counter::{Counter, Phase};
+pub use flow_set::{
+    FlowSet, MakeFault, WordFault, args_are_short, over_frames_fail, over_is_exact, weight_falls,
+};
+pub use flows::{Checkpoint, FlowState};

@@ -1,0 +1,49 @@
+-- Which act is enabled, and by which event it is performed.
+use Rattle.std.specs.Prelude.{◌≡◌, ℕ, ◌+◌, Option, Some, None, IsSome, option_and_then, MatchOption, if◌then◌else◌, nat_le, List, [], ◌∷◌, slice_get}
+use Rattle.std.specs.Option.{option_or}
+use Rattle.net_base.specs.declared.causes.Event.{Event}
+use Rattle.net_base.specs.declared.causes.Event.TheVariants as event
+use Rattle.flow_machine.specs.declared.acts.Act.{Act}
+use Rattle.flow_machine.specs.declared.acts.Act.TheVariants as act
+use Rattle.flow_machine.specs.declared.flows.FlowState.{FlowState}
+use Rattle.flow_machine.specs.declared.flows.FlowState.TheVariants as state
+use Rattle.net_model.specs.Environment.{Environment}
+use Rattle.net_model.specs.State.{NodeState, FlowPart, now_live, now_ended, now_failed, Effect}
+use Rattle.net_model.specs.Steps.{effect_of, performed, lapsed, lapses, checkpoint_of}
+
+-- the event that performs an act of flow f at a moment, where it is enabled
+abbrev pub performing : {F : Type 0} → ℕ → ℕ → Act F → Option Event
+performing f now (act.Sleep until) = if nat_le until now then Some (event.Lapse f) else None
+performing f now (act.Sub frame) = None
+performing f now (act.Return value) = Some (event.Move f)
+performing f now (act.Fail code) = Some (event.Move f)
+
+-- the event by which flow f goes on at a moment, where it is live on an act that is enabled
+abbrev pub event_of : {F : Type 0} → ℕ → ℕ → FlowState F → Option Event
+event_of f now (state.Live at) = performing f now at.waiting
+event_of f now (state.Ended step class value) = None
+event_of f now (state.Failed step class code) = None
+
+-- the event by which the first flow goes on that can, where the first of the list is flow f
+abbrev pub first_event : {F : Type 0} → ℕ → ℕ → List (FlowState F) → Option Event
+first_event f now [] = None
+first_event f now (flow ∷ flows) = option_or (event_of f now flow) (first_event (f + 1) now flows)
+
+-- what becomes of flow f where it is this
+abbrev pub part_of : {F : Type 0} → ℕ → FlowState F → FlowPart F
+part_of f (state.Live at) = now_live at
+part_of f (state.Ended step class value) = now_ended f step class value
+part_of f (state.Failed step class code) = now_failed f step class code
+
+-- the effect of a Move or a Lapse of a flow that is this
+abbrev pub effect_on : {F : Type 0} → Environment F → ℕ → NodeState F → ℕ → FlowState F → Event → Option (Effect F)
+effect_on w me s now flow (event.Move f) = option_and_then (λ at. performed w me s now at at.waiting) (checkpoint_of flow)
+effect_on w me s now flow (event.Lapse f) = option_and_then (λ at. lapsed w me now at (lapses s now at.flow at.waiting)) (checkpoint_of flow)
+effect_on w me s now flow (event.Start f class args) = None
+effect_on w me s now flow (event.Answer key) = None
+effect_on w me s now flow (event.Arrive key direction number) = None
+
+-- an act is enabled, by the event that performs it, exactly where that event has an effect
+abbrev pub EnabledIsDefined : (F : Type 0) → Type 0
+EnabledIsDefined F = (w : Environment F) (me : ℕ) (s : NodeState F) (now f : ℕ) (flow : FlowState F) → slice_get s.flows f ≡ Some flow
+    → MatchOption (event_of f now flow) ((effect_of w me s now (event.Move f) None ≡ None) × (effect_of w me s now (event.Lapse f) None ≡ None)) (λ e. IsSome (effect_of w me s now e None))

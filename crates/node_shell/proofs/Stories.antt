@@ -1,0 +1,151 @@
+-- How a run goes on by one byte, and how it ends.
+use Rattle.std.proofs.Common.{Result, Ok, Err, OnOk, ◌≡◌, ◌≢◌, ℕ, ◌+◌, ◌<◌, ◌≤◌, List, [], ◌∷◌, ◌++◌, length, Option, refl, sym, ap, subst, ◌∙◌, inl, inr, append-nil, length-append, arith}
+use Rattle.std.proofs.lemmas.List.{take_all}
+use Rattle.std.specs.Io.KnownBytes.{Appends, Consumes, Keeps, IsAtEnd}
+use Rattle.outside.proofs.Pieces.{Appends-nil, Appends-trans, Consumes-nil, Consumes-trans, Consumes-kept}
+use Rattle.net_model.specs.Environment.{Environment}
+use Rattle.node_shell.specs.declared.statuses.Status.{Status}
+use Rattle.node_shell.specs.declared.statuses.Status.TheVariants as status
+use Rattle.node_shell.specs.declared.session.Stop.{Stop}
+use Rattle.node_shell.specs.declared.session.Stop.TheVariants as stop
+use Rattle.node_shell.specs.Worlds.{World, opening}
+use Rattle.node_shell.specs.Script.{AreLines, without_cr, whole_lines, last_line}
+use Rattle.node_shell.specs.Serve.{Link}
+use Rattle.node_shell.specs.Story.{begins, goes_on, Answered, all_lines, Progress, EndsWith, ScriptRun, StopsAs, status_of}
+use Rattle.node_shell.proofs.Splitting.{lines_none, lines_byte, lines_end, whole_more, last_one, take_known}
+
+module _ {F : Type 0} {w : Environment F} where
+  -- one line more is answered
+  pub answered_more : {written0 written1 written2 : Option (List ℕ)} {lines more : List (List ℕ)} {before after : World} {line text : List ℕ} → Answered w written0 written1 lines before → Link w before line text after → Appends written1 written2 text → more ≡ lines ++ line ∷ [] → Answered w written0 written2 more after
+  answered_more {written0 = written0} {written1 = written1} {written2 = written2} {line = line} {text = text} a link appends all = record {
+    out = a.out ++ text;
+    story = goes_on line text a.story link all refl;
+    appended = Appends-trans written0 written1 written2 a.out text a.appended appends;
+  }
+
+  -- nothing was read yet
+  pub progress_start : (left written : Option (List ℕ)) → Progress w left left written written 0 opening []
+  progress_start left written = record {
+    read = [];
+    lines = [];
+    consumed = Consumes-nil left;
+    counted = refl;
+    split = lines_none;
+    answered = record { out = []; story = begins; appended = Appends-nil written };
+  }
+
+  module _ {left0 left1 written0 written1 : Option (List ℕ)} {count : ℕ} {old : World} {rest : List ℕ} (r : Progress w left0 left1 written0 written1 count old rest) where
+    -- a byte that ends no line
+    pub progress_byte : {left2 : Option (List ℕ)} → (b : ℕ) → Consumes left1 left2 (b ∷ []) → b ≢ 10 → Progress w left0 left2 written0 written1 (count + 1) old (rest ++ b ∷ [])
+    progress_byte {left2 = left2} b c open_b = record {
+      read = r.read ++ b ∷ [];
+      lines = r.lines;
+      consumed = Consumes-trans left0 left1 left2 _ _ r.consumed c;
+      counted = omega (arith, length-append r.read (b ∷ []), r.counted);
+      split = lines_byte r.split b open_b;
+      answered = r.answered;
+    }
+
+    -- a byte that ends a line, which is answered
+    pub progress_line : {left2 : Option (List ℕ)} {written2 : Option (List ℕ)} {new : World} → (text : List ℕ) → Consumes left1 left2 (10 ∷ []) → Link w old (without_cr rest) text new → Appends written1 written2 text → Progress w left0 left2 written0 written2 (count + 1) new []
+    progress_line {left2 = left2} text c link appends = record {
+      read = r.read ++ 10 ∷ [];
+      lines = r.lines ++ rest ∷ [];
+      consumed = Consumes-trans left0 left1 left2 _ _ r.consumed c;
+      counted = omega (arith, length-append r.read (10 ∷ []), r.counted);
+      split = lines_end r.split;
+      answered = answered_more r.answered link appends (whole_more r.lines rest);
+    }
+
+    -- the run ends before another byte
+    ends_here : {left2 : Option (List ℕ)} {written2 : Option (List ℕ)} {new : World} → (s : Status) → Keeps left1 left2 → count ≤ 16777216 → EndsWith w left2 written0 written2 count r.lines rest new s → ScriptRun w left0 left2 written0 written2 count new s
+    ends_here {left2 = left2} s k small ends = record {
+      read = r.read;
+      lines = r.lines;
+      rest = rest;
+      consumed = Consumes-kept left0 left1 left2 _ r.consumed k;
+      counted = r.counted;
+      split = subst (λ bytes. AreLines bytes r.lines rest) (sym (take_all 16777216 r.read (omega (arith, r.counted)))) r.split;
+      ends = ends;
+    }
+
+    -- the run ends after one byte more, with these lines
+    ends_after : {left2 : Option (List ℕ)} {written2 : Option (List ℕ)} {new : World} → (b : ℕ) (s : Status) (lines : List (List ℕ)) (rest' : List ℕ) → Consumes left1 left2 (b ∷ []) → count < 16777216 → AreLines (r.read ++ b ∷ []) lines rest' → EndsWith w left2 written0 written2 (count + 1) lines rest' new s → ScriptRun w left0 left2 written0 written2 (count + 1) new s
+    ends_after {left2 = left2} b s lines rest' c small split ends = record {
+      read = r.read ++ b ∷ [];
+      lines = lines;
+      rest = rest';
+      consumed = Consumes-trans left0 left1 left2 _ _ r.consumed c;
+      counted = omega (arith, length-append r.read (b ∷ []), r.counted);
+      split = subst (λ bytes. AreLines bytes lines rest') (sym (take_all 16777216 (r.read ++ b ∷ []) (omega (arith, length-append r.read (b ∷ []), r.counted)))) split;
+      ends = ends;
+    }
+
+    -- a read failed
+    pub run_unread : {left2 : Option (List ℕ)} → Keeps left1 left2 → count ≤ 16777216 → ScriptRun w left0 left2 written0 written1 count old status.ReadFault
+    run_unread k small = ends_here status.ReadFault k small r.answered
+
+    -- a byte too many came
+    pub run_long : {left2 : Option (List ℕ)} → (b : ℕ) → Consumes left1 left2 (b ∷ []) → count ≡ 16777216 → ScriptRun w left0 left2 written0 written1 (count + 1) old status.TooLong
+    run_long {left2 = left2} b c full = record {
+      read = r.read ++ b ∷ [];
+      lines = r.lines;
+      rest = rest;
+      consumed = Consumes-trans left0 left1 left2 _ _ r.consumed c;
+      counted = omega (arith, length-append r.read (b ∷ []), r.counted);
+      split = subst (λ bytes. AreLines bytes r.lines rest) (sym (take_known 16777216 r.read (b ∷ []) (r.counted ∙ full))) r.split;
+      ends = (omega (arith, full), r.answered);
+    }
+
+    -- there is no memory for a byte of a line
+    pub run_unkept : {left2 : Option (List ℕ)} → (b : ℕ) → Consumes left1 left2 (b ∷ []) → b ≢ 10 → count < 16777216 → ScriptRun w left0 left2 written0 written1 (count + 1) old status.NoMemory
+    run_unkept b c open_b small = ends_after b status.NoMemory r.lines (rest ++ b ∷ []) c small (lines_byte r.split b open_b) (inr (omega (arith, length-append rest (b ∷ [])), r.answered))
+
+    -- the input ended, and what it ended with was answered
+    pub run_finished : {left2 : Option (List ℕ)} {written2 : Option (List ℕ)} {new : World} → Keeps left1 left2 → IsAtEnd left2 → count ≤ 16777216 → Answered w written0 written2 (whole_lines r.lines ++ last_line rest) new → ScriptRun w left0 left2 written0 written2 count new status.Finished
+    run_finished k end small answered = ends_here status.Finished k small (end, answered)
+
+    -- what stops a run at its last line
+    stopped : (left written2 : Option (List ℕ)) (new : World) (lines : List (List ℕ)) (rest' line : List ℕ) (n : ℕ) (why : Stop) → all_lines lines rest' ≡ whole_lines r.lines ++ line ∷ [] → (0 < length rest' → IsAtEnd left) → StopsAs w old line new written1 written2 why → EndsWith w left written0 written2 n lines rest' new (status_of why)
+    stopped left written2 new lines rest' line n stop.Write all at_end (front, missing, link, proper, appends) = (
+      record {
+        before = old;
+        earlier = whole_lines r.lines;
+        line = line;
+        out = r.answered.out;
+        front = front;
+        missing = missing;
+        all = all;
+        story = r.answered.story;
+        link = link;
+        proper = proper;
+        appended = Appends-trans written0 written1 written2 _ _ r.answered.appended appends;
+      },
+      at_end,
+    )
+    stopped left written2 new lines rest' line n stop.Memory all at_end (short, same) = inl (
+      record {
+        before = old;
+        earlier = whole_lines r.lines;
+        line = line;
+        out = r.answered.out;
+        all = all;
+        story = r.answered.story;
+        short = short;
+        appended = subst (λ written. Appends written0 written r.answered.out) (sym same) r.answered.appended;
+      },
+      at_end,
+    )
+
+    -- the input ended, and the line that it ended with was not answered
+    pub run_cut_at_end : {left2 : Option (List ℕ)} {written2 : Option (List ℕ)} {new : World} → (why : Stop) → Keeps left1 left2 → IsAtEnd left2 → count ≤ 16777216 → 0 < length rest → StopsAs w old rest new written1 written2 why → ScriptRun w left0 left2 written0 written2 count new (status_of why)
+    run_cut_at_end {left2 = left2} {written2 = written2} {new = new} why k end small some stops = ends_here (status_of why) k small (stopped left2 written2 new r.lines rest rest count why (ap (λ l. whole_lines r.lines ++ l) (last_one rest some)) (λ _. end) stops)
+
+    -- a line that came to its end was not answered
+    pub run_cut : {left2 : Option (List ℕ)} {written2 : Option (List ℕ)} {new : World} → (why : Stop) → Consumes left1 left2 (10 ∷ []) → count < 16777216 → StopsAs w old (without_cr rest) new written1 written2 why → ScriptRun w left0 left2 written0 written2 (count + 1) new (status_of why)
+    run_cut {left2 = left2} {written2 = written2} {new = new} why c small stops = ends_after 10 (status_of why) (r.lines ++ rest ∷ []) [] c small (lines_end r.split) (stopped left2 written2 new (r.lines ++ rest ∷ []) [] (without_cr rest) (count + 1) why (append-nil _ ∙ whole_more r.lines rest) (λ none. absurd (omega arith)) stops)
+
+-- what holds of an Ok holds where it follows from what does
+pub on_ok : {T E : Type 0} {P Q : Type 0} (r : Result T E) → (P → Q) → OnOk r P → OnOk r Q
+on_ok (Ok x) f h = f h
+on_ok (Err e) f h = tt

@@ -1,0 +1,5 @@
+pub mod Worlds
+pub mod Turns
+pub mod Script
+pub mod Serve
+pub mod Story

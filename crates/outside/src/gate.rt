@@ -1,0 +1,18 @@
+/// Where a thread may be held up, so that a test can choose the order of events.
+pub trait Gate {
+    /// Called before a node verifies a transaction for one of its flows, outside any lock.
+    fn before_verify(&self, node: u8, flow: u32);
+
+    /// Called after each commit of a node, outside any lock.
+    fn after_commit(&self, node: u8);
+}
+
+/// The gate that holds up nobody.
+#[derive(Clone, Copy, Debug, PartialEq, Eq)]
+pub struct NoGate;
+
+impl Gate for NoGate {
+    fn before_verify(&self, _node: u8, _flow: u32) {}
+
+    fn after_commit(&self, _node: u8) {}
+}

@@ -1,0 +1,21 @@
+//! What lies outside the core: sources, sinks, disks and gates, by what they give and keep.
+//!
+//! Each is a trait whose ghost members are its meaning, so that the code above is generic and proved once.
+//! Every call that fails answers [`Failed`], and only where the object's count of faults rose in that call.
+#![tactic(auto)]
+
+mod bay;
+mod disk;
+mod fault;
+mod gate;
+mod sink;
+mod source;
+#[cfg(test)]
+mod stream_tests;
+
+pub use bay::{AttachFault, Bay, NoFuse};
+pub use disk::{Disk, write_synced};
+pub use fault::Failed;
+pub use gate::{Gate, NoGate};
+pub use sink::{MemSink, Sink};
+pub use source::{MemSource, Source};

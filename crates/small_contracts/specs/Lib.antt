@@ -1,0 +1,4 @@
+pub mod Signing
+pub mod Locks
+pub mod Facts
+pub mod Ious
