@@ -318,7 +318,7 @@ fn written(alloc: Global, bytes: &ByteList) -> Result<Option<ByteList>, Fail> {
 }
 
 #[test]
-fn values_are_written_and_written(rt: HostRuntime) -> Result<(), Fail> {
+fn values_are_read_and_written(rt: HostRuntime) -> Result<(), Fail> {
     let alloc = rt.alloc();
     for (text, is) in &values() {
         let bytes = bytes_of(alloc, text)?;
@@ -372,7 +372,7 @@ fn flow_and_code(alloc: Global, bytes: &ByteList) -> Result<(u32, u8), Fail> {
 }
 
 #[test]
-fn the_rest_is_written_and_written(rt: HostRuntime) -> Result<(), Fail> {
+fn the_rest_is_read_and_written(rt: HostRuntime) -> Result<(), Fail> {
     let alloc = rt.alloc();
     let bytes = bytes_of(alloc, entry())?;
     assert_eq!(rt; written_entry(alloc, &bytes)?.as_slice(), bytes.as_slice());
