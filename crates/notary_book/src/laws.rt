@@ -1,0 +1,30 @@
+//! Laws of books. The functions do nothing when they run; their contracts are the laws.
+
+ghost use Rattle.std.specs.Prelude.{◌≡◌, ◌≤◌, List, length, true, false};
+ghost use Rattle.std.specs.List.{list_any};
+ghost use Rattle.net_base.specs.declared.values.Hash32.{Hash32};
+ghost use Rattle.net_base.specs.declared.values.Party.{Party};
+ghost use Rattle.net_base.specs.declared.values.Moment.{Moment};
+ghost use Rattle.net_base.specs.declared.names.StateRef.{StateRef};
+ghost use Rattle.net_base.specs.declared.names.Identity.{Identity};
+ghost use Rattle.ledger_types.specs.declared.notary.Request.{Request};
+ghost use Rattle.ledger_types.specs.declared.notary.Entry.{Entry};
+ghost use Rattle.ledger_types.specs.Notary.{signs, consumers, reply, IsBook};
+ghost use Rattle.notary_book.specs.Causes.{is_conflict, AreCaused};
+
+/// In a book whose every entry was added for a fresh decision over the entries before it, a state has at most one
+/// consumer.
+pub fn one_consumer()
+    ensures { (mark : Party → Hash32 → Hash32) (me : Identity) (book : List Entry) (r : StateRef) → IsBook mark me book → length (consumers book r) ≤ 1 }
+{}
+
+/// In such a book each item of each conflict has the hash of the first entry before it that signed another id with the
+/// item's reference among its inputs.
+pub fn conflicts_name_consumers()
+    ensures { (mark : Party → Hash32 → Hash32) (me : Identity) (book : List Entry) → IsBook mark me book → AreCaused book }
+{}
+
+/// Over any entries, a fresh answer about an id that was signed is no conflict.
+pub fn signed_never_conflicts()
+    ensures { (mark : Party → Hash32 → Hash32) (me : Identity) (entries : List Entry) (q : Request) (now : Moment) → list_any (signs q.torn.id) entries ≡ true → (reply mark entries q me now).fresh ≡ true → is_conflict (reply mark entries q me now).answer ≡ false }
+{}

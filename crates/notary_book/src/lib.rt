@@ -1,0 +1,12 @@
+//! The notary's book: what it has answered, and the decision that keeps every state from a second consumer (Corda 4
+//! documentation, "Notaries").
+#![tactic(auto)]
+
+mod book;
+mod entries;
+mod laws;
+#[cfg(test)]
+mod tests;
+
+pub use book::{Book, Decision};
+pub use laws::{conflicts_name_consumers, one_consumer, signed_never_conflicts};

@@ -1,0 +1,179 @@
+//! The decisions of a notary, worked out by hand from the order of its cases. The tear-offs were computed by another
+//! implementation.
+
+use super::*;
+use ledger_types::{Entry, NotaryAnswer, RefKind, Request, TornTx, consumer_hash};
+use net_base::{Identity, ListOf, Moment, Party, Reader, Tag};
+use signing::{KeyedDigest, Signer};
+use std::alloc::Global;
+use std::test::Fail;
+use tx_tear::{TearFault, visible};
+
+/// Consumes state 1.
+const PAY: &str =
+    "dc4724723712176666f4828a2f86e2bbdbf078518d86d8decc24b95b499ff01c0501011010101010101010101010101010101010101010101010101010101010101010002401010101010101010101010101010101010101010101010101010101010101010000000000ffffffffffffffffffffffffffffffffffffffffffffffffffffffffffffffff00ffffffffffffffffffffffffffffffffffffffffffffffffffffffffffffffff00ffffffffffffffffffffffffffffffffffffffffffffffffffffffffffffffff01012020202020202020202020202020202020202020202020202020202020202020000100";
+
+/// Consumes states 2 and 1.
+const PAY_AGAIN: &str =
+    "0225562bb9652db89ab858188f28878cf6ce8d806794eb95f2a2479ecd494a9e050102303030303030303030303030303030303030303030303030303030303030303000240202020202020202020202020202020202020202020202020202020202020202000000003131313131313131313131313131313131313131313131313131313131313131002401010101010101010101010101010101010101010101010101010101010101010000000000ffffffffffffffffffffffffffffffffffffffffffffffffffffffffffffffff00ffffffffffffffffffffffffffffffffffffffffffffffffffffffffffffffff00ffffffffffffffffffffffffffffffffffffffffffffffffffffffffffffffff01014040404040404040404040404040404040404040404040404040404040404040000100";
+
+/// Consumes state 3 and refers to state 1.
+const REFER: &str =
+    "b549cf0430f83f5e24e82e7f29fce038467c5a657c47130a77e34317027e6bce0801015050505050505050505050505050505050505050505050505050505050505050002403030303030303030303030303030303030303030303030303030303030303030000000000ffffffffffffffffffffffffffffffffffffffffffffffffffffffffffffffff00ffffffffffffffffffffffffffffffffffffffffffffffffffffffffffffffff00ffffffffffffffffffffffffffffffffffffffffffffffffffffffffffffffff01016060606060606060606060606060606060606060606060606060606060606060000100010000ffffffffffffffffffffffffffffffffffffffffffffffffffffffffffffffff010170707070707070707070707070707070707070707070707070707070707070700024010101010101010101010101010101010101010101010101010101010101010100000000";
+
+/// Consumes state 4 from moment 5 on and before moment 9.
+const IN_TIME: &str =
+    "6b6055c0dfdc990731208637b5b9a32ac3f6d6973e545f9fd37bfd0358b324ec0601018080808080808080808080808080808080808080808080808080808080808080002404040404040404040404040404040404040404040404040404040404040404040000000000ffffffffffffffffffffffffffffffffffffffffffffffffffffffffffffffff00ffffffffffffffffffffffffffffffffffffffffffffffffffffffffffffffff00ffffffffffffffffffffffffffffffffffffffffffffffffffffffffffffffff010190909090909090909090909090909090909090909090909090909090909090900001000101a0a0a0a0a0a0a0a0a0a0a0a0a0a0a0a0a0a0a0a0a0a0a0a0a0a0a0a0a0a0a0a00012010000000000000005010000000000000009";
+
+/// Names another notary.
+const ELSEWHERE: &str =
+    "b9508f1801f75b0ecf431e2476f105bd44a224c2a5200e2aa99fe1cdf89b2c12050101b0b0b0b0b0b0b0b0b0b0b0b0b0b0b0b0b0b0b0b0b0b0b0b0b0b0b0b0b0b0b0b0002405050505050505050505050505050505050505050505050505050505050505050000000000ffffffffffffffffffffffffffffffffffffffffffffffffffffffffffffffff00ffffffffffffffffffffffffffffffffffffffffffffffffffffffffffffffff00ffffffffffffffffffffffffffffffffffffffffffffffffffffffffffffffff0101c0c0c0c0c0c0c0c0c0c0c0c0c0c0c0c0c0c0c0c0c0c0c0c0c0c0c0c0c0c0c0c0000101";
+
+/// An id that its groups don't give.
+const BAD: &str =
+    "09090909090909090909090909090909090909090909090909090909090909090501011010101010101010101010101010101010101010101010101010101010101010002401010101010101010101010101010101010101010101010101010101010101010000000000ffffffffffffffffffffffffffffffffffffffffffffffffffffffffffffffff00ffffffffffffffffffffffffffffffffffffffffffffffffffffffffffffffff00ffffffffffffffffffffffffffffffffffffffffffffffffffffffffffffffff01012020202020202020202020202020202020202020202020202020202020202020000100";
+
+/// What the notary replies; an entry of a fresh answer is added.
+fn answer(
+    alloc: Global,
+    book: &mut Book,
+    request: Request,
+    me: &Identity,
+    now: Moment,
+) -> Result<(u8, bool), TearFault> {
+    let (inputs, decision) = match visible(alloc, &request.torn) {
+        Ok(seen) => {
+            let decision = book.decide(alloc, &request, Some(&seen), me, now, &KeyedDigest)?;
+            (seen.inputs, decision)
+        }
+        Err(TearFault::BadTear) => {
+            let decision = book.decide(alloc, &request, None, me, now, &KeyedDigest)?;
+            (ListOf::new(alloc), decision)
+        }
+        Err(fault) => return Err(fault),
+    };
+    let Decision { answer, fresh } = decision;
+    let code = answer.code();
+    if fresh {
+        book.make_room(alloc)?;
+        book.add(Entry {
+            request,
+            inputs,
+            answer,
+        });
+    }
+    Ok((code, fresh))
+}
+
+/// The only item of a conflict, its kind as the number 0 for an input and 1 for a reference.
+fn only_conflict(answer: &NotaryAnswer) -> Option<(u8, u32, [u8; 32], u8)> {
+    match answer {
+        NotaryAnswer::Conflict { list } => match list.as_slice() {
+            [item] => {
+                let kind = match item.kind {
+                    RefKind::Input => 0,
+                    RefKind::Reference => 1,
+                };
+                Some((
+                    item.reference.id.0[0],
+                    item.reference.index,
+                    item.consumer_hash.0,
+                    kind,
+                ))
+            }
+            _ => None,
+        },
+        _ => None,
+    }
+}
+
+#[test]
+fn the_eight_cases(rt: HostRuntime) -> Result<(), Fail> {
+    one_consumer();
+    conflicts_name_consumers();
+    signed_never_conflicts();
+    let table = [
+        ("signed", 1, 0, PAY, 1, 0, 0, (0, true)),
+        ("asked again", 1, 0, PAY, 1, 7, 0, (0, false)),
+        ("signed already", 2, 0, PAY, 2, 0, 0, (0, true)),
+        (
+            "its input is consumed",
+            1,
+            1,
+            PAY_AGAIN,
+            1,
+            0,
+            0,
+            (44, true),
+        ),
+        ("refused again", 1, 1, PAY_AGAIN, 1, 0, 0, (44, false)),
+        (
+            "its reference is consumed",
+            1,
+            2,
+            REFER,
+            1,
+            0,
+            0,
+            (44, true),
+        ),
+        ("before its window", 1, 3, IN_TIME, 1, 4, 0, (45, true)),
+        (
+            "at the end of its window",
+            1,
+            4,
+            IN_TIME,
+            1,
+            9,
+            0,
+            (45, true),
+        ),
+        ("in its window", 1, 5, IN_TIME, 1, 5, 0, (0, true)),
+        (
+            "past its window, signed already",
+            1,
+            6,
+            IN_TIME,
+            1,
+            9,
+            0,
+            (0, true),
+        ),
+        ("another notary", 1, 7, ELSEWHERE, 1, 0, 0, (41, true)),
+        ("not at the notary", 1, 8, PAY, 1, 0, 2, (41, false)),
+        ("a bad tear-off", 1, 9, BAD, 1, 0, 0, (42, true)),
+        ("the tag of another", 1, 10, PAY, 2, 0, 0, (43, true)),
+    ];
+    let mut book = Book::new(rt.alloc());
+    for (name, party, flow, torn, signer, now, node, wanted) in table {
+        let bytes = hex::decode(rt.alloc(), torn)?;
+        let torn = TornTx::decode(rt.alloc(), &mut Reader::new(&bytes))?;
+        let by = Party(signer);
+        let tag = Tag {
+            by,
+            of: torn.id,
+            mark: KeyedDigest.mark(by, &torn.id),
+        };
+        let request = Request {
+            party: Party(party),
+            flow,
+            torn,
+            tag,
+        };
+        let me = Identity {
+            party: Party(node),
+            nodes: 3,
+            notary: Party(0),
+        };
+        let given = answer(rt.alloc(), &mut book, request, &me, Moment(now))?;
+        assert_eq!(rt; given, wanted, "{name}");
+    }
+    let entries = book.entries();
+    assert_eq!(rt; entries.len(), 11);
+    if let [pay, _, again, refer, ..] = entries {
+        let hash = consumer_hash(&pay.request.torn.id).0;
+        assert_eq!(rt; only_conflict(&again.answer), Some((1, 0, hash, 0)));
+        assert_eq!(rt; only_conflict(&refer.answer), Some((1, 0, hash, 1)));
+    }
+    Ok(())
+}
