@@ -17,7 +17,7 @@ use Rattle.ledger_types.specs.declared.tx.Window.{Window}
 use Rattle.ledger_types.specs.declared.torn.Visible.{Visible}
 use Rattle.ledger_types.specs.Names.{is_party}
 use Rattle.ledger_types.specs.Tears.{visible_of}
-use Rattle.ledger_types.specs.Notary.{signs, repeats, consumes, consumer_hash_of, conflict_over, conflicts, is_inside, tag_by, has_good_tag, answer_unsigned, answer_shown, answer_torn, answer_new, is_notary, reply_over, reply, IsBookAfter, IsBook}
+use Rattle.ledger_types.specs.Notary.{signs, consumes, consumer_hash_of, conflict_over, conflicts, is_inside, tag_by, has_good_tag, answer_unsigned, answer_shown, answer_torn, is_notary, IsBookAfter, IsBook}
 use Rattle.notary_book.specs.Causes.{is_conflict, IsCaused, AnswerIsCaused, AreCausedAfter, AreCaused}
 use Rattle.notary_book.proofs.Once.{added}
 
@@ -89,21 +89,13 @@ book_caused mark me book h = caused_after mark me [] book h
 
 -- ---- an id that was signed
 
-no_if : (b : Bool) (x y : NotaryAnswer) → is_conflict x ≡ false → is_conflict y ≡ false → is_conflict (cond b x y) ≡ false
+pub no_if : (b : Bool) (x y : NotaryAnswer) → is_conflict x ≡ false → is_conflict y ≡ false → is_conflict (cond b x y) ≡ false
 no_if true x y h k = h
 no_if false x y h k = k
 
 no_shown : (mark : Party → Hash32 → Hash32) (me : Party) (before : List Entry) (q : Request) (now : Moment) (v : Visible) → list_any (signs q.torn.id) before ≡ true → is_conflict (answer_shown mark me before q now v) ≡ false
 no_shown mark me before q now v h = rw h (no_if (not (has_good_tag mark q)) answer.BadRequestTag (answer.Signed (tag_by mark me q.torn.id)) refl refl)
 
-no_torn : (mark : Party → Hash32 → Hash32) (me : Party) (before : List Entry) (q : Request) (now : Moment) (o : Option Visible) → list_any (signs q.torn.id) before ≡ true → is_conflict (answer_torn mark me before q now o) ≡ false
+pub no_torn : (mark : Party → Hash32 → Hash32) (me : Party) (before : List Entry) (q : Request) (now : Moment) (o : Option Visible) → list_any (signs q.torn.id) before ≡ true → is_conflict (answer_torn mark me before q now o) ≡ false
 no_torn mark me before q now None h = refl
 no_torn mark me before q now (Some v) h = no_if (is_party me v.notary) (answer_shown mark me before q now v) answer.WrongNotary (no_shown mark me before q now v h) refl
-
-no_over : (mark : Party → Hash32 → Hash32) (me : Identity) (before : List Entry) (q : Request) (now : Moment) (o : Option Entry) → list_any (signs q.torn.id) before ≡ true → (reply_over mark me before q now o).fresh ≡ true → is_conflict (reply_over mark me before q now o).answer ≡ false
-no_over mark me before q now (Some e) h fresh = cc
-no_over mark me before q now None h fresh = no_if (is_notary me) (answer_torn mark me.party before q now (visible_of q.torn)) answer.WrongNotary (no_torn mark me.party before q now (visible_of q.torn) h) refl
-
-pub no_conflict : (mark : Party → Hash32 → Hash32) (me : Identity) (before : List Entry) (q : Request) (now : Moment) → list_any (signs q.torn.id) before ≡ true → (reply mark before q me now).fresh ≡ true → is_conflict (reply mark before q me now).answer ≡ false
-unfolding reply
-no_conflict mark me before q now h fresh = no_over mark me before q now (find (repeats q) before) h fresh

@@ -2,3 +2,4 @@ pub mod Answering
 pub mod Finding
 pub mod Once
 pub mod Caused
+pub mod Refused

@@ -16,7 +16,7 @@ use Rattle.ledger_types.specs.declared.notary.RefKind.TheVariants as kind
 use Rattle.ledger_types.specs.declared.notary.Request.{Request}
 use Rattle.ledger_types.specs.declared.tx.Window.{Window}
 use Rattle.ledger_types.specs.declared.torn.Visible.{Visible}
-use Rattle.ledger_types.specs.Names.{ref_eq, has_ref, hash_eq, party_eq, is_party}
+use Rattle.ledger_types.specs.Names.{ref_eq, has_ref, hash_eq, is_party}
 use Rattle.ledger_types.specs.Tears.{visible_of}
 use Rattle.ledger_types.specs.Notary.{is_signature, signs, repeats, consumes, conflict_over, conflicts, tag_by, has_good_tag, answer_unsigned, answer_shown, answer_torn, answer_new, is_notary, inputs_of, entry_of, reply_over, reply, consumers_after, consumers, IsBooked, IsBookAfter, IsBook}
 
@@ -52,19 +52,19 @@ first_cons : {X : Type 0} (o : Option X) (xs : List X) → (is_some o ≡ true) 
 first_cons (Some x) xs h = record { first = x; rest = xs; is = refl }
 first_cons None xs h = ⊎_elim (λ k. cc) (λ k. k) h
 
-pictured : {X Y : Type 0} (P : X → Bool) (f : X → Option Y) (xs : List X) → ((x : X) → P x ≡ true → is_some (f x) ≡ true) → list_any P xs ≡ true → HasFirst (filter_map f xs)
+pub pictured : {X Y : Type 0} (P : X → Bool) (f : X → Option Y) (xs : List X) → ((x : X) → P x ≡ true → is_some (f x) ≡ true) → list_any P xs ≡ true → HasFirst (filter_map f xs)
 pictured P f [] g h = cc
 pictured P f (x ∷ xs) g h = first_cons (f x) (filter_map f xs) (⊎_elim (λ p. inl (g x p)) (λ p. inr (pictured P f xs g p)) (or_cases _ _ h))
 
-some_map : {X Y : Type 0} (f : X → Y) (o : Option X) → is_some o ≡ true → is_some (option_map f o) ≡ true
+pub some_map : {X Y : Type 0} (f : X → Y) (o : Option X) → is_some o ≡ true → is_some (option_map f o) ≡ true
 some_map f None h = cc
 some_map f (Some x) h = refl
 
-any_append : {X : Type 0} (P : X → Bool) (xs ys : List X) → list_any P xs ≡ true → list_any P (xs ++ ys) ≡ true
+pub any_append : {X : Type 0} (P : X → Bool) (xs ys : List X) → list_any P xs ≡ true → list_any P (xs ++ ys) ≡ true
 any_append P [] ys h = cc
 any_append P (x ∷ xs) ys h = (elim (P x) as (λ b. b || list_any P xs ≡ true → b || list_any P (xs ++ ys) ≡ true) [ true ↦ λ k. refl | false ↦ λ k. any_append P xs ys k ]) h
 
-any_last : {X : Type 0} (P : X → Bool) (xs : List X) (x : X) → P x ≡ true → list_any P (xs ++ x ∷ []) ≡ true
+pub any_last : {X : Type 0} (P : X → Bool) (xs : List X) (x : X) → P x ≡ true → list_any P (xs ++ x ∷ []) ≡ true
 any_last P [] x h = rw h
 any_last P (y ∷ ys) x h = (elim (P y) as (λ b. b || list_any P (ys ++ x ∷ []) ≡ true) [ true ↦ refl | false ↦ any_last P ys x h ])
 
@@ -82,7 +82,7 @@ conflict_there before id r h k =
     and_from _ _ yes.0 (and_from _ _ (not_from_false _ other) yes.1))
     h k)
 
-first_append : {X : Type 0} (xs ys : List X) → HasFirst xs → HasFirst (xs ++ ys)
+pub first_append : {X : Type 0} (xs ys : List X) → HasFirst xs → HasFirst (xs ++ ys)
 first_append xs ys h = record { first = h.first; rest = h.rest ++ ys; is = ap (λ (l : List _). l ++ ys) h.is }
 
 conflicts_there : (before : List Entry) (id : Hash32) (r : StateRef) (v : Visible) → list_any (takes r) before ≡ true → list_any (signs id) before ≡ false → has_ref r v.inputs ≡ true → HasFirst (conflicts before id v)
@@ -91,11 +91,11 @@ conflicts_there before id r v h k has =
     (λ q e. subst (λ (x : StateRef). is_some (conflict_over before id kind.Input x) ≡ true) (sym (ref_true q r e)) (conflict_there before id r h k)) has)
 
 -- with conflicts nothing is signed
-unsigned_no : (mark : Party → Hash32 → Hash32) (me : Party) (id : Hash32) (now : Moment) (window : Option Window) (list : List ConflictItem) → HasFirst list → is_signature (answer_unsigned mark me id now window list) ≡ false
+pub unsigned_no : (mark : Party → Hash32 → Hash32) (me : Party) (id : Hash32) (now : Moment) (window : Option Window) (list : List ConflictItem) → HasFirst list → is_signature (answer_unsigned mark me id now window list) ≡ false
 unsigned_no mark me id now window [] h = let e = h.is in cc
 unsigned_no mark me id now window (c ∷ cs) h = refl
 
-if_no : (b : Bool) (x y : NotaryAnswer) → is_signature x ≡ false → is_signature y ≡ false → is_signature (cond b x y) ≡ false
+pub if_no : (b : Bool) (x y : NotaryAnswer) → is_signature x ≡ false → is_signature y ≡ false → is_signature (cond b x y) ≡ false
 if_no true x y h k = h
 if_no false x y h k = k
 

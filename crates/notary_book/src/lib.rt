@@ -9,4 +9,6 @@ mod laws;
 mod tests;
 
 pub use book::{Book, Decision};
-pub use laws::{conflicts_name_consumers, one_consumer, signed_never_conflicts};
+pub use laws::{
+    conflicts_name_consumers, one_consumer, refused_is_never_signed, signed_is_never_refused,
+};

@@ -91,7 +91,8 @@ fn only_conflict(answer: &NotaryAnswer) -> Option<(u8, u32, [u8; 32], u8)> {
 fn the_eight_cases(rt: HostRuntime) -> Result<(), Fail> {
     one_consumer();
     conflicts_name_consumers();
-    signed_never_conflicts();
+    signed_is_never_refused();
+    refused_is_never_signed();
     let table = [
         ("signed", 1, 0, PAY, 1, 0, 0, (0, true)),
         ("asked again", 1, 0, PAY, 1, 7, 0, (0, false)),

@@ -1,6 +1,5 @@
 -- The tear-off of a transaction.
-use Rattle.std.specs.Prelude.{◌≡◌, ℕ, ◌+◌, ◌==◌, ◌||◌, Bool, List, [], ◌∷◌, Option, Some, if◌then◌else◌}
-use Rattle.net_base.specs.declared.values.Hash32.{Hash32}
+use Rattle.std.specs.Prelude.{ℕ, ◌+◌, ◌==◌, ◌||◌, Bool, List, [], ◌∷◌, if◌then◌else◌}
 use Rattle.component_merkle.specs.Merkle.{nonce_of}
 use Rattle.ledger_types.specs.declared.tx.Tx.{Tx}
 use Rattle.ledger_types.specs.declared.torn.TornPart.{TornPart}

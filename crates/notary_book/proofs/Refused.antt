@@ -1,0 +1,300 @@
+-- An id that was answered a conflict is never signed.
+use Rattle.std.proofs.Common.{◌≡◌, ℕ, ◌⊎◌, inl, inr, ⊎_elim, List, [], ◌∷◌, ◌++◌, Option, Some, None, Bool, true, false, true≢false, cond, ◌&&◌, ◌||◌, not, find, filter_map, option_map, is_some, refl, sym, ap, subst, ◌∙◌, append_assoc, append-nil}
+use Rattle.std.specs.List.{AllByRecursion, list_any, cons_option}
+use Rattle.std.proofs.lemmas.Bool.{and_parts, and_from, and_cases, or_cases, or_parts, both_ways}
+use Rattle.std.proofs.lemmas.Bool.Decides.{Decides-eqb}
+use Rattle.std.proofs.lemmas.Slice.Eq.{bytes_eq-Decides}
+use Rattle.net_base.specs.declared.values.Hash32.{Hash32}
+use Rattle.net_base.specs.declared.values.Party.{Party}
+use Rattle.net_base.specs.declared.values.Moment.{Moment}
+use Rattle.net_base.specs.declared.names.StateRef.{StateRef}
+use Rattle.net_base.specs.declared.names.Identity.{Identity}
+use Rattle.ledger_types.specs.declared.notary.ConflictItem.{ConflictItem}
+use Rattle.ledger_types.specs.declared.notary.Entry.{Entry}
+use Rattle.ledger_types.specs.declared.notary.NotaryAnswer.{NotaryAnswer}
+use Rattle.ledger_types.specs.declared.notary.NotaryAnswer.TheVariants as answer
+use Rattle.ledger_types.specs.declared.notary.RefKind.{RefKind}
+use Rattle.ledger_types.specs.declared.notary.RefKind.TheVariants as kind
+use Rattle.ledger_types.specs.declared.notary.Request.{Request}
+use Rattle.ledger_types.specs.declared.tx.Window.{Window}
+use Rattle.ledger_types.specs.declared.torn.Visible.{Visible}
+use Rattle.ledger_types.specs.Names.{ref_eq, has_ref, hash_eq, is_party}
+use Rattle.ledger_types.specs.Tears.{visible_of}
+use Rattle.ledger_types.specs.Notary.{is_signature, signs, repeats, consumes, conflict_over, conflicts, is_inside, tag_by, has_good_tag, answer_unsigned, answer_shown, answer_torn, answer_new, is_notary, reply_over, reply, IsBooked, IsBookAfter, IsBook}
+use Rattle.notary_book.specs.Causes.{is_conflict}
+use Rattle.notary_book.specs.Agreement.{refuses, Agree, AgreesWith, AgreeAfter, AllAgree}
+use Rattle.notary_book.proofs.Once.{HasFirst, pictured, some_map, any_append, first_append, ref_true, unsigned_no, if_no, added}
+use Rattle.notary_book.proofs.Caused.{no_if, no_torn}
+
+-- ---- tests
+
+no_and : (a b : Bool) → a ≡ false → (a && b) ≡ false
+no_and true b h = absurd (true≢false h)
+no_and false b h = refl
+
+no_and_right : (a b : Bool) → b ≡ false → (a && b) ≡ false
+no_and_right true b h = h
+no_and_right false b h = refl
+
+hash_true : (x y : Hash32) → hash_eq x y ≡ true → x ≡ y
+hash_true x y h = ap (λ (bytes : List ℕ). record { 0 = bytes }) ((bytes_eq-Decides x.0 y.0).0 h)
+
+ref_same : (r : StateRef) → ref_eq r r ≡ true
+ref_same r = and_from _ _ ((bytes_eq-Decides r.id.0 r.id.0).1 refl) ((Decides-eqb r.index r.index).1 refl)
+
+find_any : {X : Type 0} (P : X → Bool) (xs : List X) → list_any P xs ≡ true → is_some (find P xs) ≡ true
+find_any P [] h = absurd (true≢false (sym h))
+find_any {X} P (x ∷ xs) h =
+    (elim (P x) as (λ b. P x ≡ b → is_some (cond b (Some x) (find P xs)) ≡ true) [
+      | true ↦ λ e. refl
+      | false ↦ λ e. ⊎_elim (λ p. absurd (both_ways (P x) e p)) (λ p. find_any P xs p) (or_cases _ _ h)
+    ]) refl
+
+any_find : {X : Type 0} (P : X → Bool) (xs : List X) → is_some (find P xs) ≡ true → list_any P xs ≡ true
+any_find P [] h = absurd (true≢false (sym h))
+any_find {X} P (x ∷ xs) h =
+    (elim (P x) as (λ b. is_some (cond b (Some x) (find P xs)) ≡ true → (b || list_any P xs) ≡ true) [
+      | true ↦ λ k. refl
+      | false ↦ λ k. any_find P xs k
+    ]) h
+
+any_behind : {X : Type 0} (P : X → Bool) (xs ys : List X) → list_any P ys ≡ true → list_any P (xs ++ ys) ≡ true
+any_behind P [] ys h = h
+any_behind P (x ∷ xs) ys h = (elim (P x) as (λ b. (b || list_any P (xs ++ ys)) ≡ true) [ true ↦ refl | false ↦ any_behind P xs ys h ])
+
+any_here : {X : Type 0} (P : X → Bool) (x : X) (xs : List X) → P x ≡ true → list_any P (x ∷ xs) ≡ true
+any_here P x xs h = ap (λ (b : Bool). b || list_any P xs) h
+
+none_more : {X : Type 0} (P : X → Bool) (xs : List X) (x : X) → list_any P xs ≡ false → P x ≡ false → list_any P (xs ++ x ∷ []) ≡ false
+none_more P [] x h k = ap (λ (b : Bool). b || false) k
+none_more P (y ∷ ys) x h k = let p = or_parts _ _ h in ap (λ (b : Bool). b || list_any P (ys ++ x ∷ [])) p.0 ∙ none_more P ys x p.1 k
+
+all_front : {X : Type 0} (P : X → Type 0) (xs ys : List X) → AllByRecursion P (xs ++ ys) → AllByRecursion P xs
+all_front P [] ys h = tt
+all_front P (x ∷ xs) ys h = (h.0, all_front P xs ys h.1)
+
+all_last : {X : Type 0} (P : X → Type 0) (xs : List X) (x : X) → AllByRecursion P (xs ++ x ∷ []) → P x
+all_last P [] x h = h.0
+all_last P (y ∷ ys) x h = all_last P ys x h.1
+
+first_behind : {X : Type 0} (xs ys : List X) → HasFirst ys → HasFirst (xs ++ ys)
+first_behind [] ys h = h
+first_behind (x ∷ xs) ys h = record { first = x; rest = xs ++ ys; is = refl }
+
+first_of_both : {X : Type 0} (xs ys : List X) → HasFirst (xs ++ ys) → HasFirst xs ⊎ HasFirst ys
+first_of_both [] ys h = inr h
+first_of_both (x ∷ xs) ys h = inl (record { first = x; rest = xs; is = refl })
+
+-- ---- a reference that another id consumes
+
+conflict_some : (before : List Entry) (id : Hash32) (k : RefKind) (r : StateRef) → list_any (consumes id r) before ≡ true → is_some (conflict_over before id k r) ≡ true
+conflict_some before id k r h = some_map _ _ (find_any (consumes id r) before h)
+
+first_named : (before : List Entry) (id : Hash32) (k : RefKind) (r : StateRef) (refs : List StateRef) → list_any (consumes id r) before ≡ true → has_ref r refs ≡ true → HasFirst (filter_map (conflict_over before id k) refs)
+first_named before id k r refs taken has =
+    pictured (λ s. ref_eq s r) (conflict_over before id k) refs
+    (λ q e. subst (λ (x : StateRef). is_some (conflict_over before id k x) ≡ true) (sym (ref_true q r e)) (conflict_some before id k r taken)) has
+
+-- a reference among these that an entry of another id consumes
+record Named (before : List Entry) (id : Hash32) (inputs references : List StateRef) : Type 0 where
+  pub ref : StateRef
+  pub has : (has_ref ref inputs ≡ true) ⊎ (has_ref ref references ≡ true)
+  pub taken : list_any (consumes id ref) before ≡ true
+
+record Taken (before : List Entry) (id : Hash32) (refs : List StateRef) : Type 0 where
+  pub ref : StateRef
+  pub has : has_ref ref refs ≡ true
+  pub taken : list_any (consumes id ref) before ≡ true
+
+some_of : {X Y : Type 0} (f : X → Y) (o : Option X) (y : Y) → option_map f o ≡ Some y → is_some o ≡ true
+some_of f None y h = cc
+some_of f (Some x) y h = refl
+
+taken_cons : (before : List Entry) (id : Hash32) (k : RefKind) (r : StateRef) (rs : List StateRef) → (HasFirst (filter_map (conflict_over before id k) rs) → Taken before id rs)
+    → (o : Option ConflictItem) → conflict_over before id k r ≡ o → HasFirst (cons_option o (filter_map (conflict_over before id k) rs)) → Taken before id (r ∷ rs)
+taken_cons before id k r rs behind (Some item) e f = record { ref = r; has = any_here (λ s. ref_eq s r) r rs (ref_same r); taken = any_find (consumes id r) before (some_of _ (find (consumes id r) before) item e) }
+taken_cons before id k r rs behind None e f = let n = behind f in record { ref = n.ref; has = any_behind (λ s. ref_eq s n.ref) (r ∷ []) rs n.has; taken = n.taken }
+
+taken_in : (before : List Entry) (id : Hash32) (k : RefKind) (refs : List StateRef) → HasFirst (filter_map (conflict_over before id k) refs) → Taken before id refs
+taken_in before id k [] h = let e = h.is in cc
+taken_in before id k (r ∷ rs) h = taken_cons before id k r rs (taken_in before id k rs) (conflict_over before id k r) refl h
+
+named_by : (before : List Entry) (id : Hash32) (v : Visible) → HasFirst (conflicts before id v) → Named before id v.inputs v.references
+named_by before id v h =
+    ⊎_elim
+    (λ f. let n = taken_in before id kind.Input v.inputs f in record { ref = n.ref; has = inl n.has; taken = n.taken })
+    (λ f. let n = taken_in before id kind.Reference v.references f in record { ref = n.ref; has = inr n.has; taken = n.taken })
+    (first_of_both (filter_map (conflict_over before id kind.Input) v.inputs) (filter_map (conflict_over before id kind.Reference) v.references) h)
+
+first_by : (before : List Entry) (id : Hash32) (v : Visible) → Named before id v.inputs v.references → HasFirst (conflicts before id v)
+first_by before id v n =
+    ⊎_elim
+    (λ h. first_append (filter_map (conflict_over before id kind.Input) v.inputs) (filter_map (conflict_over before id kind.Reference) v.references) (first_named before id kind.Input n.ref v.inputs n.taken h))
+    (λ h. first_behind (filter_map (conflict_over before id kind.Input) v.inputs) (filter_map (conflict_over before id kind.Reference) v.references) (first_named before id kind.Reference n.ref v.references n.taken h))
+    n.has
+
+-- ---- an id that was refused
+
+-- what each good request of the id shows names a reference that another id consumes, and no entry signed the id
+record Blocked (id : Hash32) (before : List Entry) : Type 0 where
+  pub seen : Visible
+  pub named : Named before id seen.inputs seen.references
+  pub unsigned : list_any (signs id) before ≡ false
+  pub shown : (q : Request) → id ≡ q.torn.id → AgreesWith q before → (v : Visible) → visible_of q.torn ≡ Some v → v ≡ seen
+
+blocked_shown : (mark : Party → Hash32 → Hash32) (me : Party) (before : List Entry) (q : Request) (now : Moment) (v : Visible) → Named before q.torn.id v.inputs v.references → list_any (signs q.torn.id) before ≡ false → is_signature (answer_shown mark me before q now v) ≡ false
+blocked_shown mark me before q now v n k =
+    let free = unsigned_no mark me q.torn.id now v.window _ (first_by before q.torn.id v n) in
+    if_no (not (has_good_tag mark q)) answer.BadRequestTag (cond (list_any (signs q.torn.id) before) (answer.Signed (tag_by mark me q.torn.id)) (answer_unsigned mark me q.torn.id now v.window (conflicts before q.torn.id v))) refl
+    (rw k free)
+
+blocked_torn : (mark : Party → Hash32 → Hash32) (me : Party) (before : List Entry) (q : Request) (now : Moment) (b : Blocked q.torn.id before) (o : Option Visible) → ((v : Visible) → o ≡ Some v → v ≡ b.seen) → is_signature (answer_torn mark me before q now o) ≡ false
+blocked_torn mark me before q now b None f = refl
+blocked_torn mark me before q now b (Some v) f =
+    let named = subst (λ (x : Visible). Named before q.torn.id x.inputs x.references) (sym (f v refl)) b.named in
+    if_no (is_party me v.notary) (answer_shown mark me before q now v) answer.WrongNotary (blocked_shown mark me before q now v named b.unsigned) refl
+
+-- a request of a refused id gets no signature
+blocked_new : (mark : Party → Hash32 → Hash32) (me : Identity) (before : List Entry) (q : Request) (now : Moment) → Blocked q.torn.id before → AgreesWith q before → is_signature (answer_new mark me before q now) ≡ false
+blocked_new mark me before q now b agrees =
+    if_no (is_notary me) (answer_torn mark me.party before q now (visible_of q.torn)) answer.WrongNotary (blocked_torn mark me.party before q now b (visible_of q.torn) (λ v h. b.shown q refl agrees v h)) refl
+
+blocked_booked : (mark : Party → Hash32 → Hash32) (me : Identity) (before : List Entry) (e : Entry) (id : Hash32) → IsBooked mark me before e → AgreesWith e.request before → Blocked id before → signs id e ≡ false
+blocked_booked mark me before e id booked agrees b =
+    (elim (hash_eq id e.request.torn.id) as (λ t. hash_eq id e.request.torn.id ≡ t → (is_signature e.answer && t) ≡ false) [
+      | true ↦ λ h.
+          let here : Blocked e.request.torn.id before = subst (λ (x : Hash32). Blocked x before) (hash_true id e.request.torn.id h) b in
+          let a = (added mark me before e.request booked.0 e booked.1 booked.2).is in
+          let given : answer_new mark me before e.request booked.0 ≡ e.answer = ap (λ (x : Entry). x.answer) a in
+          no_and (is_signature e.answer) true (sym (ap is_signature given) ∙ blocked_new mark me before e.request booked.0 here agrees)
+      | false ↦ λ h. no_and_right (is_signature e.answer) false refl
+    ]) refl
+
+blocked_more : (mark : Party → Hash32 → Hash32) (me : Identity) (before : List Entry) (e : Entry) (id : Hash32) → IsBooked mark me before e → AgreesWith e.request before → Blocked id before → Blocked id (before ++ e ∷ [])
+blocked_more mark me before e id booked agrees b = record {
+  seen = b.seen;
+  named = record { ref = b.named.ref; has = b.named.has; taken = any_append (consumes id b.named.ref) before (e ∷ []) b.named.taken };
+  unsigned = none_more (signs id) before e b.unsigned (blocked_booked mark me before e id booked agrees b);
+  shown = λ q is all v h. b.shown q is (all_front (λ d. Agree q d.request) before (e ∷ []) all) v h;
+}
+
+-- ---- how an id is refused
+
+conflict_first : (b : Bool) (x y : NotaryAnswer) → is_conflict (cond b x y) ≡ true → is_conflict y ≡ false → is_conflict x ≡ true
+conflict_first true x y h k = h
+conflict_first false x y h k = absurd (both_ways _ k h)
+
+conflict_else : (b : Bool) (x y : NotaryAnswer) → is_conflict (cond b x y) ≡ true → is_conflict x ≡ false → (b ≡ false) × (is_conflict y ≡ true)
+conflict_else true x y h k = absurd (both_ways _ k h)
+conflict_else false x y h k = (refl, h)
+
+conflict_list : (mark : Party → Hash32 → Hash32) (me : Party) (id : Hash32) (now : Moment) (window : Option Window) (list : List ConflictItem) → is_conflict (answer_unsigned mark me id now window list) ≡ true → HasFirst list
+conflict_list mark me id now window [] h = absurd (both_ways _ (no_if (is_inside window now) (answer.Signed (tag_by mark me id)) (answer.OutsideWindow now) refl refl) h)
+conflict_list mark me id now window (c ∷ cs) h = record { first = c; rest = cs; is = refl }
+
+-- what stood when a request was answered a conflict
+record Refusal (before : List Entry) (q : Request) : Type 0 where
+  pub seen : Visible
+  pub good : visible_of q.torn ≡ Some seen
+  pub named : Named before q.torn.id seen.inputs seen.references
+  pub unsigned : list_any (signs q.torn.id) before ≡ false
+
+refusal_torn : (mark : Party → Hash32 → Hash32) (me : Party) (before : List Entry) (q : Request) (now : Moment) (o : Option Visible) → visible_of q.torn ≡ o → is_conflict (answer_torn mark me before q now o) ≡ true → Refusal before q
+refusal_torn mark me before q now None good h = absurd (true≢false (sym h))
+refusal_torn mark me before q now (Some v) good h =
+    let id = q.torn.id in
+    let free = answer_unsigned mark me id now v.window (conflicts before id v) in
+    let shown = conflict_first (is_party me v.notary) (answer_shown mark me before q now v) answer.WrongNotary h refl in
+    let tagged = conflict_else (not (has_good_tag mark q)) answer.BadRequestTag (cond (list_any (signs id) before) (answer.Signed (tag_by mark me id)) free) shown refl in
+    let unsigned = conflict_else (list_any (signs id) before) (answer.Signed (tag_by mark me id)) free tagged.1 refl in
+    record { seen = v; good = good; named = named_by before id v (conflict_list mark me id now v.window (conflicts before id v) unsigned.1); unsigned = unsigned.0 }
+
+conflict_unsigned : (a : NotaryAnswer) → is_conflict a ≡ true → is_signature a ≡ false
+conflict_unsigned (answer.Signed tag) h = absurd (true≢false (sym h))
+conflict_unsigned answer.WrongNotary h = refl
+conflict_unsigned answer.BadTear h = refl
+conflict_unsigned answer.BadRequestTag h = refl
+conflict_unsigned (answer.Conflict list) h = refl
+conflict_unsigned (answer.OutsideWindow now) h = refl
+
+refusal_blocks : (mark : Party → Hash32 → Hash32) (me : Identity) (before : List Entry) (e : Entry) → IsBooked mark me before e → is_conflict e.answer ≡ true → Blocked e.request.torn.id (before ++ e ∷ [])
+refusal_blocks mark me before e booked h =
+    let q = e.request in
+    let a = (added mark me before q booked.0 e booked.1 booked.2).is in
+    let given : answer_new mark me before q booked.0 ≡ e.answer = ap (λ (x : Entry). x.answer) a in
+    let torn = conflict_first (is_notary me) (answer_torn mark me.party before q booked.0 (visible_of q.torn)) answer.WrongNotary (ap is_conflict given ∙ h) refl in
+    let r = refusal_torn mark me.party before q booked.0 (visible_of q.torn) refl torn in
+    record {
+      seen = r.seen;
+      named = record { ref = r.named.ref; has = r.named.has; taken = any_append (consumes q.torn.id r.named.ref) before (e ∷ []) r.named.taken };
+      unsigned = none_more (signs q.torn.id) before e r.unsigned (no_and (is_signature e.answer) (hash_eq q.torn.id e.request.torn.id) (conflict_unsigned e.answer h));
+      shown = λ p is all v good. all_last (λ d. Agree p d.request) before e all (sym is) v r.seen good r.good;
+    }
+
+-- ---- the whole book
+
+blocked_after : (mark : Party → Hash32 → Hash32) (me : Identity) (before es : List Entry) (id : Hash32) → IsBookAfter mark me before es → AgreeAfter before es → Blocked id before ⊎ (list_any (refuses id) es ≡ true) → Blocked id (before ++ es)
+blocked_after mark me before [] id book agree h =
+    ⊎_elim (λ b. subst (λ (l : List Entry). Blocked id l) (sym (append-nil before)) b) (λ k. absurd (true≢false (sym k))) h
+blocked_after mark me before (e ∷ es) id book agree h =
+    let next : Blocked id (before ++ e ∷ []) ⊎ (list_any (refuses id) es ≡ true) =
+    ⊎_elim
+    (λ b. inl (blocked_more mark me before e id book.0 agree.0 b))
+    (λ k. ⊎_elim
+    (λ p. let both = and_parts (is_conflict e.answer) (hash_eq id e.request.torn.id) p in inl (subst (λ (x : Hash32). Blocked x (before ++ e ∷ [])) (sym (hash_true id e.request.torn.id both.1)) (refusal_blocks mark me before e book.0 both.0)))
+    (λ p. inr p) (or_cases _ _ k)) h in
+    subst (λ (l : List Entry). Blocked id l) (append_assoc before (e ∷ []) es) (blocked_after mark me (before ++ e ∷ []) es id book.1 agree.1 next)
+
+blocked_by : (mark : Party → Hash32 → Hash32) (me : Identity) (book : List Entry) (id : Hash32) → IsBook mark me book → AllAgree book → list_any (refuses id) book ≡ true → Blocked id book
+unfolding IsBook
+blocked_by mark me book id h agree refused = blocked_after mark me [] book id h agree (inr refused)
+
+-- ---- the answer that is repeated
+
+same_id : (q : Request) (e : Entry) → repeats q e ≡ true → hash_eq q.torn.id e.request.torn.id ≡ true
+same_id q e h = (and_parts _ _ (and_parts _ _ h).1).1
+
+is_some_of : {X : Type 0} (x y : X) → Some x ≡ Some y → x ≡ y
+is_some_of x y e = cc
+
+repeated_unsigned : (q : Request) (xs : List Entry) (e : Entry) → find (repeats q) xs ≡ Some e → list_any (signs q.torn.id) xs ≡ false → is_signature e.answer ≡ false
+repeated_unsigned q [] e h k = cc
+repeated_unsigned q (x ∷ xs) e h k =
+    let none = or_parts (signs q.torn.id x) (list_any (signs q.torn.id) xs) k in
+    (elim (repeats q x) as (λ b. repeats q x ≡ b → cond b (Some x) (find (repeats q) xs) ≡ Some e → is_signature e.answer ≡ false) [
+      | true ↦ λ t f. sym (ap (λ (d : Entry). is_signature d.answer) (is_some_of x e f)) ∙ ⊎_elim (λ z. z) (λ z. absurd (both_ways _ z (same_id q x t))) (and_cases (is_signature x.answer) (hash_eq q.torn.id x.request.torn.id) none.0)
+      | false ↦ λ t f. repeated_unsigned q xs e f none.1
+    ]) refl h
+
+repeated_refuses : (q : Request) (xs : List Entry) (e : Entry) → find (repeats q) xs ≡ Some e → is_conflict e.answer ≡ true → list_any (refuses q.torn.id) xs ≡ true
+repeated_refuses q [] e h k = cc
+repeated_refuses q (x ∷ xs) e h k =
+    (elim (repeats q x) as (λ b. repeats q x ≡ b → cond b (Some x) (find (repeats q) xs) ≡ Some e → list_any (refuses q.torn.id) (x ∷ xs) ≡ true) [
+      | true ↦ λ t f. any_here (refuses q.torn.id) x xs (and_from (is_conflict x.answer) (hash_eq q.torn.id x.request.torn.id) (ap (λ (d : Entry). is_conflict d.answer) (is_some_of x e f) ∙ k) (same_id q x t))
+      | false ↦ λ t f. any_behind (refuses q.torn.id) (x ∷ []) xs (repeated_refuses q xs e f k)
+    ]) refl h
+
+-- an id that was answered a conflict is never signed
+pub refused_unsigned : (mark : Party → Hash32 → Hash32) (me : Identity) (book : List Entry) (q : Request) (now : Moment) → IsBook mark me book → AllAgree book → AgreesWith q book → list_any (refuses q.torn.id) book ≡ true → is_signature (reply mark book q me now).answer ≡ false
+unfolding reply
+refused_unsigned mark me book q now h agree agrees refused = by (find (repeats q) book) refl
+  where
+    b : Blocked q.torn.id book
+    b = blocked_by mark me book q.torn.id h agree refused
+
+    by : (o : Option Entry) → find (repeats q) book ≡ o → is_signature (reply_over mark me book q now o).answer ≡ false
+    by (Some e) f = repeated_unsigned q book e f b.unsigned
+    by None f = blocked_new mark me book q now b agrees
+
+not_refused : (t : Bool) → (t ≡ true → ⊥) → t ≡ false
+not_refused true h = absurd (h refl)
+not_refused false h = refl
+
+-- an id that was signed is never answered a conflict
+pub signed_unrefused : (mark : Party → Hash32 → Hash32) (me : Identity) (book : List Entry) (q : Request) (now : Moment) → IsBook mark me book → AllAgree book → list_any (signs q.torn.id) book ≡ true → is_conflict (reply mark book q me now).answer ≡ false
+unfolding reply
+signed_unrefused mark me book q now h agree signed = by (find (repeats q) book) refl
+  where
+    by : (o : Option Entry) → find (repeats q) book ≡ o → is_conflict (reply_over mark me book q now o).answer ≡ false
+    by (Some e) f = not_refused (is_conflict e.answer) (λ k. both_ways _ (blocked_by mark me book q.torn.id h agree (repeated_refuses q book e f k)).unsigned signed)
+    by None f = no_if (is_notary me) (answer_torn mark me.party book q now (visible_of q.torn)) answer.WrongNotary (no_torn mark me.party book q now (visible_of q.torn) signed) refl
