@@ -1,0 +1,23 @@
+use Rattle.std.proofs.Common.{sym, ◌∙◌, ap}
+use Rattle.std.proofs.lemmas.Result.{err_from_is_err_and}
+use Rattle.ledger_types.specs.Stores.{states_of}
+use Rattle.tx_store.specs.Faults.{fault_of}
+use Rattle.tx_store.proofs.Resolving.{fault_first, fault_second}
+use Rattle.tx_store.proofs.store.Store.resolve.Goals as goal
+
+pub returns-in_err-states-clause-fault : goal.returns-in_err-states-clause-fault
+returns-in_err-states-clause-fault c =
+    let p = err_from_is_err_and c.from_residual.result c.from_residual.ensures.1 in
+    let store = c.args.self.now.list in
+    let tx = c.args.tx.now in
+    let e = c.in_err-states.field-0.0 in
+    rw (p.1, p.2) (λ other. fault_first store tx.inputs tx.references e (ap (fault_of store) (sym c.as_slice.ensures) ∙ c.in_err-states.ensures.fault other))
+
+pub returns-in_err-states-2-clause-fault : goal.returns-in_err-states-2-clause-fault
+returns-in_err-states-2-clause-fault c =
+    let p = err_from_is_err_and c.from_residual-in_err-states-2.result c.from_residual-in_err-states-2.ensures.1 in
+    let store = c.args.self.now.list in
+    let tx = c.args.tx.now in
+    let e = c.in_err-states-2.field-0.0 in
+    let had = ap (states_of store) (sym c.as_slice.ensures) ∙ c.in_ok-states.ensures.had in
+    rw (p.1, p.2) (λ other. fault_second store tx.inputs tx.references c.in_ok-states.field-0 e had (ap (fault_of store) (sym c.as_slice-2.ensures) ∙ c.in_err-states-2.ensures.fault other))

@@ -1,0 +1,208 @@
+//! The store.
+
+ghost use Rattle.std.specs.Prelude.{◌≡◌, ◌≢◌, ◌<◌, ◌≤◌, ◌+◌, ◌^◌, ◌++◌, ◌∷◌, [], List, length, IsOk, OnOk, IfOk, IfErr, Some, None, not, true, false, Bool, option_copied, option_map, slice_get, map, if◌then◌else◌, Contains};
+ghost use Rattle.std.specs.List.{list_all};
+ghost use Rattle.std.specs.Map.Iter.{deref_pair};
+ghost use Rattle.net_base.specs.declared.values.Hash32.{Hash32 as Id};
+ghost use Rattle.ledger_types.specs.Txs.{IsTx};
+ghost use Rattle.ledger_types.specs.Signatures.{tx_id};
+ghost use Rattle.ledger_types.specs.Stores.{stored_of, is_stored, state_of, states_of, resolved_of, missing_ids};
+ghost use Rattle.tx_store.specs.declared.fault.ResolveFault.TheVariants.{Memory};
+ghost use Rattle.tx_store.specs.Stored.{refs_of, all_stored, has_dependencies, is_in_order, leads_back, found_with, found_in};
+ghost use Rattle.tx_store.specs.Faults.{fault_of, state_or_fault};
+
+use crate::fault::ResolveFault;
+use indexmap::IndexMap;
+use ledger_types::{IdList, Resolved, SignedTx, StateList, Tx, TxState};
+use net_base::{Hash32, ListOf, StateRef};
+use std::alloc::{AllocError, Global};
+use std::marker::Model;
+
+/// The recorded transactions. Contracts see them as a list of ids and transactions in order of recording: each
+/// stands under its own id, once, behind all that it depends on, so that its whole back-chain is stored.
+#[derive(Drop)]
+pub struct Store {
+    map: IndexMap<Hash32, SignedTx>,
+}
+
+impl Model for Store {
+    ghost use Rattle.std.specs.Prelude.{◌≡◌, ◌<◌, ◌^◌, true, length};
+    ghost use Rattle.indexmap.specs.IndexMap.{spare};
+    ghost use Rattle.tx_store.specs.Stored.{Stored, is_in_order};
+
+    ghost Value = { Stored };
+
+    ghost view = { λ s. record { list = s.map.entries; room = spare s.map } };
+
+    ghost invariant = { λ s. (is_in_order s.map.entries ≡ true) × (length s.map.entries < 2 ^ 32) };
+}
+
+impl Store {
+    /// A store without transactions. Takes no memory.
+    pub fn new(alloc: Global) -> Store
+        ensures { result.list ≡ [] }
+    {
+        Store {
+            map: IndexMap::new(alloc),
+        }
+    }
+
+    /// How many transactions are stored.
+    pub fn count(&self) -> u32
+        ensures { result ≡ length self.now.list }
+    {
+        self.map.len() as u32
+    }
+
+    /// The transaction of this id, where it is stored.
+    pub fn get(&self, id: &Hash32) -> Option<&SignedTx>
+        ensures { option_copied result ≡ stored_of self.now.list id.now }
+    {
+        self.map.get(id)
+    }
+
+    /// The transaction at place `k` in order of recording, counted from 0, with its id.
+    pub fn at(&self, k: u32) -> Option<(&Hash32, &SignedTx)>
+        ensures { option_map deref_pair result ≡ slice_get self.now.list k }
+    {
+        self.map.get_index(k as usize)
+    }
+
+    fn has(&self, id: &Hash32) -> bool
+        ensures { result ≡ is_stored self.now.list id.now }
+    {
+        self.map.contains_key(id)
+    }
+
+    fn has_all(&self, refs: &[StateRef]) -> bool
+        ensures { result ≡ all_stored self.now.list refs.now }
+    {
+        for r in refs {
+            if !self.has(&r.id) {
+                return false;
+            }
+        }
+        true
+    }
+
+    /// Whether every transaction that the inputs and references of `tx` name is stored. It is the condition of `put`.
+    pub fn has_dependencies(&self, tx: &Tx) -> bool
+        ensures { result ≡ has_dependencies self.now.list tx.now }
+    {
+        self.has_all(tx.inputs.as_slice()) && self.has_all(tx.references.as_slice())
+    }
+
+    /// The ids that the inputs and then the references of `tx` name and that aren't stored, each once, in the order
+    /// of their first places.
+    pub fn missing(&self, alloc: Global, tx: &Tx) -> Result<IdList, AllocError>
+        ensures { IfOk result (λ ids. ids ≡ missing_ids self.now.list tx.now) }
+    {
+        let mut found = ListOf::new(alloc);
+        self.find_missing(tx.inputs.as_slice(), &mut found)?;
+        self.find_missing(tx.references.as_slice(), &mut found)?;
+        Ok(found)
+    }
+
+    #[tactic(auto, using(std::proofs::lemmas::List::Sums::fold_more))]
+    fn find_missing(&self, refs: &[StateRef], found: &mut IdList) -> Result<(), AllocError>
+        ensures { OnOk result (found.new ≡ found_in self.now.list found.old refs.now) }
+    {
+        for r in refs {
+            self.note_missing(r, found)?;
+        }
+        Ok(())
+    }
+
+    fn note_missing(&self, reference: &StateRef, found: &mut IdList) -> Result<(), AllocError>
+        ensures { OnOk result (found.new ≡ found_with self.now.list found.old reference.now) }
+    {
+        if self.has(&reference.id) || found.as_slice().contains(&reference.id) {
+            return Ok(());
+        }
+        found.push(reference.id)
+    }
+
+    /// The states that the inputs and the references of `tx` name.
+    ///
+    /// # Errors
+    ///
+    /// At the first of the inputs and then the references whose state can't be had: `Lacking` with its id where the
+    /// transaction isn't stored, and `NoOutput` where that has no such output. `Memory` may come at any time.
+    pub fn resolve(&self, alloc: Global, tx: &Tx) -> Result<Resolved, ResolveFault>
+        ensures resolved { IfOk result (λ states. resolved_of self.now.list tx.now ≡ Some states) }
+        ensures fault { IfErr result (λ e. e ≢ Memory → fault_of self.now.list (refs_of tx.now) ≡ Some e) }
+    {
+        Ok(Resolved {
+            inputs: self.states(alloc, tx.inputs.as_slice())?,
+            references: self.states(alloc, tx.references.as_slice())?,
+        })
+    }
+
+    fn states(&self, alloc: Global, refs: &[StateRef]) -> Result<StateList, ResolveFault>
+        ensures had { IfOk result (λ states. states_of self.now.list refs.now ≡ Some states) }
+        ensures fault { IfErr result (λ e. e ≢ Memory → fault_of self.now.list refs.now ≡ Some e) }
+    {
+        let mut states = ListOf::new(alloc);
+        for r in refs {
+            states.push(self.state(r)?)?;
+        }
+        Ok(states)
+    }
+
+    fn state(&self, reference: &StateRef) -> Result<TxState, ResolveFault>
+        ensures { result ≡ state_or_fault self.now.list reference.now }
+    {
+        let Some(stx) = self.get(&reference.id) else {
+            return Err(ResolveFault::Lacking { id: reference.id });
+        };
+        match output_at(stx.tx.outputs.as_slice(), reference.index) {
+            Some(state) => Ok(state),
+            None => Err(ResolveFault::NoOutput {
+                reference: *reference,
+            }),
+        }
+    }
+
+    /// Makes room for one more transaction. Want of memory leaves the store as it was.
+    pub fn make_room(&mut self, _alloc: Global) -> Result<(), AllocError>
+        ensures list { self.new.list ≡ self.old.list }
+        ensures room { OnOk result (0 < self.new.room) }
+        ensures keeps { self.old.room ≤ self.new.room }
+    {
+        self.map.reserve(1)
+    }
+
+    /// Records a transaction behind all others and answers `true`, or answers `false` and changes nothing where its
+    /// id is stored already. It takes no memory.
+    pub fn put(&mut self, stx: SignedTx) -> bool
+        requires room { 0 < self.old.room }
+        requires limits { IsTx stx.tx }
+        requires dependencies { has_dependencies self.old.list stx.tx ≡ true }
+        requires few { length self.old.list + 1 < 2 ^ 32 }
+        ensures fresh { result ≡ not (is_stored self.old.list (tx_id stx.tx)) }
+        ensures list { self.new.list ≡ (if result then self.old.list ++ (tx_id stx.tx, stx) ∷ [] else self.old.list) }
+        ensures room { self.old.room ≤ self.new.room + 1 }
+    {
+        let id = stx.tx.id();
+        if self.has(&id) {
+            return false;
+        }
+        self.map.insert(id, stx).unwrap();
+        true
+    }
+
+    /// The law of the store, which takes no work: its transactions were recorded in order, and all ids that lead back
+    /// along the back-chain of a stored transaction are stored.
+    pub fn keeps_back_chains(&self)
+        ensures in_order { is_in_order self.now.list ≡ true }
+        ensures back_chains { (id : Id) (ids : List Id) → leads_back self.now.list (stored_of self.now.list id) ids ≡ true → list_all (is_stored self.now.list) ids ≡ true }
+    {
+        let _ = &self.map;
+    }
+}
+
+fn output_at(outputs: &[TxState], index: u32) -> Option<TxState>
+    ensures { result ≡ slice_get outputs.now index }
+{
+    outputs.get(index as usize).copied()
+}
