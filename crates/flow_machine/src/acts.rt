@@ -1,14 +1,5 @@
-ghost use Rattle.std.specs.Prelude.{◌≡◌, IfOk};
-
+use ledger_types::Value;
 use net_base::{Moment, Party};
-use std::alloc::{AllocError, Global};
-
-/// What a flow returns.
-#[derive(Debug, Drop)]
-pub enum Value {
-    Unit,
-    Number(u64),
-}
 
 /// What a live flow waits on.
 #[derive(Debug, Drop)]
@@ -49,20 +40,4 @@ pub struct Place {
     pub step: u32,
     /// The moment of the cause.
     pub now: Moment,
-}
-
-impl Value {
-    /// An equal value.
-    ///
-    /// # Errors
-    ///
-    /// `AllocError` for want of memory.
-    pub fn copy(&self, _alloc: Global) -> Result<Value, AllocError>
-        ensures { IfOk result (λ value. value ≡ self.now) }
-    {
-        match self {
-            Value::Unit => Ok(Value::Unit),
-            Value::Number(number) => Ok(Value::Number(*number)),
-        }
-    }
 }

@@ -1,5 +1,6 @@
 use super::fields::u32_of;
-use super::{Act, FlowSet, MakeFault, Place, Resumed, Value, WordFault};
+use super::{Act, FlowSet, MakeFault, Place, Resumed, WordFault};
+use ledger_types::Value;
 use net_base::{ByteList, number};
 use std::alloc::{AllocError, Global};
 

@@ -1,4 +1,5 @@
-use super::{Act, Value};
+use super::Act;
+use ledger_types::Value;
 
 /// Where a live flow stands: the frame that waits, and the act that it waits on.
 #[derive(Debug, Drop)]

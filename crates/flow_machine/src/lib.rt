@@ -12,7 +12,7 @@ mod flows;
 #[cfg(test)]
 mod tests;
 
-pub use acts::{Act, Place, Resumed, Value};
+pub use acts::{Act, Place, Resumed};
 pub use counter::{Counter, Phase};
 pub use flow_set::{
     FlowSet, MakeFault, WordFault, args_are_short, over_frames_fail, over_is_exact, weight_falls,

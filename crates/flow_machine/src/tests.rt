@@ -1,4 +1,5 @@
 use super::*;
+use ledger_types::Value;
 use net_base::{ByteList, Moment, Party};
 use std::alloc::{AllocError, Global};
 use std::test::Fail;

@@ -1,10 +1,11 @@
 -- What is printed of a network.
 use Rattle.std.specs.Prelude.{ℕ, ◌+◌, List, [], ◌∷◌, ◌++◌, Option, Some, None, codes, decimal, slice_get}
+use Rattle.hex.specs.Hex.{encode_lower}
 use Rattle.net_base.specs.declared.causes.Cause.{Cause}
 use Rattle.flow_machine.specs.declared.acts.Act.{Act}
 use Rattle.flow_machine.specs.declared.acts.Act.TheVariants as act
-use Rattle.flow_machine.specs.declared.acts.Value.{Value}
-use Rattle.flow_machine.specs.declared.acts.Value.TheVariants as value
+use Rattle.ledger_types.specs.declared.value.Value.{Value}
+use Rattle.ledger_types.specs.declared.value.Value.TheVariants as value
 use Rattle.flow_machine.specs.declared.flows.FlowState.{FlowState}
 use Rattle.flow_machine.specs.declared.flows.FlowState.TheVariants.{Live, Ended, Failed}
 use Rattle.net_model.specs.Environment.{Environment}
@@ -26,6 +27,12 @@ act_name (act.Fail code) = codes "fail"
 abbrev pub value_text : Value → List ℕ
 value_text value.Unit = codes "unit"
 value_text (value.Number number) = codes "number " ++ decimal number
+value_text (value.Id id) = codes "id " ++ encode_lower id.0
+value_text (value.Tx stx) = codes "value"
+value_text (value.Request request) = codes "value"
+value_text (value.Answer answer) = codes "value"
+value_text (value.Tags tags) = codes "value"
+value_text (value.Bytes bytes) = codes "value"
 
 -- how the line of every flow begins
 abbrev pub flow_head : ℕ → ℕ → ℕ → List ℕ

@@ -1,7 +1,7 @@
 -- The state of a node, the effect of a cause, and what an effect makes of a state.
 use Rattle.std.specs.Prelude.{ℕ, ◌==◌, List, [], ◌∷◌, ◌++◌, if◌then◌else◌, slice_set, length}
 use Rattle.net_base.specs.declared.causes.Cause.{Cause}
-use Rattle.flow_machine.specs.declared.acts.Value.{Value}
+use Rattle.ledger_types.specs.declared.value.Value.{Value}
 use Rattle.flow_machine.specs.declared.flows.Checkpoint.{Checkpoint}
 use Rattle.flow_machine.specs.declared.flows.FlowState.{FlowState}
 use Rattle.flow_machine.specs.declared.flows.FlowState.TheVariants.{Live, Ended, Failed}

@@ -8,7 +8,7 @@ use Rattle.flow_machine.specs.declared.acts.Act.TheVariants as act
 use Rattle.flow_machine.specs.declared.acts.Place.{Place}
 use Rattle.flow_machine.specs.declared.acts.Resumed.{Resumed}
 use Rattle.flow_machine.specs.declared.acts.Resumed.TheVariants as resumed
-use Rattle.flow_machine.specs.declared.acts.Value.{Value}
+use Rattle.ledger_types.specs.declared.value.Value.{Value}
 use Rattle.flow_machine.specs.declared.flow_set.MakeFault.{MakeFault}
 use Rattle.flow_machine.specs.declared.flows.Checkpoint.{Checkpoint}
 use Rattle.flow_machine.specs.declared.flows.FlowState.{FlowState}

@@ -2,3 +2,4 @@ pub mod Tables
 pub mod Serving
 pub mod Splitting
 pub mod Stories
+pub mod Heads

@@ -1,9 +1,9 @@
 ghost use Rattle.std.specs.Prelude.{◌≡◌, ◌++◌, Some, IfOk, string_bytes, length, ◌<◌, ◌^◌};
 ghost use Rattle.net_model.specs.Print.{act_name, value_text, flow_line, flow_lines, flows_text};
 
-use flow_machine::{Act, FlowState, Value};
+use flow_machine::{Act, FlowState};
+use ledger_types::Value;
 use std::alloc::{AllocError, Global};
-use std::fmt;
 use std::fmt::Write;
 
 fn act_name<F>(act: &Act<F>) -> &'static str
@@ -18,48 +18,41 @@ fn act_name<F>(act: &Act<F>) -> &'static str
 }
 
 // What a flow ended with.
-#[derive(Clone, Copy)]
-struct Outcome<'a>(&'a Value);
-
-impl fmt::Display for Outcome<'_> {
-    ghost output = { λ e. Some (value_text e.0.now) };
-
-    fn fmt<W: fmt::Write>(&self, f: &mut fmt::Formatter<W>) -> fmt::Result {
-        match self.0 {
-            Value::Unit => write!(f, "unit"),
-            Value::Number(number) => write!(f, "number {number}"),
+fn value_text(alloc: Global, value: &Value) -> Result<String, AllocError>
+    ensures { IfOk result (λ text. string_bytes text ≡ value_text value.now) }
+{
+    match value {
+        Value::Unit => String::from_str(alloc, "unit"),
+        Value::Number(number) => format!(in alloc; "number {number}"),
+        Value::Id(id) => {
+            let digits = hex::encode(alloc, id.0)?;
+            format!(in alloc; "id {digits}")
         }
+        _ => String::from_str(alloc, "value"),
     }
 }
 
 // The line of a flow, without its end.
-#[derive(Drop)]
-struct FlowLine<'a, F> {
-    number: u32,
-    flow: &'a FlowState<F>,
-}
-
-impl<F> fmt::Display for FlowLine<'_, F> {
-    ghost output = { λ l. Some (flow_line l.number l.flow.now) };
-
-    fn fmt<W: fmt::Write>(&self, f: &mut fmt::Formatter<W>) -> fmt::Result {
-        let number = self.number;
-        match self.flow {
-            FlowState::Live(at) => {
-                let name = act_name(&at.waiting);
-                write!(
-                    f,
-                    "flow {number} class {} steps {} waits {name}",
-                    at.class, at.step
-                )
-            }
-            FlowState::Ended { step, class, value } => {
-                let value = Outcome(value);
-                write!(f, "flow {number} class {class} steps {step} ended {value}")
-            }
-            FlowState::Failed { step, class, code } => {
-                write!(f, "flow {number} class {class} steps {step} failed {code}")
-            }
+fn flow_line<F>(alloc: Global, number: u32, flow: &FlowState<F>) -> Result<String, AllocError>
+    ensures { IfOk result (λ text. string_bytes text ≡ flow_line number flow.now) }
+{
+    match flow {
+        FlowState::Live(at) => {
+            let name = act_name(&at.waiting);
+            let line = format!(in alloc;
+                "flow {number} class {} steps {} waits {name}",
+                at.class, at.step
+            )?;
+            Ok(line)
+        }
+        FlowState::Ended { step, class, value } => {
+            let value = value_text(alloc, value)?;
+            let line = format!(in alloc; "flow {number} class {class} steps {step} ended {value}")?;
+            Ok(line)
+        }
+        FlowState::Failed { step, class, code } => {
+            let line = format!(in alloc; "flow {number} class {class} steps {step} failed {code}")?;
+            Ok(line)
         }
     }
 }
@@ -72,7 +65,7 @@ fn flow_lines<F: Drop>(alloc: Global, flows: &[FlowState<F>]) -> Result<String, 
     let mut out = String::new(alloc);
     for (i, flow) in flows.iter().enumerate() {
         let number = i as u32;
-        let line = FlowLine { number, flow };
+        let line = flow_line(alloc, number, flow)?;
         writeln!(out, "{line}")?;
     }
     Ok(out)
