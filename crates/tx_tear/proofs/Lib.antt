@@ -1,3 +1,5 @@
 pub mod Groups
 pub mod Spelling
 pub mod Shows
+pub mod Lengths
+pub mod Limits
