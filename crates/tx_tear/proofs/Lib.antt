@@ -3,3 +3,4 @@ pub mod Spelling
 pub mod Shows
 pub mod Lengths
 pub mod Limits
+pub mod Collisions
