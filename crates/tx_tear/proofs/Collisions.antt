@@ -72,7 +72,7 @@ record IsTree (hashed : List (List ℕ)) (d : ℕ) (xs : List (List ℕ)) (m : L
   is_digest : length m ≡ 32
   first : slice_index_or xs 0 [] ≡ sha256 m
 
-long_leaves : (ps : List TornPart) → Are32 (map leaf ps)
+pub long_leaves : (ps : List TornPart) → Are32 (map leaf ps)
 long_leaves [] = tt
 long_leaves (p ∷ ps) = (length_digest _, long_leaves ps)
 
@@ -95,10 +95,10 @@ module _ (hashed : List (List ℕ)) (h : AreApart hashed) where
   in_left : (d : ℕ) (xs : List (List ℕ)) → Inside hashed (hashed_by_halves (suc d) xs) → Inside hashed (hashed_by_halves d (take (2 ^ d) xs))
   in_left d xs i = all_left (Contains hashed) (hashed_by_halves d (take (2 ^ d) xs)) (hashed_by_halves d (drop (2 ^ d) xs)) i.1
 
-  in_right : (d : ℕ) (xs : List (List ℕ)) → Inside hashed (hashed_by_halves (suc d) xs) → Inside hashed (hashed_by_halves d (drop (2 ^ d) xs))
+  pub in_right : (d : ℕ) (xs : List (List ℕ)) → Inside hashed (hashed_by_halves (suc d) xs) → Inside hashed (hashed_by_halves d (drop (2 ^ d) xs))
   in_right d xs i = all_right (Contains hashed) (hashed_by_halves d (take (2 ^ d) xs)) (hashed_by_halves d (drop (2 ^ d) xs)) i.1
 
-  long_left : (d : ℕ) (xs : List (List ℕ)) → length xs ≡ 2 ^ suc d → Are32 xs → length (halves d (take (2 ^ d) xs)) ≡ 32
+  pub long_left : (d : ℕ) (xs : List (List ℕ)) → length xs ≡ 2 ^ suc d → Are32 xs → length (halves d (take (2 ^ d) xs)) ≡ 32
   long_left d xs n l = long_halves d (take (2 ^ d) xs) (length_left d xs n) (all_take _ (2 ^ d) xs l)
 
   long_right : (d : ℕ) (xs : List (List ℕ)) → length xs ≡ 2 ^ suc d → Are32 xs → length (halves d (drop (2 ^ d) xs)) ≡ 32

@@ -4,3 +4,5 @@ pub mod Shows
 pub mod Lengths
 pub mod Limits
 pub mod Collisions
+pub mod Places
+pub mod Sights
