@@ -92,7 +92,7 @@ module _ (hashed : List (List ℕ)) (h : AreApart hashed) where
   node_same a b c d long long' has has' e = parted a b c d long long' (h.apart (a ++ b) (c ++ d) has has' e)
 
   -- what is hashed for the halves
-  in_left : (d : ℕ) (xs : List (List ℕ)) → Inside hashed (hashed_by_halves (suc d) xs) → Inside hashed (hashed_by_halves d (take (2 ^ d) xs))
+  pub in_left : (d : ℕ) (xs : List (List ℕ)) → Inside hashed (hashed_by_halves (suc d) xs) → Inside hashed (hashed_by_halves d (take (2 ^ d) xs))
   in_left d xs i = all_left (Contains hashed) (hashed_by_halves d (take (2 ^ d) xs)) (hashed_by_halves d (drop (2 ^ d) xs)) i.1
 
   pub in_right : (d : ℕ) (xs : List (List ℕ)) → Inside hashed (hashed_by_halves (suc d) xs) → Inside hashed (hashed_by_halves d (drop (2 ^ d) xs))
@@ -101,7 +101,7 @@ module _ (hashed : List (List ℕ)) (h : AreApart hashed) where
   pub long_left : (d : ℕ) (xs : List (List ℕ)) → length xs ≡ 2 ^ suc d → Are32 xs → length (halves d (take (2 ^ d) xs)) ≡ 32
   long_left d xs n l = long_halves d (take (2 ^ d) xs) (length_left d xs n) (all_take _ (2 ^ d) xs l)
 
-  long_right : (d : ℕ) (xs : List (List ℕ)) → length xs ≡ 2 ^ suc d → Are32 xs → length (halves d (drop (2 ^ d) xs)) ≡ 32
+  pub long_right : (d : ℕ) (xs : List (List ℕ)) → length xs ≡ 2 ^ suc d → Are32 xs → length (halves d (drop (2 ^ d) xs)) ≡ 32
   long_right d xs n l = long_halves d (drop (2 ^ d) xs) (length_right d xs n) (all_drop _ (2 ^ d) xs l)
 
   -- equal roots over as many hashes stand over equal hashes
@@ -125,7 +125,7 @@ module _ (hashed : List (List ℕ)) (h : AreApart hashed) where
   first_left d xs = get_or-take (2 ^ d) xs 0 [] (pow_pos d)
 
   -- the digest of 32 bytes is no node
-  not_node : (m a b : List ℕ) → length m ≡ 32 → length a ≡ 32 → length b ≡ 32 → Contains hashed m → Contains hashed (a ++ b) → sha256 m ≡ sha256 (a ++ b) → ⊥
+  pub not_node : (m a b : List ℕ) → length m ≡ 32 → length a ≡ 32 → length b ≡ 32 → Contains hashed m → Contains hashed (a ++ b) → sha256 m ≡ sha256 (a ++ b) → ⊥
   not_node m a b lm la lb has has' e = absurd (omega (arith, ap length (h.apart m (a ++ b) has has' e), length-append a b))
 
   -- a tree over leaves isn't deeper than another with its root

@@ -38,7 +38,7 @@ all_of within None h = tt
 all_of within (Some v) h = (h, tt)
 
 -- what the four groups show together
-abbrev together : Hash32 → Option (List StateRef) → Option (Option Party) → Option (Option Window) → Option (List StateRef) → Option Visible
+abbrev pub together : Hash32 → Option (List StateRef) → Option (Option Party) → Option (Option Window) → Option (List StateRef) → Option Visible
 together id inputs notary window references =
     option_and_then (λ i.
     option_and_then (λ n.

@@ -2,8 +2,10 @@
 use Rattle.std.proofs.Common.{◌≡◌, ℕ, zero, suc, ◌+◌, ◌<◌, ◌≤◌, Bool, true, false, cond, List, [], ◌∷◌, ◌++◌, length, map, Option, Some, None, Result, option_map, option_and_then, option_to_list, bytes_eq, refl, sym, ◌∙◌, ap, subst, arith}
 use Rattle.std.specs.Prelude.{is_some}
 use Rattle.std.specs.List.{AllByRecursion, Contains, flat_map, slice_get}
+use Rattle.std.proofs.lemmas.List.Elements.{Contains-append_left, Contains-append_right}
 use Rattle.std.proofs.lemmas.Option.{slice_get_within}
 use Rattle.std.proofs.lemmas.Slice.Eq.{bytes_eq-Decides}
+use Rattle.net_base.specs.declared.values.Hash32.{Hash32}
 use Rattle.net_base.specs.declared.values.Party.{Party}
 use Rattle.net_base.specs.Laws.{Laws}
 use Rattle.net_base.specs.Values.{party_at, party_laws}
@@ -21,15 +23,15 @@ use Rattle.ledger_types.specs.Torn.{IsTornPart, IsTornGroup, IsTornTx}
 use Rattle.ledger_types.specs.Ids.{groups, present, id_of, values_from}
 use Rattle.ledger_types.specs.Rules.{is_empty, has_no_command}
 use Rattle.ledger_types.specs.Signatures.{tx_id}
-use Rattle.ledger_types.specs.Tears.{group_value, torn_root, parts_of, parts_at, spelt_by, at_most_one, shown_refs, shown_notary, shown_window, shown_by, visible_of}
+use Rattle.ledger_types.specs.Tears.{group_value, torn_root, parts_of, parts_at, whole, joined, spelt_by, at_most_one, shown_refs, shown_notary, shown_window, shown_by, visible_of}
 use Rattle.tx_tear.specs.Tearing.{parts_from, shown_group, seen_of}
-use Rattle.tx_tear.specs.Hashed.{AreApart, Includes, hashed_for_root, hashed_for_group, hashed_for_groups, shown_from, hashed_for_tx, hashed_for_torn}
+use Rattle.tx_tear.specs.Hashed.{AreApart, Includes, hashed_for_root, hashed_for_group, hashed_for_groups, shown_from, hashed_for_tx, hashed_for_torn, hashed_for_all}
 use Rattle.tx_tear.proofs.Groups.{value_shown, components_of, present_at}
 use Rattle.tx_tear.proofs.Spelling.{spelt_of}
-use Rattle.tx_tear.proofs.Shows.{one_of, all_of, shown_together}
+use Rattle.tx_tear.proofs.Shows.{one_of, all_of, together, shown_together}
 use Rattle.tx_tear.proofs.Lengths.{length_digest}
 use Rattle.tx_tear.proofs.Collisions.{Inside, Nonces32, bytes_of, inside, all_left, all_right}
-use Rattle.tx_tear.proofs.Places.{IsSized, IsSound, sound, same_bytes}
+use Rattle.tx_tear.proofs.Places.{IsSized, IsSound, sound, same_bytes, same_bytes_named}
 
 -- ---- a transaction's groups, each shown
 
@@ -96,15 +98,26 @@ map_some : {A B : Type 0} (f : A → B) (o : Option A) (y : B) → option_map f 
 map_some f None y e = absurd cc
 map_some f (Some x) y e = (x, (refl, cc))
 
--- parts that spell a notary are those of a group that is there
-notary_there : (o : Option TornGroup) (parts : List TornPart) (ps : List Party) (n : Option Party) → parts_of o ≡ Some parts → spelt_by party_at parts ≡ Some ps → at_most_one ps ≡ Some n → is_some n ≡ true → (g : TornGroup) × (o ≡ Some g)
-notary_there (Some g) parts ps n a b c d = (g, refl)
-notary_there None parts ps n a b c d =
-    let no_parts : parts ≡ [] = cc in
-    let spelt : spelt_by party_at [] ≡ Some ps = ap (spelt_by party_at) (sym no_parts) ∙ b in
+joined_some : {V : Type 0} (o : Option V) (rest : Option (List V)) (vs : List V) → joined o rest ≡ Some vs → (v : V) × ((ws : List V) × ((rest ≡ Some ws) × (v ∷ ws ≡ vs)))
+joined_some None rest vs e = absurd cc
+joined_some (Some v) None vs e = absurd cc
+joined_some (Some v) (Some ws) vs e = (v, (ws, (refl, cc)))
+
+-- parts that spell one value at most are one at most
+notary_there : (o : Option TornGroup) (parts : List TornPart) (ps : List Party) (n : Option Party) → parts_of o ≡ Some parts → spelt_by party_at parts ≡ Some ps → at_most_one ps ≡ Some n → is_some n ≡ true → (p : TornPart) × (o ≡ Some (Shown (p ∷ [])))
+notary_there o [] ps n a b c d =
     let no_parties : ps ≡ [] = cc in
     let told : at_most_one {V = Party} [] ≡ Some n = ap at_most_one (sym no_parties) ∙ c in
     let no_notary : n ≡ None = cc in
+    absurd cc
+notary_there None (p ∷ parts) ps n a b c d = absurd cc
+notary_there (Some (Hidden root)) (p ∷ parts) ps n a b c d = absurd cc
+notary_there (Some (Shown us)) (p ∷ []) ps n a b c d = let same : us ≡ p ∷ [] = cc in (p, ap (λ (l : List TornPart). Some (Shown l)) same)
+notary_there (Some (Shown us)) (p ∷ q ∷ parts) ps n a b c d =
+    let first = joined_some (whole (party_at p.bytes)) (spelt_by party_at (q ∷ parts)) ps b in
+    let second = joined_some (whole (party_at q.bytes)) (spelt_by party_at parts) first.1.0 first.1.1.0 in
+    let two : first.0 ∷ second.0 ∷ second.1.0 ≡ ps = ap (λ (l : List Party). first.0 ∷ l) second.1.1.1 ∙ first.1.1.1 in
+    let told : at_most_one (first.0 ∷ second.0 ∷ second.1.0) ≡ Some n = ap at_most_one two ∙ c in
     absurd cc
 
 -- what a good tear-off has
@@ -115,7 +128,7 @@ record IsGood (torn : TornTx) (seen : Visible) : Type 0 where
   notary : (parts : List TornPart) × (parts_at torn 4 ≡ Some parts)
   window : (parts : List TornPart) × (parts_at torn 5 ≡ Some parts)
   references : (parts : List TornPart) × (parts_at torn 7 ≡ Some parts)
-  five : 4 < length torn.groups
+  named : (p : TornPart) × (slice_get torn.groups 4 ≡ Some (Shown (p ∷ [])))
 
 good : (torn : TornTx) (seen : Visible) → visible_of torn ≡ Some seen → is_some seen.notary ≡ true → IsGood torn seen
 unfolding visible_of
@@ -140,8 +153,11 @@ good torn seen e named =
       notary = (notary_parts.0, notary_parts.1.0);
       window = (window_parts.0, window_parts.1.0);
       references = (reference_parts.0, reference_parts.1.0);
-      five = slice_get_within torn.groups 4 there.0 there.1;
+      named = there;
     }
+
+five : (torn : TornTx) (seen : Visible) → IsGood torn seen → 4 < length torn.groups
+five torn seen is_good = slice_get_within torn.groups 4 (Shown (is_good.named.0 ∷ [])) is_good.named.1
 
 nonces_torn : (parts : List TornPart) → AllByRecursion IsTornPart parts → Nonces32 parts
 nonces_torn [] h = tt
@@ -169,6 +185,14 @@ root_shown : (tx : Tx) → root_of (map group_value (shown_from tx.salt.0 0 (pre
 unfolding id_of
 root_shown tx = ap root_of (values_shown tx.salt.0 0 (present (groups tx)))
 
+-- the groups of a tear-off are sound, and all that is hashed for their root is there
+sound_torn : (hashed : List (List ℕ)) (torn : TornTx) → Includes hashed (hashed_for_torn torn) → IsTornTx torn → AllByRecursion (IsSound hashed) torn.groups
+sound_torn hashed torn has within =
+    sound hashed torn.groups (sized_torn torn.groups within.1.0.1) (all_left (Contains hashed) (flat_map hashed_for_group torn.groups) (hashed_for_root (map group_value torn.groups)) (in_torn torn hashed has))
+
+root_torn : (hashed : List (List ℕ)) (torn : TornTx) → Includes hashed (hashed_for_torn torn) → Inside hashed (hashed_for_root (map group_value torn.groups))
+root_torn hashed torn has = all_right (Contains hashed) (flat_map hashed_for_group torn.groups) (hashed_for_root (map group_value torn.groups)) (in_torn torn hashed has)
+
 -- a good tear-off of a transaction's id has the components' bytes where it shows them
 components_same : (hashed : List (List ℕ)) (tx : Tx) (torn : TornTx) (seen : Visible) → AreApart hashed → Includes hashed (hashed_for_tx tx) → Includes hashed (hashed_for_torn torn) → has_no_command tx ≡ false → IsTornTx torn → torn.id ≡ tx_id tx → IsGood torn seen
     → (k : ℕ) (parts : List TornPart) → k < 8 → parts_at torn k ≡ Some parts → bytes_of parts ≡ components_of (slice_get (groups tx) k)
@@ -177,17 +201,14 @@ components_same hashed tx torn seen apart has_tx has_torn command within same is
     let gs = shown_from salt 0 (present (groups tx)) in
     let list : Listed (present (groups tx)) = listed_by _ _ _ _ _ _ _ _ tx.commands command in
     let in_gs = in_tx tx hashed has_tx in
-    let in_hs = in_torn torn hashed has_torn in
     let values_gs = flat_map hashed_for_group gs in
-    let values_hs = flat_map hashed_for_group torn.groups in
     let sound_gs = sound hashed gs (sized_shown salt 0 (present (groups tx))) (all_left (Contains hashed) values_gs (hashed_for_root (map group_value gs)) in_gs) in
-    let sound_hs = sound hashed torn.groups (sized_torn torn.groups within.1.0.1) (all_left (Contains hashed) values_hs (hashed_for_root (map group_value torn.groups)) in_hs) in
     let count : length gs ≡ length (present (groups tx)) = length_shown salt 0 (present (groups tx)) in
     let seventh = shown_get salt 0 6 6 (present (groups tx)) (list.first ∷ list.more) (omega arith) list.seventh in
-    let roots : root_of (map group_value gs) ≡ root_of (map group_value torn.groups) = root_shown tx ∙ ap (λ x. x.0) (sym same) ∙ sym is_good.root in
+    let roots : root_of (map group_value gs) ≡ root_of (map group_value torn.groups) = root_shown tx ∙ ap (λ (id : Hash32). id.0) (sym same) ∙ sym is_good.root in
     let bytes =
-      same_bytes hashed apart gs torn.groups _ _ sound_gs sound_hs (all_right (Contains hashed) values_gs (hashed_for_root (map group_value gs)) in_gs) (all_right (Contains hashed) values_hs (hashed_for_root (map group_value torn.groups)) in_hs)
-      (omega (arith, count, list.seven)) (omega (arith, count, list.eight)) seventh is_good.five (omega (arith, within.1.0.0)) roots k (parts_from salt k 0 (components_of (slice_get (present (groups tx)) k))) parts lt (shown_parts salt 0 k k (present (groups tx)) (omega arith)) shown in
+      same_bytes hashed apart gs torn.groups _ _ sound_gs (sound_torn hashed torn has_torn within) (all_right (Contains hashed) values_gs (hashed_for_root (map group_value gs)) in_gs) (root_torn hashed torn has_torn)
+      (omega (arith, count, list.seven)) (omega (arith, count, list.eight)) seventh (five torn seen is_good) (omega (arith, within.1.0.0)) roots k (parts_from salt k 0 (components_of (slice_get (present (groups tx)) k))) parts lt (shown_parts salt 0 k k (present (groups tx)) (omega arith)) shown in
     sym bytes ∙ bytes_parts salt k 0 (components_of (slice_get (present (groups tx)) k)) ∙ present_at (groups tx) k
 
 -- the same inputs, references, notary and window
@@ -203,3 +224,52 @@ one_sight hashed tx torn seen apart has_tx has_torn limits command within same s
     let together = shown_together torn tx.inputs tx.references tx.notary tx.window inputs (ap (option_and_then at_most_one) notaries ∙ one_of tx.notary) (ap (option_and_then at_most_one) windows ∙ one_of tx.window) references in
     let both : Some seen ≡ Some (seen_of tx) = sym is_good.shows ∙ together ∙ ap (λ id. Some (record { id = id; inputs = tx.inputs; references = tx.references; notary = tx.notary; window = tx.window })) same in
     cc
+
+-- ---- two tear-offs
+
+spelt_same : {V : Type 0} (reading : List ℕ → Result (V × List ℕ) ℕ) (ps qs : List TornPart) → bytes_of ps ≡ bytes_of qs → spelt_by reading ps ≡ spelt_by reading qs
+spelt_same reading [] [] e = refl
+spelt_same reading [] (q ∷ qs) e = absurd cc
+spelt_same reading (p ∷ ps) [] e = absurd cc
+spelt_same reading (p ∷ ps) (q ∷ qs) e =
+    let first : p.bytes ≡ q.bytes = cc in
+    let more : bytes_of ps ≡ bytes_of qs = cc in
+    let rest = spelt_same reading ps qs more in
+    λ i. joined (whole (reading (first i))) (rest i)
+
+-- what two tear-offs of one id spell at one place
+spelt_at : {V : Type 0} (reading : List ℕ → Result (V × List ℕ) ℕ) (one other : TornTx) (k : ℕ) (ps qs : List TornPart) → parts_at one k ≡ Some ps → parts_at other k ≡ Some qs → bytes_of ps ≡ bytes_of qs
+    → option_and_then (spelt_by reading) (parts_at one k) ≡ option_and_then (spelt_by reading) (parts_at other k)
+spelt_at reading one other k ps qs a b e = ap (option_and_then (spelt_by reading)) a ∙ spelt_same reading ps qs e ∙ sym (ap (option_and_then (spelt_by reading)) b)
+
+pub two_sights : (hashed : List (List ℕ)) (one other : TornTx) (v w : Visible) → AreApart hashed → Includes hashed (hashed_for_torn one) → Includes hashed (hashed_for_torn other) → IsTornTx one → IsTornTx other
+    → one.id ≡ other.id → visible_of one ≡ Some v → visible_of other ≡ Some w → is_some v.notary ≡ true → is_some w.notary ≡ true → v ≡ w
+two_sights hashed one other v w apart has_one has_other within_one within_other same sees_one sees_other named_one named_other =
+    let a = good one v sees_one named_one in
+    let b = good other w sees_other named_other in
+    let roots : root_of (map group_value one.groups) ≡ root_of (map group_value other.groups) = a.root ∙ ap (λ (id : Hash32). id.0) same ∙ sym b.root in
+    let bytes =
+      same_bytes_named hashed apart one.groups other.groups a.named.0 b.named.0 (sound_torn hashed one has_one within_one) (sound_torn hashed other has_other within_other) (root_torn hashed one has_one) (root_torn hashed other has_other)
+      (five one v a) (omega (arith, within_one.1.0.0)) (five other w b) (omega (arith, within_other.1.0.0)) a.named.1 b.named.1 roots in
+    let inputs = spelt_at state_ref_at one other 0 a.inputs.0 b.inputs.0 a.inputs.1 b.inputs.1 (bytes 0 a.inputs.0 b.inputs.0 (omega arith) a.inputs.1 b.inputs.1) in
+    let notaries = ap (option_and_then at_most_one) (spelt_at party_at one other 4 a.notary.0 b.notary.0 a.notary.1 b.notary.1 (bytes 4 a.notary.0 b.notary.0 (omega arith) a.notary.1 b.notary.1)) in
+    let windows = ap (option_and_then at_most_one) (spelt_at window_at one other 5 a.window.0 b.window.0 a.window.1 b.window.1 (bytes 5 a.window.0 b.window.0 (omega arith) a.window.1 b.window.1)) in
+    let references = spelt_at state_ref_at one other 7 a.references.0 b.references.0 a.references.1 b.references.1 (bytes 7 a.references.0 b.references.0 (omega arith) a.references.1 b.references.1) in
+    let both : shown_by one ≡ shown_by other = λ i. together (same i) (inputs i) (notaries i) (windows i) (references i) in
+    let equal : Some v ≡ Some w = sym a.shows ∙ both ∙ b.shows in
+    cc
+
+-- ---- all together
+
+contains_each : {A B : Type 0} (f : A → List B) (xs : List A) (x : A) (y : B) → Contains xs x → Contains (f x) y → Contains (flat_map f xs) y
+contains_each f [] x y (k, lt, is) has = absurd (omega (arith, lt))
+contains_each {A} {B} f (z ∷ zs) x y (zero, lt, is) has = Contains-append_left (f z) (flat_map f zs) y (subst (λ (a : A). Contains (f a) y) (sym is) has)
+contains_each f (z ∷ zs) x y (suc k, lt, is) has = Contains-append_right (f z) (flat_map f zs) y (contains_each f zs x y (k, omega (arith, lt), is) has)
+
+pub tx_included : (txs : List Tx) (torns : List TornTx) (tx : Tx) → Contains txs tx → Includes (hashed_for_all txs torns) (hashed_for_tx tx)
+unfolding hashed_for_all
+tx_included txs torns tx among x has = Contains-append_left (flat_map hashed_for_tx txs) (flat_map hashed_for_torn torns) x (contains_each hashed_for_tx txs tx x among has)
+
+pub tear_included : (txs : List Tx) (torns : List TornTx) (torn : TornTx) → Contains torns torn → Includes (hashed_for_all txs torns) (hashed_for_torn torn)
+unfolding hashed_for_all
+tear_included txs torns torn among x has = Contains-append_right (flat_map hashed_for_tx txs) (flat_map hashed_for_torn torns) x (contains_each hashed_for_torn torns torn x among has)

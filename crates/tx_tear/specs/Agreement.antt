@@ -1,6 +1,6 @@
 -- What equal roots and equal ids say, where no digests collide.
 use Rattle.std.specs.Prelude.{◌≡◌, ℕ, List, length, Option, Some, false, true, is_some}
-use Rattle.std.specs.List.{AllByRecursion}
+use Rattle.std.specs.List.{AllByRecursion, Contains}
 use Rattle.component_merkle.specs.Merkle.{depth, padded, root_of}
 use Rattle.ledger_types.specs.declared.tx.Tx.{Tx}
 use Rattle.ledger_types.specs.declared.torn.TornTx.{TornTx}
@@ -11,7 +11,7 @@ use Rattle.ledger_types.specs.Rules.{has_no_command}
 use Rattle.ledger_types.specs.Signatures.{tx_id}
 use Rattle.ledger_types.specs.Tears.{visible_of}
 use Rattle.tx_tear.specs.Tearing.{seen_of}
-use Rattle.tx_tear.specs.Hashed.{AreApart, Includes, hashed_for_root, hashed_for_tx, hashed_for_torn}
+use Rattle.tx_tear.specs.Hashed.{AreApart, Includes, hashed_for_root, hashed_for_tx, hashed_for_torn, hashed_for_all}
 
 -- each has 32 bytes
 abbrev pub Are32 : List (List ℕ) → Type 0
@@ -28,3 +28,17 @@ abbrev pub OneIdOneSight : Type 0
 OneIdOneSight =
     (hashed : List (List ℕ)) (tx : Tx) (torn : TornTx) (seen : Visible) → AreApart hashed → Includes hashed (hashed_for_tx tx) → Includes hashed (hashed_for_torn torn) → IsTx tx → has_no_command tx ≡ false → IsTornTx torn
     → torn.id ≡ tx_id tx → visible_of torn ≡ Some seen → is_some seen.notary ≡ true → seen ≡ seen_of tx
+
+-- where no digests collide, two good tear-offs that have one id, and name a notary each, show the same
+abbrev pub GoodTearsAgree : Type 0
+GoodTearsAgree =
+    (hashed : List (List ℕ)) (one other : TornTx) (v w : Visible) → AreApart hashed → Includes hashed (hashed_for_torn one) → Includes hashed (hashed_for_torn other) → IsTornTx one → IsTornTx other
+    → one.id ≡ other.id → visible_of one ≡ Some v → visible_of other ≡ Some w → is_some v.notary ≡ true → is_some w.notary ≡ true → v ≡ w
+
+-- what is hashed for all includes what is hashed for each transaction
+abbrev pub EachTxIncluded : Type 0
+EachTxIncluded = (txs : List Tx) (torns : List TornTx) (tx : Tx) → Contains txs tx → Includes (hashed_for_all txs torns) (hashed_for_tx tx)
+
+-- what is hashed for all includes what is hashed for each tear-off
+abbrev pub EachTearIncluded : Type 0
+EachTearIncluded = (txs : List Tx) (torns : List TornTx) (torn : TornTx) → Contains torns torn → Includes (hashed_for_all txs torns) (hashed_for_torn torn)

@@ -61,3 +61,7 @@ hashed_for_tx tx = hashed_for_groups (shown_from tx.salt.0 0 (present (groups tx
 -- what is hashed to find the id that a tear-off gives
 unfoldable pub hashed_for_torn : TornTx → List (List ℕ)
 hashed_for_torn torn = hashed_for_groups torn.groups
+
+-- what is hashed for the ids of these transactions and to find those of these tear-offs
+unfoldable pub hashed_for_all : List Tx → List TornTx → List (List ℕ)
+hashed_for_all txs torns = flat_map hashed_for_tx txs ++ flat_map hashed_for_torn torns

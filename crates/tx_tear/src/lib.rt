@@ -9,6 +9,6 @@ mod reading;
 mod tests;
 mod values;
 
-pub use laws::{one_id_one_sight, one_root_one_list};
+pub use laws::{each_is_included, good_tear_offs_agree, one_id_one_sight, one_root_one_list};
 pub use making::{tear, tear_off_shows};
 pub use reading::{TearFault, visible};
