@@ -1,12 +1,12 @@
 -- Roots and values of groups, where no digests collide.
-use Rattle.std.proofs.Common.{◌≡◌, inl, inr, ⊎_elim, ◌⊎◌, ℕ, zero, suc, ◌+◌, ◌-◌, ◌*◌, ◌<◌, ◌≤◌, ◌^◌, List, [], ◌∷◌, ◌++◌, length, take, drop, replicate, map, refl, sym, ◌∙◌, ap, subst, arith}
+use Rattle.std.proofs.Common.{◌≡◌, inl, inr, ℕ, zero, suc, ◌-◌, ◌<◌, ◌≤◌, ◌^◌, List, [], ◌∷◌, ◌++◌, length, take, drop, replicate, map, refl, sym, ◌∙◌, ap, subst, arith}
 use Rattle.std.specs.Prelude.{slice_index_or}
 use Rattle.std.specs.List.{AllByRecursion, Contains, flat_map}
 use Rattle.std.proofs.lemmas.Bool.{cases_lt}
 use Rattle.std.proofs.lemmas.Nat.{pow_pos}
 use Rattle.std.proofs.lemmas.List.{length-append, take_at, drop_at, take-append-drop, get_or-take}
 use Rattle.sha2.specs.Sha256.{sha256}
-use Rattle.component_merkle.specs.Merkle.{leaf_of, halves, padded, depth, root_of, group_of, zeros}
+use Rattle.component_merkle.specs.Merkle.{halves, padded, depth, root_of, group_of, zeros}
 use Rattle.ledger_types.specs.declared.torn.TornPart.{TornPart}
 use Rattle.tx_tear.specs.Agreement.{Are32}
 use Rattle.ledger_types.specs.declared.torn.TornGroup.TheVariants.{Shown}
@@ -158,12 +158,12 @@ module _ (hashed : List (List ℕ)) (h : AreApart hashed) where
       elim (cases_lt d e) [
         | inl lt ↦ absurd (not_deeper d e xs ys m lt t.wide u.wide t.long u.long t.all u.all t.has t.is_digest t.first same)
         | inr ge ↦ elim (cases_lt e d) [
-            | inl lt ↦ absurd (not_deeper e d ys xs k lt u.wide t.wide u.long t.long u.all t.all u.has u.is_digest u.first (sym same))
-            | inr le ↦
-                let equal : e ≡ d = omega arith in
-                let at_one : (v : IsTree hashed d ys k) → halves d xs ≡ halves d ys → xs ≡ ys = λ v s. halves_same d xs ys t.wide v.wide t.long v.long t.all v.all s in
-                subst (λ (n : ℕ). IsTree hashed n ys k → halves d xs ≡ halves n ys → xs ≡ ys) (sym equal) at_one u same
-          ]
+          | inl lt ↦ absurd (not_deeper e d ys xs k lt u.wide t.wide u.long t.long u.all t.all u.has u.is_digest u.first (sym same))
+          | inr le ↦
+              let equal : e ≡ d = omega arith in
+              let at_one : (v : IsTree hashed d ys k) → halves d xs ≡ halves d ys → xs ≡ ys = λ v s. halves_same d xs ys t.wide v.wide t.long v.long t.all v.all s in
+              subst (λ (n : ℕ). IsTree hashed n ys k → halves d xs ≡ halves n ys → xs ≡ ys) (sym equal) at_one u same
+        ]
       ]
 
   -- equal roots over lists of hashes that are padded alike stand over equal padded lists
@@ -173,8 +173,8 @@ module _ (hashed : List (List ℕ)) (h : AreApart hashed) where
       let halves_are : halves (depth (length xs)) (padded (depth (length xs)) xs) ≡ halves e (padded e ys) = sym (root_halves xs) ∙ same ∙ root_halves ys in
       let wide : length xs ≤ 2 ^ depth (length xs) = fits (length xs) in
       let at_one : (n : ℕ) → n ≡ e → length xs ≤ 2 ^ n → Inside hashed (hashed_by_halves n (padded n xs)) → halves n (padded n xs) ≡ halves e (padded e ys) → padded n xs ≡ padded e ys =
-        λ n is. subst (λ (k : ℕ). length xs ≤ 2 ^ k → Inside hashed (hashed_by_halves k (padded k xs)) → halves k (padded k xs) ≡ halves e (padded e ys) → padded k xs ≡ padded e ys) (sym is)
-          (λ w i s. halves_same e (padded e xs) (padded e ys) (length_padded e xs w) (length_padded e ys (fits (length ys))) (long_padded e xs lx) (long_padded e ys ly) i iy s) in
+      λ n is. subst (λ (k : ℕ). length xs ≤ 2 ^ k → Inside hashed (hashed_by_halves k (padded k xs)) → halves k (padded k xs) ≡ halves e (padded e ys) → padded k xs ≡ padded e ys) (sym is)
+      (λ w i s. halves_same e (padded e xs) (padded e ys) (length_padded e xs w) (length_padded e ys (fits (length ys))) (long_padded e xs lx) (long_padded e ys ly) i iy s) in
       at_one (depth (length xs)) alike wide ix halves_are
 
   -- ---- leaves and groups

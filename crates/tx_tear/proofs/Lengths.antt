@@ -1,6 +1,6 @@
 -- Hashes have 32 bytes: digests, roots, values of groups.
-use Rattle.std.proofs.Common.{◌≡◌, inl, inr, ℕ, zero, suc, ◌+◌, ◌-◌, ◌*◌, ◌<◌, ◌≤◌, ◌^◌, false, List, [], ◌∷◌, ◌++◌, length, take, drop, replicate, map, nat_le, refl, sym, ◌∙◌, ap, arith}
-use Rattle.std.specs.Prelude.{slice_index, slice_index_or}
+use Rattle.std.proofs.Common.{◌≡◌, inl, inr, ℕ, zero, suc, ◌+◌, ◌-◌, ◌*◌, ◌≤◌, ◌^◌, false, List, [], ◌∷◌, ◌++◌, length, take, drop, replicate, nat_le, refl, ◌∙◌, ap, arith}
+use Rattle.std.specs.Prelude.{slice_index}
 use Rattle.std.specs.List.{AllByRecursion}
 use Rattle.std.specs.Int.{w32, to_be_bytes}
 use Rattle.std.proofs.lemmas.Bool.{cases_lt, le-leb}
@@ -8,7 +8,7 @@ use Rattle.std.proofs.lemmas.Bool.Decides.{nat_tests}
 use Rattle.std.proofs.lemmas.Nat.{pow_pos}
 use Rattle.std.proofs.lemmas.List.{length-append, length-replicate, length-take-le, length-drop}
 use Rattle.sha2.specs.Sha256.{sha256, digest_bytes}
-use Rattle.component_merkle.specs.Merkle.{nonce_of, leaf_of, halves, padded, depth, depth_from, root_of, group_of, zeros}
+use Rattle.component_merkle.specs.Merkle.{halves, padded, depth, depth_from, root_of, group_of, zeros}
 use Rattle.ledger_types.specs.Ids.{leaves_from, value_of, values_from}
 use Rattle.tx_tear.specs.Agreement.{Are32}
 

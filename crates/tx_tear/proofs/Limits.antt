@@ -1,5 +1,5 @@
 -- The tear-off of a transaction within its limits is within its own.
-use Rattle.std.proofs.Common.{◌≡◌, ℕ, zero, suc, ◌+◌, ◌≤◌, List, [], ◌∷◌, ◌++◌, length, take, map, Option, Some, None, option_to_list, refl, sym, ap, subst, ◌∙◌, arith}
+use Rattle.std.proofs.Common.{◌≡◌, ℕ, zero, suc, ◌+◌, ◌≤◌, List, [], ◌∷◌, length, take, map, Option, Some, None, option_to_list, refl, sym, ap, subst, ◌∙◌, arith}
 use Rattle.std.specs.Prelude.{IfSome}
 use Rattle.std.specs.List.{AllByRecursion}
 use Rattle.std.specs.Int.{w32, w64}
@@ -13,12 +13,11 @@ use Rattle.net_base.specs.Values.{moment, party}
 use Rattle.net_base.specs.Names.{IsStateRef, state_ref}
 use Rattle.ledger_types.specs.declared.tx.Tx.{Tx}
 use Rattle.ledger_types.specs.declared.tx.Window.{Window}
-use Rattle.ledger_types.specs.declared.torn.TornPart.{TornPart}
 use Rattle.ledger_types.specs.declared.torn.TornGroup.{TornGroup}
 use Rattle.ledger_types.specs.Txs.{IsTx, window}
-use Rattle.ledger_types.specs.Ids.{groups, present, id_of, value_of, values_from, kept}
+use Rattle.ledger_types.specs.Ids.{groups, present, id_of, values_from, kept}
 use Rattle.ledger_types.specs.Torn.{IsTornPart, IsTornGroup, AreGroups, IsTornTx, shown_of, shown_in}
-use Rattle.tx_tear.specs.Tearing.{parts_from, shown_group, hidden_group, torn_from}
+use Rattle.tx_tear.specs.Tearing.{parts_from, shown_group, torn_from}
 use Rattle.tx_tear.proofs.Groups.{truncated}
 use Rattle.tx_tear.proofs.Lengths.{all_take, length_digest, long_root, long_value, long_values}
 
@@ -115,8 +114,7 @@ groups_within tx h =
     let all = eight tx h in
     let n = length (present (groups tx)) in
     let front : torn_from tx.salt.0 0 (present (groups tx)) ≡ take n (torn_from tx.salt.0 0 (groups tx)) = truncated tx.salt.0 0 (groups tx) in
-    let count : length (torn_from tx.salt.0 0 (present (groups tx))) ≡ n = length_torn tx.salt.0 0 (present (groups tx)) in
-    (
+    let count : length (torn_from tx.salt.0 0 (present (groups tx))) ≡ n = length_torn tx.salt.0 0 (present (groups tx)) in (
       (omega (arith, count, length_present (groups tx)), subst (λ (gs : List TornGroup). AllByRecursion IsTornGroup gs) (sym front) (all_take IsTornGroup n (torn_from tx.salt.0 0 (groups tx)) all.each)),
       subst (λ (gs : List TornGroup). shown_in gs ≤ 96) (sym front) (omega (arith, all.few, shown_take n (torn_from tx.salt.0 0 (groups tx)))),
     )

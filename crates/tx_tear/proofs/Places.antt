@@ -1,5 +1,5 @@
 -- Two lists of groups that give one id, group by group, where no digests collide.
-use Rattle.std.proofs.Common.{◌≡◌, inl, inr, ⊎_elim, ℕ, zero, suc, ◌+◌, ◌-◌, ◌<◌, ◌≤◌, ◌^◌, List, [], ◌∷◌, ◌++◌, length, take, drop, replicate, map, Option, Some, None, refl, sym, ◌∙◌, ap, subst, arith}
+use Rattle.std.proofs.Common.{◌≡◌, inl, inr, ℕ, zero, suc, ◌+◌, ◌-◌, ◌<◌, ◌≤◌, ◌^◌, List, [], ◌∷◌, ◌++◌, length, take, drop, replicate, map, Option, Some, None, refl, sym, ◌∙◌, ap, subst, arith}
 use Rattle.std.specs.Prelude.{slice_index_or, IfSome}
 use Rattle.std.specs.List.{AllByRecursion, Contains, flat_map, slice_get}
 use Rattle.std.proofs.lemmas.Bool.{cases_lt}
@@ -54,11 +54,10 @@ pub record IsSound (hashed : List (List ℕ)) (g : TornGroup) : Type 0 where
 
 pub sound : (hashed : List (List ℕ)) (gs : List TornGroup) → AllByRecursion IsSized gs → Inside hashed (flat_map hashed_for_group gs) → AllByRecursion (IsSound hashed) gs
 sound hashed [] sized all = tt
-sound hashed (g ∷ gs) sized all =
-    (
-      record { sized = sized.0; all = all_left (Contains hashed) (hashed_for_group g) (flat_map hashed_for_group gs) all },
-      sound hashed gs sized.1 (all_right (Contains hashed) (hashed_for_group g) (flat_map hashed_for_group gs) all),
-    )
+sound hashed (g ∷ gs) sized all = (
+  record { sized = sized.0; all = all_left (Contains hashed) (hashed_for_group g) (flat_map hashed_for_group gs) all },
+  sound hashed gs sized.1 (all_right (Contains hashed) (hashed_for_group g) (flat_map hashed_for_group gs) all),
+)
 
 long_value : (g : TornGroup) → IsSized g → length (group_value g) ≡ 32
 long_value (Hidden root) sized = sized
@@ -248,11 +247,11 @@ module _ (hashed : List (List ℕ)) (h : AreApart hashed) where
   same_bytes_named gs hs p q sg sh ig ih five ten five' ten' named named' same k ps qs lt eg eh =
       elim (cases_lt (length gs) 9) [
         | inl few ↦ elim (cases_lt (length hs) 9) [
-            | inl few' ↦ bytes_at gs hs 3 sg sh ig ih (low_depth gs five few) (low_depth hs five' few') same k ps qs lt eg eh
-            | inr many' ↦ absurd (not_nine_named gs hs p named (uneven gs hs sg sh ig ih (low_depth gs five few) (nine_depth hs (omega arith)) same))
-          ]
+          | inl few' ↦ bytes_at gs hs 3 sg sh ig ih (low_depth gs five few) (low_depth hs five' few') same k ps qs lt eg eh
+          | inr many' ↦ absurd (not_nine_named gs hs p named (uneven gs hs sg sh ig ih (low_depth gs five few) (nine_depth hs (omega arith)) same))
+        ]
         | inr many ↦ elim (cases_lt (length hs) 9) [
-            | inl few' ↦ absurd (not_nine_named hs gs q named' (uneven hs gs sh sg ih ig (low_depth hs five' few') (nine_depth gs (omega arith)) (sym same)))
-            | inr many' ↦ bytes_at gs hs 4 sg sh ig ih (nine_depth gs (omega arith)) (nine_depth hs (omega arith)) same k ps qs (omega arith) eg eh
-          ]
+          | inl few' ↦ absurd (not_nine_named hs gs q named' (uneven hs gs sh sg ih ig (low_depth hs five' few') (nine_depth gs (omega arith)) (sym same)))
+          | inr many' ↦ bytes_at gs hs 4 sg sh ig ih (nine_depth gs (omega arith)) (nine_depth hs (omega arith)) same k ps qs (omega arith) eg eh
+        ]
       ]

@@ -1,5 +1,5 @@
 -- A good tear-off that has a transaction's id shows what the transaction's own tear-off shows.
-use Rattle.std.proofs.Common.{◌≡◌, ℕ, zero, suc, ◌+◌, ◌<◌, ◌≤◌, Bool, true, false, cond, List, [], ◌∷◌, ◌++◌, length, map, Option, Some, None, Result, option_map, option_and_then, option_to_list, bytes_eq, refl, sym, ◌∙◌, ap, subst, arith}
+use Rattle.std.proofs.Common.{◌≡◌, ℕ, zero, suc, ◌+◌, ◌<◌, Bool, true, false, cond, List, [], ◌∷◌, length, map, Option, Some, None, Result, option_map, option_and_then, option_to_list, bytes_eq, refl, sym, ◌∙◌, ap, subst, arith}
 use Rattle.std.specs.Prelude.{is_some}
 use Rattle.std.specs.List.{AllByRecursion, Contains, flat_map, slice_get}
 use Rattle.std.proofs.lemmas.List.Elements.{Contains-append_left, Contains-append_right}
@@ -7,7 +7,6 @@ use Rattle.std.proofs.lemmas.Option.{slice_get_within}
 use Rattle.std.proofs.lemmas.Slice.Eq.{bytes_eq-Decides}
 use Rattle.net_base.specs.declared.values.Hash32.{Hash32}
 use Rattle.net_base.specs.declared.values.Party.{Party}
-use Rattle.net_base.specs.Laws.{Laws}
 use Rattle.net_base.specs.Values.{party_at, party_laws}
 use Rattle.net_base.specs.Names.{state_ref_at, state_ref_laws}
 use Rattle.component_merkle.specs.Merkle.{root_of}
@@ -207,8 +206,8 @@ components_same hashed tx torn seen apart has_tx has_torn command within same is
     let seventh = shown_get salt 0 6 6 (present (groups tx)) (list.first ∷ list.more) (omega arith) list.seventh in
     let roots : root_of (map group_value gs) ≡ root_of (map group_value torn.groups) = root_shown tx ∙ ap (λ (id : Hash32). id.0) (sym same) ∙ sym is_good.root in
     let bytes =
-      same_bytes hashed apart gs torn.groups _ _ sound_gs (sound_torn hashed torn has_torn within) (all_right (Contains hashed) values_gs (hashed_for_root (map group_value gs)) in_gs) (root_torn hashed torn has_torn)
-      (omega (arith, count, list.seven)) (omega (arith, count, list.eight)) seventh (five torn seen is_good) (omega (arith, within.1.0.0)) roots k (parts_from salt k 0 (components_of (slice_get (present (groups tx)) k))) parts lt (shown_parts salt 0 k k (present (groups tx)) (omega arith)) shown in
+    same_bytes hashed apart gs torn.groups _ _ sound_gs (sound_torn hashed torn has_torn within) (all_right (Contains hashed) values_gs (hashed_for_root (map group_value gs)) in_gs) (root_torn hashed torn has_torn)
+    (omega (arith, count, list.seven)) (omega (arith, count, list.eight)) seventh (five torn seen is_good) (omega (arith, within.1.0.0)) roots k (parts_from salt k 0 (components_of (slice_get (present (groups tx)) k))) parts lt (shown_parts salt 0 k k (present (groups tx)) (omega arith)) shown in
     sym bytes ∙ bytes_parts salt k 0 (components_of (slice_get (present (groups tx)) k)) ∙ present_at (groups tx) k
 
 -- the same inputs, references, notary and window
@@ -249,8 +248,8 @@ two_sights hashed one other v w apart has_one has_other within_one within_other 
     let b = good other w sees_other named_other in
     let roots : root_of (map group_value one.groups) ≡ root_of (map group_value other.groups) = a.root ∙ ap (λ (id : Hash32). id.0) same ∙ sym b.root in
     let bytes =
-      same_bytes_named hashed apart one.groups other.groups a.named.0 b.named.0 (sound_torn hashed one has_one within_one) (sound_torn hashed other has_other within_other) (root_torn hashed one has_one) (root_torn hashed other has_other)
-      (five one v a) (omega (arith, within_one.1.0.0)) (five other w b) (omega (arith, within_other.1.0.0)) a.named.1 b.named.1 roots in
+    same_bytes_named hashed apart one.groups other.groups a.named.0 b.named.0 (sound_torn hashed one has_one within_one) (sound_torn hashed other has_other within_other) (root_torn hashed one has_one) (root_torn hashed other has_other)
+    (five one v a) (omega (arith, within_one.1.0.0)) (five other w b) (omega (arith, within_other.1.0.0)) a.named.1 b.named.1 roots in
     let inputs = spelt_at state_ref_at one other 0 a.inputs.0 b.inputs.0 a.inputs.1 b.inputs.1 (bytes 0 a.inputs.0 b.inputs.0 (omega arith) a.inputs.1 b.inputs.1) in
     let notaries = ap (option_and_then at_most_one) (spelt_at party_at one other 4 a.notary.0 b.notary.0 a.notary.1 b.notary.1 (bytes 4 a.notary.0 b.notary.0 (omega arith) a.notary.1 b.notary.1)) in
     let windows = ap (option_and_then at_most_one) (spelt_at window_at one other 5 a.window.0 b.window.0 a.window.1 b.window.1 (bytes 5 a.window.0 b.window.0 (omega arith) a.window.1 b.window.1)) in

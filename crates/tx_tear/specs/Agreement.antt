@@ -1,5 +1,5 @@
 -- What equal roots and equal ids say, where no digests collide.
-use Rattle.std.specs.Prelude.{◌≡◌, ℕ, List, length, Option, Some, false, true, is_some}
+use Rattle.std.specs.Prelude.{◌≡◌, ℕ, List, length, Some, false, true, is_some}
 use Rattle.std.specs.List.{AllByRecursion, Contains}
 use Rattle.component_merkle.specs.Merkle.{depth, padded, root_of}
 use Rattle.ledger_types.specs.declared.tx.Tx.{Tx}
@@ -18,14 +18,14 @@ abbrev pub Are32 : List (List ℕ) → Type 0
 Are32 hashes = AllByRecursion (λ h. length h ≡ 32) hashes
 
 -- where no digests collide, two lists of hashes that are padded to one length and have one root are the same once padded
-abbrev pub OneRootOneList : Type 0
-OneRootOneList =
+abbrev pub EqualRootsHaveEqualLeaves : Type 0
+EqualRootsHaveEqualLeaves =
     (hashed xs ys : List (List ℕ)) → AreApart hashed → Includes hashed (hashed_for_root xs) → Includes hashed (hashed_for_root ys) → Are32 xs → Are32 ys
     → depth (length xs) ≡ depth (length ys) → root_of xs ≡ root_of ys → padded (depth (length xs)) xs ≡ padded (depth (length ys)) ys
 
 -- where no digests collide, a good tear-off that has the id of a transaction with a command, and names a notary, shows what the transaction's own tear-off shows
-abbrev pub OneIdOneSight : Type 0
-OneIdOneSight =
+abbrev pub GoodTearShowsTransaction : Type 0
+GoodTearShowsTransaction =
     (hashed : List (List ℕ)) (tx : Tx) (torn : TornTx) (seen : Visible) → AreApart hashed → Includes hashed (hashed_for_tx tx) → Includes hashed (hashed_for_torn torn) → IsTx tx → has_no_command tx ≡ false → IsTornTx torn
     → torn.id ≡ tx_id tx → visible_of torn ≡ Some seen → is_some seen.notary ≡ true → seen ≡ seen_of tx
 

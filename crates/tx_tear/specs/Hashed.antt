@@ -28,7 +28,7 @@ hashed_by_halves (suc d) hashes =
     (halves d (take (2 ^ d) hashes) ++ halves d (drop (2 ^ d) hashes))
     ∷ (hashed_by_halves d (take (2 ^ d) hashes) ++ hashed_by_halves d (drop (2 ^ d) hashes))
 
--- what is hashed for the Merkle root of hashes, the padding among them
+-- what is hashed for the Merkle root of hashes
 abbrev pub hashed_for_root : List (List ℕ) → List (List ℕ)
 hashed_for_root hashes = hashed_by_halves (depth (length hashes)) (padded (depth (length hashes)) hashes)
 
@@ -54,7 +54,7 @@ abbrev pub shown_from : List ℕ → ℕ → List (List (List ℕ)) → List Tor
 shown_from salt group [] = []
 shown_from salt group (components ∷ more) = shown_group salt group components ∷ shown_from salt (group + 1) more
 
--- what is hashed for the id of a transaction, by the nonces of its components
+-- what is hashed for the id of a transaction, from the nonces of its components on
 unfoldable pub hashed_for_tx : Tx → List (List ℕ)
 hashed_for_tx tx = hashed_for_groups (shown_from tx.salt.0 0 (present (groups tx)))
 

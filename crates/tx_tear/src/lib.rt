@@ -9,6 +9,9 @@ mod reading;
 mod tests;
 mod values;
 
-pub use laws::{each_is_included, good_tear_offs_agree, one_id_one_sight, one_root_one_list};
+pub use laws::{
+    each_is_included, equal_roots_have_equal_leaves, good_tear_off_shows_transaction,
+    good_tear_offs_agree,
+};
 pub use making::{tear, tear_off_shows};
 pub use reading::{TearFault, visible};
