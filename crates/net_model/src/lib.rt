@@ -6,7 +6,10 @@
 
 mod laws;
 
-pub use laws::{enabled_is_defined, merges_in_order, stamps_rise};
+pub use laws::{
+    commits_keep, enabled_is_defined, faithful_exactly, faithful_run, items_stay, merges_in_order,
+    stamps_rise, step_is_its_effect,
+};
 
 #[cfg(test)]
 mod tests {
@@ -18,5 +21,10 @@ mod tests {
         enabled_is_defined::<u8>();
         stamps_rise::<u8>();
         merges_in_order::<Cause>();
+        step_is_its_effect::<u8>();
+        items_stay::<u8>();
+        faithful_exactly::<u8>();
+        faithful_run::<u8>();
+        commits_keep::<u8>();
     }
 }
