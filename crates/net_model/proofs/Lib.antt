@@ -1,4 +1,5 @@
 pub mod Basics
+pub mod Lists
 pub mod Steps
 pub mod Enabled
 pub mod Runs
@@ -9,5 +10,12 @@ pub mod Local
 pub mod Merging
 pub mod Faithful
 pub mod Commits
+pub mod Recorded
+pub mod Booked
+pub mod Passing
+pub mod Acts
+pub mod Coins
+pub mod Fitting
+pub mod Sound
 mod Ordered
 mod Stamps

@@ -1,4 +1,5 @@
 ghost use Rattle.net_model.specs.Enabled.{EnabledIsDefined};
+ghost use Rattle.net_model.specs.Fits.{StepsFit, FitsKeepSound, FreshIsSound};
 ghost use Rattle.net_model.specs.Runs.{MergesInOrder, StampsRise, StepIsItsEffect, ItemsStay, ItemsAreStamped, FaithfulExactly, FaithfulRun, CommitsKeepLocal, CommitsKeepMatched};
 
 /// The law that an act is enabled, by the event that performs it, exactly where that event has an effect.
@@ -50,4 +51,13 @@ pub fn faithful_run<F>()
 pub fn commits_keep<F>()
     ensures local { CommitsKeepLocal F }
     ensures matched { CommitsKeepMatched F }
+{}
+
+/// The law that a step of a sound state gives a record that fits, that a record which fits keeps a state sound, and that the state in
+/// which nothing has happened is sound.
+#[tactic(auto, using(crate::proofs::Fitting::steps_fit, crate::proofs::Sound::fits_keep_sound, crate::proofs::Sound::fresh_is_sound))]
+pub fn steps_fit<F>()
+    ensures fits { StepsFit F }
+    ensures sound { FitsKeepSound F }
+    ensures fresh { FreshIsSound F }
 {}

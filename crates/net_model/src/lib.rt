@@ -26,5 +26,6 @@ mod tests {
         faithful_exactly::<u8>();
         faithful_run::<u8>();
         commits_keep::<u8>();
+        steps_fit::<u8>();
     }
 }
