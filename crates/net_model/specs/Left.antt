@@ -10,7 +10,7 @@ use Rattle.session_wire.specs.declared.body.Body.TheVariants as body_of
 use Rattle.flow_machine.specs.Machine.{Machine}
 use Rattle.flow_machine.specs.declared.flows.FlowState.{FlowState}
 use Rattle.flow_machine.specs.declared.flows.FlowState.TheVariants as state
-use Rattle.net_model.specs.FlowLaws.{cost, Falls, LoadHolds, is_fair, OversHold}
+use Rattle.flow_machine.specs.Flows.{cost, Falls, LoadHolds, is_fair, OversHold}
 use Rattle.net_model.specs.Names.{number_is}
 use Rattle.net_model.specs.Environment.{Environment}
 use Rattle.net_model.specs.State.{Session, NodeState, Effect, session_of}

@@ -1,5 +1,4 @@
 pub mod Names
-pub mod FlowLaws
 pub mod Environment
 pub mod State
 pub mod Steps

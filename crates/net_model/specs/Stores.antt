@@ -10,7 +10,7 @@ use Rattle.ledger_types.specs.Rules.{asks_notary, is_other_notary}
 use Rattle.ledger_types.specs.Signatures.{tx_id, is_signed}
 use Rattle.ledger_types.specs.Stores.{resolved_of}
 use Rattle.ledger_types.specs.Notary.{signs}
-use Rattle.net_model.specs.FlowLaws.{KeepsTags, BeginsBare}
+use Rattle.flow_machine.specs.Tags.{KeepsTags, BeginsBare}
 use Rattle.net_model.specs.Environment.{Environment}
 use Rattle.net_model.specs.State.{NodeState, with_ids}
 use Rattle.net_model.specs.Runs.{run_of}

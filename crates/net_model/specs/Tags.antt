@@ -12,7 +12,7 @@ use Rattle.session_wire.specs.declared.body.Body.TheVariants as body_of
 use Rattle.flow_machine.specs.Machine.{Machine}
 use Rattle.flow_machine.specs.declared.flows.FlowState.{FlowState}
 use Rattle.flow_machine.specs.declared.flows.FlowState.TheVariants as state
-use Rattle.net_model.specs.FlowLaws.{answer_tags, value_tags, act_tags, KeepsTags, BeginsBare}
+use Rattle.flow_machine.specs.Tags.{answer_tags, value_tags, act_tags, KeepsTags, BeginsBare}
 use Rattle.net_model.specs.Environment.{Environment}
 use Rattle.net_model.specs.State.{Session, NodeState}
 use Rattle.net_model.specs.Runs.{run_of}
