@@ -1,5 +1,5 @@
 -- Small facts on options and lists.
-use Rattle.std.proofs.Common.{◌≡◌, ℕ, zero, suc, ◌<◌, ◌⊎◌, inl, inr, List, [], ◌∷◌, ◌++◌, Option, Some, None, Bool, true, false, cond, map, find, length, arith, option_map, option_and_then, slice_get, slice_set, refl, ap, subst, ◌&&◌}
+use Rattle.std.proofs.Common.{◌≡◌, ℕ, zero, suc, ◌<◌, ◌⊎◌, inl, inr, List, [], ◌∷◌, ◌++◌, Option, Some, None, Bool, true, false, cond, map, find, length, arith, option_map, option_and_then, replicate, slice_get, slice_set, refl, ap, subst, ◌&&◌}
 
 pub some_eq : {A : Type 0} {a b : A} → Some a ≡ Some b → a ≡ b
 some_eq h = cc
@@ -82,3 +82,9 @@ pub get_below : {A : Type 0} (xs : List A) (n : ℕ) → n < length xs → (a : 
 get_below [] n h = absurd (omega arith)
 get_below (x ∷ xs) zero h = (x, refl)
 get_below (x ∷ xs) (suc n) h = get_below xs n (omega arith)
+
+-- what stands in a list of one element
+pub fresh_get : {A : Type 0} (n q : ℕ) (x y : A) → slice_get (replicate n x) q ≡ Some y → x ≡ y
+fresh_get zero q x y h = cc
+fresh_get (suc n) zero x y h = some_eq h
+fresh_get (suc n) (suc q) x y h = fresh_get n q x y h

@@ -17,5 +17,8 @@ pub mod Acts
 pub mod Coins
 pub mod Fitting
 pub mod Sound
+pub mod Totals
+pub mod Falling
+pub mod LeftFalls
 mod Ordered
 mod Stamps

@@ -10,7 +10,7 @@ use Rattle.net_base.specs.declared.causes.Event.TheVariants as event
 use Rattle.session_wire.specs.declared.body.Body.{Body}
 use Rattle.net_model.specs.Environment.{Environment}
 use Rattle.net_model.specs.State.{Sent, Session, NodeState, Effect, Record, session_of, apply_effect, sessions_on}
-use Rattle.net_model.specs.Steps.{node_step, in_order}
+use Rattle.net_model.specs.Steps.{node_step, in_order, body_in}
 use Rattle.net_model.specs.Runs.{item_from, item_for, net_step, net_step_at, Follows, IsLocalFrom, IsMatchedFrom, IsItem, accepts, stamped, record_stamp, ItemsStay, ItemsAreStamped}
 use Rattle.net_model.proofs.Basics.{some_eq, from_then, both_true, get_set, set_same, get_below}
 use Rattle.net_model.proofs.Growth.{item_in, Grows, sessions_grow}
@@ -143,6 +143,10 @@ end_to_now w old new p s next cause e (Some item) g is st =
     let l : item.stamp < cause.stamp = omega arith in
     item_back cause.stamp old new p s cause.event item g is l
 end_to_now w old new p s next cause e None g is st = no_item old p s cause.event (plain_step w p s next cause e _ refl st)
+
+pub body_in_item : (o : Option Sent) (b : Body) → body_in o ≡ Some b → (item : Sent) × (o ≡ Some item) × (item.body ≡ b)
+body_in_item None b h = cc
+body_in_item (Some item) b h = (item, refl, some_eq h)
 
 -- ---- one step of the network
 

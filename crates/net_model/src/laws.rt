@@ -1,5 +1,6 @@
 ghost use Rattle.net_model.specs.Enabled.{EnabledIsDefined};
 ghost use Rattle.net_model.specs.Fits.{StepsFit, FitsKeepSound, FreshIsSound};
+ghost use Rattle.net_model.specs.Left.{LeftFalls};
 ghost use Rattle.net_model.specs.Runs.{MergesInOrder, StampsRise, StepIsItsEffect, ItemsStay, ItemsAreStamped, FaithfulExactly, FaithfulRun, CommitsKeepLocal, CommitsKeepMatched};
 
 /// The law that an act is enabled, by the event that performs it, exactly where that event has an effect.
@@ -60,4 +61,10 @@ pub fn steps_fit<F>()
     ensures fits { StepsFit F }
     ensures sound { FitsKeepSound F }
     ensures fresh { FreshIsSound F }
+{}
+
+/// The law that in a run what is left falls at each cause but Start, for every flow set whose frames' weights fall.
+#[tactic(auto, using(crate::proofs::LeftFalls::left_falls))]
+pub fn left_falls<F>()
+    ensures { LeftFalls F }
 {}

@@ -7,8 +7,8 @@
 mod laws;
 
 pub use laws::{
-    commits_keep, enabled_is_defined, faithful_exactly, faithful_run, items_stay, merges_in_order,
-    stamps_rise, step_is_its_effect,
+    commits_keep, enabled_is_defined, faithful_exactly, faithful_run, items_stay, left_falls,
+    merges_in_order, stamps_rise, step_is_its_effect,
 };
 
 #[cfg(test)]
@@ -27,5 +27,6 @@ mod tests {
         faithful_run::<u8>();
         commits_keep::<u8>();
         steps_fit::<u8>();
+        left_falls::<u8>();
     }
 }
