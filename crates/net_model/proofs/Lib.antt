@@ -20,5 +20,7 @@ pub mod Sound
 pub mod Totals
 pub mod Falling
 pub mod LeftFalls
+pub mod Holding
+pub mod HoldsKept
 mod Ordered
 mod Stamps

@@ -1,6 +1,7 @@
 ghost use Rattle.net_model.specs.Enabled.{EnabledIsDefined};
 ghost use Rattle.net_model.specs.Fits.{StepsFit, FitsKeepSound, FreshIsSound};
 ghost use Rattle.net_model.specs.Left.{LeftFalls};
+ghost use Rattle.net_model.specs.Tags.{NotaryTagsHold};
 ghost use Rattle.net_model.specs.Runs.{MergesInOrder, StampsRise, StepIsItsEffect, ItemsStay, ItemsAreStamped, FaithfulExactly, FaithfulRun, CommitsKeepLocal, CommitsKeepMatched};
 
 /// The law that an act is enabled, by the event that performs it, exactly where that event has an effect.
@@ -67,4 +68,11 @@ pub fn steps_fit<F>()
 #[tactic(auto, using(crate::proofs::LeftFalls::left_falls))]
 pub fn left_falls<F>()
     ensures { LeftFalls F }
+{}
+
+/// The law that in a run each tag by the notary checks and is over an id that its book has signed, for every flow set that makes no
+/// tags.
+#[tactic(auto, using(crate::proofs::HoldsKept::notary_tags_hold))]
+pub fn notary_tags_hold<F>()
+    ensures { NotaryTagsHold F }
 {}

@@ -8,7 +8,7 @@ mod laws;
 
 pub use laws::{
     commits_keep, enabled_is_defined, faithful_exactly, faithful_run, items_stay, left_falls,
-    merges_in_order, stamps_rise, step_is_its_effect,
+    merges_in_order, notary_tags_hold, stamps_rise, step_is_its_effect,
 };
 
 #[cfg(test)]
@@ -28,5 +28,6 @@ mod tests {
         commits_keep::<u8>();
         steps_fit::<u8>();
         left_falls::<u8>();
+        notary_tags_hold::<u8>();
     }
 }
