@@ -22,5 +22,8 @@ pub mod Falling
 pub mod LeftFalls
 pub mod Holding
 pub mod HoldsKept
+pub mod Proven
+pub mod Spent
+pub mod BookKept
 mod Ordered
 mod Stamps

@@ -9,4 +9,5 @@ pub mod Fits
 pub mod Left
 pub mod Tags
 pub mod Stores
+pub mod Books
 pub mod Print

@@ -2,6 +2,8 @@ ghost use Rattle.net_model.specs.Enabled.{EnabledIsDefined};
 ghost use Rattle.net_model.specs.Fits.{StepsFit, FitsKeepSound, FreshIsSound};
 ghost use Rattle.net_model.specs.Left.{LeftFalls};
 ghost use Rattle.net_model.specs.Tags.{NotaryTagsHold};
+ghost use Rattle.net_model.specs.Stores.{RunsHoldStores, StoredIsSigned};
+ghost use Rattle.net_model.specs.Books.{BooksOfRuns, BooksOfJournals};
 ghost use Rattle.net_model.specs.Runs.{MergesInOrder, StampsRise, StepIsItsEffect, ItemsStay, ItemsAreStamped, FaithfulExactly, FaithfulRun, CommitsKeepLocal, CommitsKeepMatched};
 
 /// The law that an act is enabled, by the event that performs it, exactly where that event has an effect.
@@ -75,4 +77,25 @@ pub fn left_falls<F>()
 #[tactic(auto, using(crate::proofs::HoldsKept::notary_tags_hold))]
 pub fn notary_tags_hold<F>()
     ensures { NotaryTagsHold F }
+{}
+
+/// The law that in a run each recorded transaction resolves among those of its node, was accepted over what it resolves to, has all tags
+/// that it needs, and names no other notary than the network's.
+#[tactic(auto, using(crate::proofs::Proven::stores_hold))]
+pub fn stores_hold<F>()
+    ensures { RunsHoldStores F }
+{}
+
+/// The law that in a run the id of each recorded transaction with an input, a reference or a time window is signed in the notary's book.
+#[tactic(auto, using(crate::proofs::Spent::stored_is_signed))]
+pub fn stored_is_signed<F>()
+    ensures { StoredIsSigned F }
+{}
+
+/// The law that each entry of a node's book was added for a fresh answer over the entries before it, in a run and in a journal of the
+/// node's own steps.
+#[tactic(auto, using(crate::proofs::BookKept::books_of_runs, crate::proofs::BookKept::books_of_journals))]
+pub fn books_hold<F>()
+    ensures runs { BooksOfRuns F }
+    ensures journals { BooksOfJournals F }
 {}

@@ -7,8 +7,9 @@
 mod laws;
 
 pub use laws::{
-    commits_keep, enabled_is_defined, faithful_exactly, faithful_run, items_stay, left_falls,
-    merges_in_order, notary_tags_hold, stamps_rise, step_is_its_effect,
+    books_hold, commits_keep, enabled_is_defined, faithful_exactly, faithful_run, items_stay,
+    left_falls, merges_in_order, notary_tags_hold, stamps_rise, step_is_its_effect, steps_fit,
+    stored_is_signed, stores_hold,
 };
 
 #[cfg(test)]
@@ -29,5 +30,8 @@ mod tests {
         steps_fit::<u8>();
         left_falls::<u8>();
         notary_tags_hold::<u8>();
+        stores_hold::<u8>();
+        stored_is_signed::<u8>();
+        books_hold::<u8>();
     }
 }
