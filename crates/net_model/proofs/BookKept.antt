@@ -12,7 +12,7 @@ use Rattle.session_wire.specs.declared.body.Body.{Body}
 use Rattle.flow_machine.specs.declared.acts.Act.{Act}
 use Rattle.flow_machine.specs.declared.flows.Checkpoint.{Checkpoint}
 use Rattle.net_model.specs.Environment.{Environment, identity}
-use Rattle.ledger_types.specs.Notary.{Reply, reply, entry_of, IsBooked, IsBookAfter, IsBook}
+use Rattle.ledger_types.specs.Notary.{reply, entry_of, IsBooked, IsBookAfter, IsBook}
 use Rattle.net_model.specs.State.{NodeState, Effect, Change, Record, apply_effect, fresh, replay, replay_from}
 use Rattle.net_model.specs.Steps.{Done, effect_of, booked_by, body_in, answering}
 use Rattle.net_model.specs.Runs.{IsLocalFrom, IsLocal, item_for, net_step, fresh_net, run_from, run_of}

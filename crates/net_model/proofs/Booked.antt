@@ -1,5 +1,5 @@
 -- Entries that are added to a book.
-use Rattle.std.proofs.Common.{◌≡◌, List, Option, Some, None, true, false, cond, find, refl, sym, ap, ◌∙◌}
+use Rattle.std.proofs.Common.{◌≡◌, List, Option, Some, None, true, find, refl}
 use Rattle.net_base.specs.declared.values.Hash32.{Hash32}
 use Rattle.net_base.specs.declared.values.Party.{Party}
 use Rattle.net_base.specs.declared.values.Moment.{Moment}

@@ -24,7 +24,7 @@ use Rattle.net_model.specs.Environment.{Environment, party}
 use Rattle.ledger_types.specs.Notary.{tag_by}
 use Rattle.ledger_types.specs.Stores.{is_stored, resolved_of}
 use Rattle.ledger_types.specs.Rules.{is_other_notary}
-use Rattle.ledger_types.specs.Vaults.{reserved, reservable}
+use Rattle.ledger_types.specs.Vaults.{reservable}
 use Rattle.ledger_types.specs.Signatures.{tx_id, is_signed}
 use Rattle.net_model.specs.State.{Sent, Session, NodeState, Effect, nothing, with_ids, session_of, apply_effect}
 use Rattle.net_model.specs.Steps.{Done, opens, opening, sends, receives, takes, next_item, verifies, reserves, vault_at, finds, signs_id, records, records_in, records_by, goes_on, onwards, is_no_peer, has_many, is_next, pushes, returns, performed, lapsed, started, answering, answered_with, is_new_key, is_built, meant_of, effect_of, node_step, body_in, stamp_in, in_order, live_at, owned}

@@ -1,10 +1,9 @@
 -- What a step gives fits after a sound state.
-use Rattle.std.proofs.Common.{◌≡◌, ℕ, zero, suc, ◌+◌, ◌-◌, ◌<◌, ◌≤◌, ◌^◌, ◌⊎◌, inl, inr, ⊎_elim, List, [], ◌∷◌, ◌++◌, Option, Some, None, Bool, true, false, cond, ◌==◌, ◌||◌, not, nat_lt, max, map, filter, find, drop, is_none, is_some, option_map, option_to_list, length, refl, sym, ap, subst, ◌∙◌, arith, append-nil}
+use Rattle.std.proofs.Common.{◌≡◌, ℕ, zero, suc, ◌+◌, ◌-◌, ◌<◌, ◌≤◌, ◌^◌, ◌⊎◌, inl, inr, ⊎_elim, List, [], ◌∷◌, ◌++◌, Option, Some, None, Bool, true, false, cond, ◌==◌, not, nat_lt, max, map, filter, find, drop, is_none, option_map, option_to_list, length, refl, sym, ap, subst, ◌∙◌, arith, append-nil}
 use Rattle.std.specs.List.{list_all, list_any, AllByRecursion}
 use Rattle.std.proofs.lemmas.Bool.{and_parts, and_from, or_cases, or_parts, or_left, or_from, both_ways, not-true, not_from_false, eqb-true, eqb-false, eq-eqb, ltb-true, leb-true, leb-false, false_from_ne_true}
 use Rattle.net_base.specs.declared.names.Key.{Key}
 use Rattle.net_base.specs.declared.values.Party.{Party}
-use Rattle.net_base.specs.declared.names.StateRef.{StateRef}
 use Rattle.net_base.specs.declared.causes.Cause.{Cause}
 use Rattle.net_base.specs.declared.causes.Event.{Event}
 use Rattle.net_base.specs.declared.causes.Event.TheVariants as event
@@ -24,10 +23,10 @@ use Rattle.ledger_types.specs.Stores.{is_stored, resolved_of, untagged}
 use Rattle.ledger_types.specs.Signatures.{tx_id}
 use Rattle.ledger_types.specs.Vaults.{vault_of, reserved}
 use Rattle.ledger_types.specs.Notary.{repeats, reply}
-use Rattle.net_model.specs.State.{Sent, Session, NodeState, FlowPart, Change, Effect, nothing, with_ids, session_of, changed_at, new_session, with_sent, came_on, flow_of}
+use Rattle.net_model.specs.State.{Sent, Session, NodeState, Change, Effect, nothing, with_ids, session_of, changed_at, new_session, with_sent, came_on, flow_of}
 use Rattle.net_model.specs.Steps.{Done, owned, next_item, first_item, is_confirm, opening, booked_by, vault_at, next_key, sessions_of, is_no_peer, has_many, is_new_key, direction_out, item_on, is_lawful, answering, live_at, place, node_step, stamp_in, body_in}
 use Rattle.net_model.specs.Fits.{IsNextOf, AcceptsInit, GoesOn, FitsEvent, Continues, FitsSent, FitsTaken, names_coin, FitsBooked, FitsChange, Fits, keys_differ, is_counted, IsSound, StepsFit}
-use Rattle.net_model.proofs.Basics.{some_eq, from_map, from_then, find_map}
+use Rattle.net_model.proofs.Basics.{some_eq, from_map, find_map}
 use Rattle.net_model.proofs.Booked.{added}
 use Rattle.net_model.proofs.Recorded.{resolved_there}
 use Rattle.net_model.proofs.Coins.{reserved_coins, reserved_once}

@@ -18,7 +18,7 @@ use Rattle.flow_machine.specs.declared.acts.Resumed.TheVariants as resumed
 use Rattle.flow_machine.specs.declared.flows.Checkpoint.{Checkpoint}
 use Rattle.flow_machine.specs.declared.flows.FlowState.{FlowState}
 use Rattle.flow_machine.specs.declared.flows.FlowState.TheVariants as state
-use Rattle.net_model.specs.Names.{number_is, key_eq}
+use Rattle.net_model.specs.Names.{key_eq}
 use Rattle.net_model.specs.Environment.{Environment, party, identity}
 use Rattle.ledger_types.specs.Notary.{Reply, reply, tag_by}
 use Rattle.ledger_types.specs.Names.{hash_eq}
@@ -28,7 +28,7 @@ use Rattle.net_model.specs.State.{Session, NodeState, Effect, Change, with_ids, 
 use Rattle.net_model.specs.Steps.{Done, next_item, first_item, is_confirm, handed, onwards, booked_by, place, answering, checkpoint_of, live_at, sessions_of, item_on, live}
 use Rattle.flow_machine.specs.Tags.{answer_tags, value_tags, act_tags, resumed_tags, KeepsTags, BeginsBare}
 use Rattle.net_model.specs.Tags.{body_tags, flow_passes, body_passes, ending_passes, session_passes, entry_passes, Passes}
-use Rattle.net_model.proofs.Basics.{some_eq, from_some, from_map, from_then, from_cond}
+use Rattle.net_model.proofs.Basics.{some_eq, from_some, from_map, from_then}
 use Rattle.net_model.proofs.Acts.{IsTold, judged, short, absent, ids, recorded, refused, timed, Performs, tells, opens_to, sends_on, takes_from, has_found, has_tagged, has_locked, has_answered, has_recorded, Gives, goes, pushed, popped, finished, failed, Does, starts, answers_to, arrives, acts, owned_there}
 use Rattle.net_model.proofs.Booked.{added}
 use Rattle.net_model.proofs.Lists.{all_option, all_get, all_find}

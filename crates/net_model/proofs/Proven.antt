@@ -1,7 +1,6 @@
 -- Each stored transaction has its whole back-chain, the verdict and the tags.
-use Rattle.std.proofs.Common.{◌≡◌, ℕ, ⊎_elim, List, [], ◌∷◌, ◌++◌, Option, Some, None, option_map, option_and_then, option_to_list, slice_get, slice_set, refl, sym, ap, subst, ◌∙◌}
+use Rattle.std.proofs.Common.{◌≡◌, ℕ, ⊎_elim, List, [], ◌∷◌, ◌++◌, Option, Some, None, option_to_list, slice_set, refl, sym, ap, subst, ◌∙◌}
 use Rattle.std.specs.List.{AllByRecursion}
-use Rattle.net_base.specs.declared.names.StateRef.{StateRef}
 use Rattle.net_base.specs.declared.causes.Cause.{Cause}
 use Rattle.net_base.specs.declared.causes.Event.{Event}
 use Rattle.ledger_types.specs.declared.tx.Tx.{Tx}
