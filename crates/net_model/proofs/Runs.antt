@@ -1,5 +1,7 @@
 -- Runs that go on by one cause.
-use Rattle.std.proofs.Common.{◌≡◌, ℕ, List, [], ◌∷◌, ◌++◌, Some, None, Bool, false, map, refl, ap}
+use Rattle.std.proofs.Common.{◌≡◌, ℕ, ◌-◌, List, [], ◌∷◌, ◌++◌, Some, None, Bool, false, map, length, take, drop, arith, refl, ap, sym, ◌∙◌}
+use Rattle.std.proofs.lemmas.List.{length-drop}
+use Rattle.std.proofs.Math.Seq.{take-length}
 use Rattle.std.proofs.lemmas.Option.{option_and_then_some}
 use Rattle.net_base.specs.declared.causes.Cause.{Cause}
 use Rattle.net_base.specs.declared.causes.Event.{Event}
@@ -8,7 +10,7 @@ use Rattle.flow_machine.specs.Machine.{Machine}
 use Rattle.net_model.specs.Environment.{Environment, one_node}
 use Rattle.net_model.specs.State.{NodeState, Effect, fresh}
 use Rattle.net_model.specs.Steps.{node_step}
-use Rattle.net_model.specs.Runs.{net_step, run_from, fresh_net, run_of, merge_two, merge, stamp_of, network_of, item_for, accepts}
+use Rattle.net_model.specs.Runs.{net_step, run_from, fresh_net, run_of, merge_two, merge, stamp_of, network_of, item_for, accepts, is_before, at_node, merged_with}
 
 -- a run goes on by one cause
 pub run_push : {F : Type 0} (w : Environment F) (net mid : List (NodeState F)) (done : List (NodeState F) × Effect F) (causes : List (ℕ × Cause)) (p : ℕ) (cause : Cause)
@@ -17,7 +19,8 @@ run_push w net mid done [] p cause e f = let same : net ≡ mid = cc in rw same 
 run_push w net mid done (x ∷ causes) p cause e f =
     option_and_then_some (λ d. run_from w d.0 causes) (net_step w net x.0 x.1) mid e (λ d here rest. rw here (run_push w d.0 mid done causes p cause rest f))
 
-merge_none : {X : Type 0} (before : X → X → Bool) (xs : List X) → merge_two before xs [] ≡ xs
+-- a list put together with an empty one
+pub merge_none : {X : Type 0} (before : X → X → Bool) (xs : List X) → merge_two before xs [] ≡ xs
 merge_none before [] = refl
 merge_none before (x ∷ xs) = ap (λ l. x ∷ l) (merge_none before xs)
 
@@ -53,3 +56,15 @@ network_push w causes s done cause h none step =
 pub network_fresh : {F : Type 0} (m : Machine F) → network_of (one_node m) ([] ∷ []) ≡ Some (fresh ∷ [])
 unfolding network_of run_of merge
 network_fresh m = refl
+
+none_left : {X : Type 0} (xs : List X) → length xs ≡ 0 → xs ≡ []
+none_left [] h = refl
+none_left (x ∷ xs) h = absurd (omega arith)
+
+-- where no cause of the nodes behind is left those of the node follow
+pub ends_with : (p n : ℕ) (causes : List Cause) (later all new whole : List (ℕ × Cause)) → length later ≡ 0 → all ++ merged_with p (drop n causes) later ≡ whole
+    → new ≡ all ++ at_node p (take (length causes - n) (drop n causes)) → new ≡ whole
+ends_with p n causes later all new whole none h e =
+    let k : all ++ merged_with p (drop n causes) [] ≡ whole = rw (none_left later none) at h in
+    let rest = ap (λ k. take k (drop n causes)) (sym (length-drop n causes)) ∙ take-length (drop n causes) in
+    e ∙ (ap (λ (l : List Cause). all ++ at_node p l) rest ∙ (ap (λ (l : List (ℕ × Cause)). all ++ l) (sym (merge_none (is_before stamp_of) (at_node p (drop n causes)))) ∙ k))

@@ -89,6 +89,14 @@ stamp_of cause = cause.stamp
 abbrev pub merged : List (List Cause) → List (ℕ × Cause)
 merged journals = merge stamp_of journals
 
+-- each of a list with its node
+abbrev pub at_node : {X : Type 0} → ℕ → List X → List (ℕ × X)
+at_node p xs = map (λ x. (p, x)) xs
+
+-- the causes of a node and those of the nodes behind it as one list
+abbrev pub merged_with : ℕ → List Cause → List (ℕ × Cause) → List (ℕ × Cause)
+merged_with p causes later = merge_two (is_before stamp_of) (at_node p causes) later
+
 -- the network after the causes of all journals, where they are a run
 unfoldable pub network_of : {F : Type 0} → Environment F → List (List Cause) → Option (List (NodeState F))
 network_of w journals = run_of w (merged journals)

@@ -1,37 +1,19 @@
 //! The network machine: what a cause does to a node, which causes are a run of the network, and what is printed of it.
 //!
 //! The definitions stand in `specs/`, in this order: `Names`, `Environment`, `State`, `Steps`, `Enabled`, `Runs`, `Fits`, `Left`,
-//! `Tags`, `Stores`, `Print`. The functions here have no body: each is a law of these definitions, which is its contract.
+//! `Tags`, `Stores`, `Books`, `Print`. Each function here without a body is a law of these definitions, which is its contract; `merge`
+//! puts the causes of all nodes into the order of their run.
 #![tactic(auto)]
 
 mod laws;
+mod ordering;
 
 pub use laws::{
     books_hold, commits_keep, enabled_is_defined, faithful_exactly, faithful_run, items_stay,
     left_falls, merges_in_order, notary_tags_hold, stamps_rise, step_is_its_effect, steps_fit,
     stored_is_signed, stores_hold,
 };
+pub use ordering::merge;
 
 #[cfg(test)]
-mod tests {
-    use super::*;
-    use net_base::Cause;
-
-    #[test]
-    fn the_laws_hold() {
-        enabled_is_defined::<u8>();
-        stamps_rise::<u8>();
-        merges_in_order::<Cause>();
-        step_is_its_effect::<u8>();
-        items_stay::<u8>();
-        faithful_exactly::<u8>();
-        faithful_run::<u8>();
-        commits_keep::<u8>();
-        steps_fit::<u8>();
-        left_falls::<u8>();
-        notary_tags_hold::<u8>();
-        stores_hold::<u8>();
-        stored_is_signed::<u8>();
-        books_hold::<u8>();
-    }
-}
+mod tests;
