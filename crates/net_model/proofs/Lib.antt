@@ -27,3 +27,4 @@ pub mod Spent
 pub mod BookKept
 mod Ordered
 mod Stamps
+mod Rows

@@ -1,5 +1,5 @@
 -- A recorded transaction that asks the notary is signed in its book.
-use Rattle.std.proofs.Common.{◌≡◌, ℕ, zero, suc, ◌+◌, ◌<◌, ◌≤◌, ⊎_elim, List, [], ◌∷◌, Option, Some, None, Bool, true, false, cond, ◌==◌, not, filter, is_some, slice_get, refl, sym, ap, subst, arith}
+use Rattle.std.proofs.Common.{◌&&◌, ◌||◌, ◌≡◌, ℕ, zero, suc, ◌+◌, ◌<◌, ◌≤◌, ⊎_elim, List, [], ◌∷◌, Option, Some, None, Bool, true, false, cond, ◌==◌, not, filter, is_some, slice_get, refl, sym, ap, subst, arith}
 use Rattle.std.specs.List.{AllByRecursion, list_all, list_any, range_with_len}
 use Rattle.std.proofs.lemmas.Bool.{and_parts, and_from, or_cases, or_right, not-false, both_ways, not_from_true, eqb-true, eq-eqb}
 use Rattle.std.proofs.lemmas.Slice.Eq.{bytes_eq-Decides}
@@ -54,6 +54,10 @@ both_of P Q (x ∷ xs) h k = let q = and_parts (Q x) (list_all Q xs) k in ⊎_el
 hash_true : (a b : Hash32) → hash_eq a b ≡ true → a ≡ b
 hash_true a b h = let e = (bytes_eq-Decides a.0 b.0).0 h in ap (λ (x : List ℕ). record { 0 = x }) e
 
+kept : (a b : Bool) → a ≡ true → not a || b ≡ true → b ≡ true
+kept true b h k = k
+kept false b h k = cc
+
 module _ {F : Type 0} (w : Environment F) (book : List Entry) where
   near_party : (o : Option Party) → is_some o ≡ true → is_other_notary o w.notary ≡ false → is_party (record { 0 = w.notary.0 }) o ≡ true
   near_party None h k = cc
@@ -67,8 +71,8 @@ module _ {F : Type 0} (w : Environment F) (book : List Entry) where
       let tagged = range_at (needs stx.tx) (has_signed w.mark stx) 0 16 w.notary.0 p.signed (omega arith) (omega arith) need in
       let good = tags_good s.stored n stx passes.stored is in
       let b = both_of (is_tag w.mark (tx_id stx.tx) w.notary.0) (is_good w book) stx.tags tagged good in
-      let t = and_parts (b.it.by.0 == w.notary.0) _ b.first in let u = and_parts (hash_eq b.it.of (tx_id stx.tx)) _ t.1 in
-      let own = ⊎_elim (λ k. absurd (both_ways (not (party_eq b.it.by w.notary)) (not_from_true _ t.0) k)) (λ k. k) (or_cases (not (party_eq b.it.by w.notary)) _ b.second) in
+      let t = and_parts (b.it.by.0 == w.notary.0) (hash_eq b.it.of (tx_id stx.tx) && checks w.mark b.it) b.first in let u = and_parts (hash_eq b.it.of (tx_id stx.tx)) (checks w.mark b.it) t.1 in
+      let own = kept (party_eq b.it.by w.notary) (checks w.mark b.it && list_any (signs b.it.of) book) t.0 b.second in
       let v = and_parts (checks w.mark b.it) (list_any (signs b.it.of) book) own in
       subst (λ (h : Hash32). list_any (signs h) book ≡ true) (hash_true b.it.of (tx_id stx.tx) u.0) v.1
     where
