@@ -1,8 +1,14 @@
 //! The decisions of a notary, worked out by hand from the order of its cases. The tear-offs were computed by another
 //! implementation.
 
+ghost use Rattle.std.specs.Prelude.{IfOk};
+ghost use Rattle.net_base.specs.Values.{IsParty};
+ghost use Rattle.ledger_types.specs.Requests.{IsNotaryAnswer};
+
+mod plain;
+
 use super::*;
-use ledger_types::{Entry, NotaryAnswer, RefKind, Request, TornTx, consumer_hash};
+use ledger_types::{Entry, NotaryAnswer, RefKind, RefList, Request, TornTx, consumer_hash};
 use net_base::{Identity, ListOf, Moment, Party, Reader, Tag};
 use signing::{KeyedDigest, Signer};
 use std::alloc::Global;
@@ -33,7 +39,54 @@ const ELSEWHERE: &str =
 const BAD: &str =
     "09090909090909090909090909090909090909090909090909090909090909090501011010101010101010101010101010101010101010101010101010101010101010002401010101010101010101010101010101010101010101010101010101010101010000000000ffffffffffffffffffffffffffffffffffffffffffffffffffffffffffffffff00ffffffffffffffffffffffffffffffffffffffffffffffffffffffffffffffff00ffffffffffffffffffffffffffffffffffffffffffffffffffffffffffffffff01012020202020202020202020202020202020202020202020202020202020202020000100";
 
-/// What the notary replies; an entry of a fresh answer is added.
+/// A request for a tear-off, with the tag of the party `signer`.
+fn request_of(
+    alloc: Global,
+    torn: &str,
+    party: u8,
+    flow: u32,
+    signer: u8,
+) -> Result<Request, Fail> {
+    let bytes = hex::decode(alloc, torn)?;
+    let torn = TornTx::decode(alloc, &mut Reader::new(&bytes))?;
+    let by = Party(signer);
+    let tag = Tag {
+        by,
+        of: torn.id,
+        mark: KeyedDigest.mark(by, &torn.id),
+    };
+    Ok(Request {
+        party: Party(party),
+        flow,
+        torn,
+        tag,
+    })
+}
+
+/// What the notary replies, and the inputs that it saw.
+fn decide(
+    alloc: Global,
+    book: &Book,
+    request: &Request,
+    me: &Identity,
+    now: Moment,
+) -> Result<(RefList, Decision), TearFault>
+    ensures { IsParty me.now.party → IfOk result (λ p. IsNotaryAnswer p.1.answer) }
+{
+    match visible(alloc, &request.torn) {
+        Ok(seen) => {
+            let decision = book.decide(alloc, request, Some(&seen), me, now, &KeyedDigest)?;
+            Ok((seen.inputs, decision))
+        }
+        Err(TearFault::BadTear) => {
+            let decision = book.decide(alloc, request, None, me, now, &KeyedDigest)?;
+            Ok((ListOf::new(alloc), decision))
+        }
+        Err(fault) => Err(fault),
+    }
+}
+
+/// What the notary replies, as its code; an entry of a fresh answer is added.
 fn answer(
     alloc: Global,
     book: &mut Book,
@@ -41,19 +94,12 @@ fn answer(
     me: &Identity,
     now: Moment,
 ) -> Result<(u8, bool), TearFault> {
-    let (inputs, decision) = match visible(alloc, &request.torn) {
-        Ok(seen) => {
-            let decision = book.decide(alloc, &request, Some(&seen), me, now, &KeyedDigest)?;
-            (seen.inputs, decision)
-        }
-        Err(TearFault::BadTear) => {
-            let decision = book.decide(alloc, &request, None, me, now, &KeyedDigest)?;
-            (ListOf::new(alloc), decision)
-        }
-        Err(fault) => return Err(fault),
-    };
+    let (inputs, decision) = decide(alloc, book, &request, me, now)?;
     let Decision { answer, fresh } = decision;
     let code = answer.code();
+    if inputs.len() > 64 || me.party.0 > 15 {
+        return Err(TearFault::BadTear);
+    }
     if fresh {
         book.make_room(alloc)?;
         book.add(Entry {
@@ -147,20 +193,7 @@ fn the_eight_cases(rt: HostRuntime) -> Result<(), Fail> {
     ];
     let mut book = Book::new(rt.alloc());
     for (name, party, flow, torn, signer, now, node, wanted) in table {
-        let bytes = hex::decode(rt.alloc(), torn)?;
-        let torn = TornTx::decode(rt.alloc(), &mut Reader::new(&bytes))?;
-        let by = Party(signer);
-        let tag = Tag {
-            by,
-            of: torn.id,
-            mark: KeyedDigest.mark(by, &torn.id),
-        };
-        let request = Request {
-            party: Party(party),
-            flow,
-            torn,
-            tag,
-        };
+        let request = request_of(rt.alloc(), torn, party, flow, signer)?;
         let me = Identity {
             party: Party(node),
             nodes: 3,
@@ -175,6 +208,58 @@ fn the_eight_cases(rt: HostRuntime) -> Result<(), Fail> {
         let hash = consumer_hash(&pay.request.torn.id).0;
         assert_eq!(rt; only_conflict(&again.answer), Some((1, 0, hash, 0)));
         assert_eq!(rt; only_conflict(&refer.answer), Some((1, 0, hash, 1)));
+    }
+    Ok(())
+}
+
+/// Whether the book and a scan of its entries reply the same. Then adds an entry that signs the request, whatever was
+/// replied, so that states get many consumers.
+fn agrees_and_signs(
+    alloc: Global,
+    book: &mut Book,
+    request: Request,
+    now: Moment,
+) -> Result<bool, TearFault> {
+    let me = Identity {
+        party: Party(0),
+        nodes: 3,
+        notary: Party(0),
+    };
+    let seen = visible(alloc, &request.torn)?;
+    let found = book.decide(alloc, &request, Some(&seen), &me, now, &KeyedDigest)?;
+    let scanned = plain::decide(alloc, book.entries(), &request, &seen, me.party, now)?;
+    let same = plain::is_same(&found.answer, &scanned.answer) && found.fresh == scanned.fresh;
+    let tag = plain::tag_by(me.party, &request.torn.id);
+    if seen.inputs.len() <= 64 {
+        book.make_room(alloc)?;
+        book.add(Entry {
+            request,
+            inputs: seen.inputs,
+            answer: NotaryAnswer::Signed { tag },
+        });
+    }
+    Ok(same)
+}
+
+#[test]
+fn a_scan_replies_the_same(rt: HostRuntime) -> Result<(), Fail> {
+    let requests = [
+        ("refers to state 1", REFER, 1, 0, 1, 0),
+        ("takes state 1", PAY, 1, 1, 1, 0),
+        ("takes states 2 and 1", PAY_AGAIN, 1, 2, 1, 0),
+        ("refers again", REFER, 2, 0, 2, 0),
+        ("takes state 1 again", PAY, 2, 1, 2, 0),
+        ("repeats an earlier request", PAY_AGAIN, 1, 2, 1, 5),
+        ("with the tag of another", PAY, 1, 3, 2, 0),
+        ("past its window", IN_TIME, 1, 4, 1, 9),
+        ("past its window, signed already", IN_TIME, 1, 5, 1, 9),
+        ("names another notary", ELSEWHERE, 1, 6, 1, 0),
+    ];
+    let mut book = Book::new(rt.alloc());
+    for (name, torn, party, flow, signer, now) in requests {
+        let request = request_of(rt.alloc(), torn, party, flow, signer)?;
+        let same = agrees_and_signs(rt.alloc(), &mut book, request, Moment(now))?;
+        assert_eq!(rt; same, true, "{name}");
     }
     Ok(())
 }
