@@ -78,11 +78,7 @@ impl Book {
         ensures room { self.old.room ≤ self.new.room + 1 }
     {
         let place = self.entries.len();
-        note(
-            &mut self.by_request,
-            RequestKey::of(&entry.request),
-            place,
-        );
+        note(&mut self.by_request, RequestKey::of(&entry.request), place);
         note_signed(&mut self.by_id, &mut self.by_reference, &entry, place);
         self.entries.push(entry).unwrap();
     }

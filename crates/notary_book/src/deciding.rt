@@ -11,9 +11,7 @@ ghost use Rattle.ledger_types.specs.Tears.{visible_of};
 ghost use Rattle.ledger_types.specs.Notary.{signs, conflict_over, tag_by, has_good_tag, is_inside, conflicts, answer_unsigned, answer_shown, answer_new, is_notary, reply};
 
 use crate::book::Book;
-use ledger_types::{
-    ConflictItem, NotaryAnswer, RefKind, Request, Visible, Window, consumer_hash,
-};
+use ledger_types::{ConflictItem, NotaryAnswer, RefKind, Request, Visible, Window, consumer_hash};
 use net_base::{Hash32, Identity, ListOf, Moment, Party, StateRef, Tag};
 use signing::Signer;
 use std::alloc::{AllocError, Global};
@@ -64,12 +62,7 @@ fn is_party(party: Party, option: &Option<Party>) -> bool
 }
 
 impl Book {
-    fn conflict_over(
-        &self,
-        id: &Hash32,
-        kind: RefKind,
-        reference: StateRef,
-    ) -> Option<ConflictItem>
+    fn conflict_over(&self, id: &Hash32, kind: RefKind, reference: StateRef) -> Option<ConflictItem>
         requires { list_any (signs id.now) self.now.entries ≡ false }
         ensures item { result ≡ conflict_over self.now.entries id.now kind reference }
         ensures limits { IfSome result IsConflictItem }

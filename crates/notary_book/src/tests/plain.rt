@@ -1,14 +1,12 @@
 //! What a notary replies by going through all entries of its book, for comparison.
 
 use crate::Decision;
-use ledger_types::{
-    ConflictItem, Entry, NotaryAnswer, RefKind, Request, Visible, consumer_hash,
-};
+use ledger_types::{ConflictItem, Entry, NotaryAnswer, RefKind, Request, Visible, consumer_hash};
 use net_base::{Hash32, ListOf, Moment, Party, StateRef, Tag};
 use signing::{KeyedDigest, Signer};
 use std::alloc::{AllocError, Global};
 
-pub(crate) fn tag_by(by: Party, id: &Hash32) -> Tag {
+fn tag_by(by: Party, id: &Hash32) -> Tag {
     Tag {
         by,
         of: *id,
@@ -36,7 +34,11 @@ fn is_signed(entry: &Entry) -> bool {
 fn consumes(entry: &Entry, id: &Hash32, reference: &StateRef) -> bool {
     is_signed(entry)
         && entry.request.torn.id != *id
-        && entry.inputs.as_slice().iter().any(|input| *input == *reference)
+        && entry
+            .inputs
+            .as_slice()
+            .iter()
+            .any(|input| *input == *reference)
 }
 
 fn add_conflicts(
@@ -74,14 +76,29 @@ fn answer(
     if request.tag.by != request.party || !KeyedDigest.checks(&request.tag) {
         return Ok(NotaryAnswer::BadRequestTag);
     }
-    if entries.iter().any(|entry| is_signed(entry) && entry.request.torn.id == *id) {
+    if entries
+        .iter()
+        .any(|entry| is_signed(entry) && entry.request.torn.id == *id)
+    {
         return Ok(NotaryAnswer::Signed {
             tag: tag_by(me, id),
         });
     }
     let mut items = Vec::new(alloc);
-    add_conflicts(entries, id, RefKind::Input, seen.inputs.as_slice(), &mut items)?;
-    add_conflicts(entries, id, RefKind::Reference, seen.references.as_slice(), &mut items)?;
+    add_conflicts(
+        entries,
+        id,
+        RefKind::Input,
+        seen.inputs.as_slice(),
+        &mut items,
+    )?;
+    add_conflicts(
+        entries,
+        id,
+        RefKind::Reference,
+        seen.references.as_slice(),
+        &mut items,
+    )?;
     if items.len() > 0 {
         return Ok(NotaryAnswer::Conflict {
             list: ListOf::from_vec(items),

@@ -2,7 +2,7 @@ use Rattle.std.proofs.Common.{◌≡◌, ◌++◌, ◌∷◌, [], List, length, 
 use Rattle.std.specs.Map.{lookup}
 use Rattle.ledger_types.specs.declared.notary.Entry.{Entry}
 use Rattle.notary_book.specs.declared.index.RequestKey.{RequestKey}
-use Rattle.notary_book.specs.Indexed.{key_of, key_eq, first_of, IsIndexed}
+use Rattle.notary_book.specs.Indexed.{key_eq, first_of, IsIndexed}
 use Rattle.notary_book.proofs.Places.{indexed_push}
 use Rattle.notary_book.proofs.book.Book.add.Goals as goal
 

@@ -1,4 +1,4 @@
-use Rattle.std.proofs.Common.{◌≡◌, List, Some, None, find, sym, ap, ◌∙◌}
+use Rattle.std.proofs.Common.{◌≡◌, List, Some, None, sym, ap, ◌∙◌}
 use Rattle.std.specs.List.{position}
 use Rattle.std.specs.Option.{option_copied}
 use Rattle.ledger_types.specs.declared.notary.Entry.{Entry}
