@@ -1,5 +1,4 @@
 pub mod Answering
-pub mod Finding
 pub mod Once
 pub mod Caused
 pub mod Places
