@@ -169,6 +169,11 @@ release_keeps me recorded locks states flow v =
 
 -- ---- recording
 
+-- nothing is held where nothing is recorded
+pub vault_none : (me : Party) → IsVault me [] [] []
+unfolding vault_of
+vault_none me = record { states = refl; sources = refl; known = refl; apart = refl }
+
 noted_more : (recorded : List Noted) (t : Noted) (id : Hash32) → is_noted recorded id ≡ true → is_noted (recorded ++ t ∷ []) id ≡ true
 noted_more recorded t id there = list_any-append (λ u. hash_eq id u.0) recorded (t ∷ []) ∙ ap (λ b. b || is_noted (t ∷ []) id) there
 

@@ -41,6 +41,7 @@ impl Vault {
     pub fn new(alloc: Global, party: Party) -> Vault
         ensures party { result.party ≡ party }
         ensures held { result.held ≡ [] }
+        ensures vault { IsVault party [] [] result.held }
     {
         Vault {
             party,
