@@ -1,20 +1,28 @@
 //! The parts of one change, each in the table that it concerns.
 
-ghost use Rattle.std.specs.Prelude.{◌≡◌, ◌≤◌, ◌<◌, ◌+◌, ◌++◌, ◌^◌, true, List, length, option_to_list, IfSome, OnOk};
+ghost use Rattle.std.specs.Prelude.{◌≡◌, ◌≤◌, ◌<◌, ◌+◌, ◌++◌, ◌^◌, true, not, List, length, option_to_list, IfSome, OnOk};
 ghost use Rattle.net_base.specs.declared.values.Hash32.{Hash32 as Id};
 ghost use Rattle.ledger_types.specs.declared.tx.Tx.{Tx as Recorded};
 ghost use Rattle.ledger_types.specs.Txs.{IsTx};
 ghost use Rattle.ledger_types.specs.Requests.{IsEntry};
-ghost use Rattle.ledger_types.specs.Stores.{untagged};
+ghost use Rattle.ledger_types.specs.Stores.{untagged, is_stored};
 ghost use Rattle.ledger_types.specs.Vaults.{Lock};
 ghost use Rattle.vault.specs.Holdings.{IsVault};
 ghost use Rattle.ledger_tables.specs.Ledgers.{may_record, recorded_in, held_with, freed_at_end, released_at_end, HasRecordRoom, HasEntryRoom};
 
 use ledger_types::{Entry, SignedTx};
+use net_base::Hash32;
 use notary_book::Book;
 use std::alloc::{AllocError, Global};
 use tx_store::Store;
 use vault::Vault;
+
+/// Whether no transaction of this id is stored.
+pub fn is_new(store: &Store, id: &Hash32) -> bool
+    ensures { result ≡ not (is_stored store.now.list id.now) }
+{
+    store.get(id).is_none()
+}
 
 /// Makes room for a transaction, in the store and in the vault.
 pub fn make_record_room(

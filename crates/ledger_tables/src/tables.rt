@@ -10,8 +10,10 @@ ghost use Rattle.ledger_types.specs.Vaults.{Lock};
 ghost use Rattle.vault.specs.Holdings.{has_coin, IsVault};
 ghost use Rattle.ledger_tables.specs.Ledgers.{HasVault, may_record, recorded_in, held_with, held_by, locks_by, HasRecordRoom, HasEntryRoom};
 
-use crate::parts::{add_entry, make_entry_room, make_record_room, record_next, release_ended};
-use ledger_types::LedgerChange;
+use crate::parts::{
+    add_entry, is_new, make_entry_room, make_record_room, record_next, release_ended,
+};
+use ledger_types::{LedgerChange, SignedTx};
 use net_base::Party;
 use notary_book::Book;
 use std::alloc::{AllocError, Global};
@@ -76,6 +78,18 @@ impl Tables {
         &self.book
     }
 
+    /// Whether a transaction, where there is one, may be recorded next: its id is new, and all that it depends on is recorded. It
+    /// is a condition of `apply`.
+    pub fn may_record(&self, recorded: &Option<SignedTx>) -> bool
+        requires { IfSome recorded.now (λ stx. IsTx stx.tx) }
+        ensures { result ≡ may_record self.now.store.list recorded.now }
+    {
+        match recorded {
+            None => true,
+            Some(stx) => is_new(&self.store, &stx.tx.id()) && self.store.has_dependencies(&stx.tx),
+        }
+    }
+
     /// Makes room for a change in all tables. Want of memory leaves their contents as they were.
     pub fn make_room(&mut self, alloc: Global, change: &LedgerChange) -> Result<(), AllocError>
         ensures store { self.new.store.list ≡ self.old.store.list }
@@ -94,8 +108,8 @@ impl Tables {
     /// vault, its states are locked for its flow, its entry is booked, and where the flow ends its locks are released, those of
     /// this change too. It takes no memory.
     ///
-    /// `Store::has_dependencies` and `Store::get` tell whether a transaction may be recorded, and `Vault::is_coin` which states
-    /// are coins. The states of a change are coins behind its transaction.
+    /// `may_record` tells whether its transaction may be recorded, and `Vault::is_coin` which states are coins: those that it locks
+    /// are coins behind its transaction.
     pub fn apply(&mut self, change: LedgerChange)
         requires transaction { IfSome change.recorded (λ stx. IsTx stx.tx) }
         requires entry { IfSome change.booked IsEntry }
