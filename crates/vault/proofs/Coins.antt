@@ -1,5 +1,5 @@
 -- The coins that a reservation looks at, and those that it names.
-use Rattle.std.proofs.Common.{◌≡◌, ◌≤◌, ◌<◌, ◌+◌, ◌-◌, ◌==◌, ℕ, zero, suc, Bool, true, false, List, [], ◌∷◌, ◌++◌, Option, Some, None, length, take, drop, map, filter, option_map, sum_by, refl, sym, ◌∙◌, ap, arith, subst, if◌then◌else◌}
+use Rattle.std.proofs.Common.{◌≡◌, ◌≤◌, ◌<◌, ◌-◌, ◌==◌, ℕ, zero, suc, false, List, [], ◌∷◌, ◌++◌, Some, None, length, take, drop, map, option_map, sum_by, refl, sym, ◌∙◌, ap, arith, if◌then◌else◌}
 use Rattle.std.proofs.lemmas.Bool.{ne_eqb}
 use Rattle.std.proofs.lemmas.List.{take_all, take_at, take-take, take-append-drop, length-take, length-map}
 use Rattle.std.proofs.lemmas.List.Elements.{filter-append}

@@ -1,15 +1,14 @@
 -- The list of soft locks, as flows lock and release states.
-use Rattle.std.proofs.Common.{◌≡◌, ◌==◌, ℕ, Bool, true, false, cond, not, is_none, is_some, ◌&&◌, ◌||◌, List, [], ◌∷◌, ◌++◌, Option, Some, None, map, filter, find, option_map, refl, sym, ◌∙◌, ap, subst, true≢false, if◌then◌else◌}
-use Rattle.std.specs.List.{list_any, list_all}
-use Rattle.std.proofs.lemmas.Bool.{and_parts, and_from, or_parts, not_from_false, not-true}
+use Rattle.std.proofs.Common.{◌≡◌, ◌==◌, ℕ, Bool, true, false, cond, not, ◌||◌, List, [], ◌∷◌, ◌++◌, Some, None, map, find, option_map, refl, sym, ◌∙◌, ap, subst, true≢false}
+use Rattle.std.proofs.lemmas.Bool.{or_parts, not_from_false, not-true}
 use Rattle.std.proofs.lemmas.List.{map-append}
-use Rattle.std.proofs.lemmas.List.Folds.{list_any-append, list_all-append}
+use Rattle.std.proofs.lemmas.List.Folds.{list_any-append}
 use Rattle.net_base.specs.declared.names.StateRef.{StateRef}
 use Rattle.ledger_types.specs.Names.{ref_eq, has_ref, has_repeat}
 use Rattle.ledger_types.specs.Vaults.{Lock, locked_by}
 use Rattle.vault.specs.Holdings.{is_flow, locks_of, released, are_apart}
 use Rattle.vault.proofs.Names.{ref_exact, ref_same, ref_swapped}
-use Rattle.vault.proofs.Tests.{any_filter, true_or_false}
+use Rattle.vault.proofs.Passing.{true_or_false}
 
 -- what the locks lock
 abbrev pub refs_of : List Lock → List StateRef

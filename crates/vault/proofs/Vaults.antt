@@ -1,7 +1,7 @@
 -- The states of a vault, as transactions are recorded and states are locked and released.
-use Rattle.std.proofs.Common.{◌≡◌, ◌+◌, ◌<◌, ◌==◌, ℕ, zero, suc, Bool, true, false, cond, not, is_none, is_some, ◌&&◌, ◌||◌, List, [], ◌∷◌, ◌++◌, Option, Some, None, length, take, get_or, map, filter, flat_map, refl, sym, ◌∙◌, ap, subst, true≢false, arith, append-nil, append_assoc, if◌then◌else◌}
-use Rattle.std.specs.List.{list_any, list_all}
-use Rattle.std.proofs.lemmas.Bool.{and_parts, and_from, or_parts, or_cases, not-true}
+use Rattle.std.proofs.Common.{◌≡◌, ◌+◌, ◌<◌, ◌==◌, ℕ, zero, suc, Bool, true, false, cond, not, is_none, ◌&&◌, ◌||◌, List, [], ◌∷◌, ◌++◌, Option, Some, None, length, take, get_or, map, filter, refl, sym, ◌∙◌, ap, subst, true≢false, arith, append-nil, append_assoc, if◌then◌else◌}
+use Rattle.std.specs.List.{list_all}
+use Rattle.std.proofs.lemmas.Bool.{and_parts, and_from, or_parts, not-true}
 use Rattle.std.proofs.lemmas.Grind.{flat_map-append}
 use Rattle.std.proofs.lemmas.Simd.{map-map}
 use Rattle.std.proofs.lemmas.List.{map-append, append-nil}
@@ -15,9 +15,9 @@ use Rattle.ledger_types.specs.declared.tx.Tx.{Tx}
 use Rattle.ledger_types.specs.declared.held.Held.{Held}
 use Rattle.ledger_types.specs.Names.{hash_eq, ref_eq, has_ref, has_repeat}
 use Rattle.ledger_types.specs.Vaults.{Lock, is_relevant, locked_by, held, outputs_from, is_consumed, all_outputs, vault_of, is_cash, is_free, is_coin}
-use Rattle.vault.specs.Holdings.{gained, held_after, has_coin, locked_in, is_flow, freed_of, is_noted, has_sources, may_note, locks_of, released, are_apart, IsVault}
-use Rattle.vault.proofs.Names.{hash_exact, hash_swapped, ref_exact}
-use Rattle.vault.proofs.Tests.{filter_twice, filter_changed, map_same, any_filter, all_filter, all_weaker, true_or_false}
+use Rattle.vault.specs.Holdings.{held_after, has_coin, locked_in, is_flow, freed_of, is_noted, has_sources, may_note, locks_of, released, are_apart, IsVault}
+use Rattle.vault.proofs.Names.{hash_swapped, ref_exact}
+use Rattle.vault.proofs.Passing.{filter_twice, filter_changed, map_same, any_filter, all_filter, all_weaker, true_or_false}
 use Rattle.vault.proofs.Locking.{absent_unlocked, locked_more, locked_less, apart_more, apart_less}
 
 -- a transaction with its id

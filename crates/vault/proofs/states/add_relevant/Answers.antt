@@ -1,4 +1,4 @@
-use Rattle.std.proofs.Common.{arith, ap, sym, ◌∙◌, ◌≡◌, ◌++◌, [], List, take, filter}
+use Rattle.std.proofs.Common.{arith, ap, ◌∙◌, ◌++◌, [], List, filter}
 use Rattle.std.proofs.lemmas.List.{take_all}
 use Rattle.ledger_types.specs.declared.state.TxState.{TxState}
 use Rattle.ledger_types.specs.Vaults.{is_relevant, outputs_from}

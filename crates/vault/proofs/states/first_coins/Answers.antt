@@ -1,4 +1,4 @@
-use Rattle.std.proofs.Common.{arith, sym, ◌∙◌}
+use Rattle.std.proofs.Common.{arith}
 use Rattle.vault.proofs.Coins.{coins_full, coins_few}
 use Rattle.vault.proofs.states.first_coins.Goals as goal
 

@@ -1,6 +1,4 @@
 use Rattle.std.proofs.Common.{◌≡◌, ◌++◌, ◌∷◌, [], List, ap, sym, subst, ◌∙◌, filter, not}
-use Rattle.net_base.specs.declared.names.StateRef.{StateRef}
-use Rattle.ledger_types.specs.declared.state.TxState.{TxState}
 use Rattle.ledger_types.specs.declared.held.Held.{Held}
 use Rattle.ledger_types.specs.Names.{has_ref}
 use Rattle.ledger_types.specs.Vaults.{is_relevant, outputs_from}

@@ -1,8 +1,7 @@
 -- Tests over lists.
-use Rattle.std.proofs.Common.{◌≡◌, Bool, true, false, cond, not, ◌&&◌, ◌||◌, List, [], ◌∷◌, ◌++◌, map, filter, refl, sym, ◌∙◌, ap, true≢false}
+use Rattle.std.proofs.Common.{◌≡◌, Bool, true, false, cond, ◌&&◌, ◌||◌, List, [], ◌∷◌, map, filter, refl, sym, ◌∙◌, ap}
 use Rattle.std.specs.List.{list_any, list_all}
-use Rattle.std.proofs.lemmas.Bool.{and_parts, and_from, or_parts, and_left}
-use Rattle.std.proofs.lemmas.List.Folds.{list_any-append, list_all-append, list_all-map}
+use Rattle.std.proofs.lemmas.Bool.{and_parts, and_from, or_parts}
 
 -- a filter of a filter is one filter by both tests
 pub filter_twice : {X : Type 0} (p s q : X → Bool) → ((x : X) → q x ≡ (p x && s x)) → (xs : List X) → filter q xs ≡ filter s (filter p xs)
