@@ -1,6 +1,6 @@
 //! A chain of three transactions recorded in order, and what one change locks, books and releases.
 
-ghost use Rattle.std.specs.Prelude.{◌≤◌, IfOk, length};
+ghost use Rattle.std.specs.Prelude.{◌≡◌, ◌≤◌, ◌∷◌, [], None, IfOk, length};
 ghost use Rattle.ledger_types.specs.Txs.{IsTx};
 ghost use Rattle.ledger_types.specs.Requests.{IsEntry};
 
@@ -94,7 +94,26 @@ fn has_dependencies(alloc: Global, tables: &Tables, bytes: &ByteList) -> Result<
     Ok(tables.store().has_dependencies(&tx))
 }
 
-/// Locks a coin for a flow, which may end with it, and books an entry.
+/// A change that locks a coin for a flow, which may end with it, and books an entry.
+fn locking(
+    alloc: Global,
+    coin: StateRef,
+    flow: u32,
+    ended: bool,
+    booked: Option<Entry>,
+) -> Result<LedgerChange, Fail>
+    ensures { IfOk result (λ change. (change.recorded ≡ None) × (change.locked ≡ coin ∷ []) × (change.booked ≡ booked)) }
+{
+    Ok(LedgerChange {
+        recorded: None,
+        locked: ListOf::from_slice(alloc, &[coin])?,
+        owner: flow,
+        ended,
+        booked,
+    })
+}
+
+/// Locks a coin for a flow, which may end with it.
 fn lock(
     alloc: Global,
     tables: &mut Tables,
@@ -105,16 +124,27 @@ fn lock(
     if !tables.vault().is_coin(&coin) || tables.store().count() > 9 {
         return Ok(false);
     }
+    let change = locking(alloc, coin, flow, ended, None)?;
+    tables.make_room(alloc, &change)?;
+    tables.apply(change);
+    Ok(true)
+}
+
+/// Books an entry.
+fn book(alloc: Global, tables: &mut Tables) -> Result<(), Fail> {
+    if tables.store().count() > 9 {
+        return Ok(());
+    }
     let change = LedgerChange {
         recorded: None,
-        locked: ListOf::from_slice(alloc, &[coin])?,
-        owner: flow,
-        ended,
+        locked: ListOf::new(alloc),
+        owner: 4,
+        ended: false,
         booked: Some(entry(alloc)?),
     };
     tables.make_room(alloc, &change)?;
     tables.apply(change);
-    Ok(true)
+    Ok(())
 }
 
 /// The entry of a request with a bad tear-off.
@@ -161,35 +191,53 @@ fn three_in_a_row(alloc: Global) -> Result<Chain, Fail> {
     })
 }
 
+/// Whether each was recorded: in order, out of order and again.
+fn record_all(alloc: Global, chain: &Chain, tables: &mut Tables) -> Result<[bool; 5], Fail> {
+    Ok([
+        record(alloc, tables, &chain.first)?,
+        record(alloc, tables, &chain.third)?,
+        record(alloc, tables, &chain.second)?,
+        record(alloc, tables, &chain.third)?,
+        record(alloc, tables, &chain.second)?,
+    ])
+}
+
 #[test]
 fn records_a_chain_in_order(rt: HostRuntime) -> Result<(), Fail> {
     let alloc = rt.alloc();
     let chain = three_in_a_row(alloc)?;
     let mut tables = Tables::new(alloc, Party(1));
-    assert!(rt; record(alloc, &mut tables, &chain.first)?);
-    assert_eq!(rt; held(alloc, &tables)?, (1, 100));
     assert!(rt; !has_dependencies(alloc, &tables, &chain.third)?);
-    assert!(rt; !record(alloc, &mut tables, &chain.third)?);
-    assert!(rt; record(alloc, &mut tables, &chain.second)?);
-    assert_eq!(rt; held(alloc, &tables)?, (1, 70));
-    assert!(rt; record(alloc, &mut tables, &chain.third)?);
-    assert!(rt; !record(alloc, &mut tables, &chain.third)?);
+    let answers = record_all(alloc, &chain, &mut tables)?;
+    assert_eq!(rt; answers, [true, false, true, true, false]);
     assert_eq!(rt; held(alloc, &tables)?, (2, 100));
     assert_eq!(rt; tables.store().count(), 3);
     Ok(())
 }
 
+/// Records a transaction, and gives its output.
+fn record_first(alloc: Global, tables: &mut Tables) -> Result<StateRef, Fail> {
+    let first = spell(alloc, 1, 100, &[], &[])?;
+    record(alloc, tables, &first)?;
+    output(alloc, &first)
+}
+
+/// Whether the coin was locked: by a flow that ends with it, by one that doesn't, and by another.
+fn lock_all(alloc: Global, tables: &mut Tables, coin: StateRef) -> Result<[bool; 3], Fail> {
+    Ok([
+        lock(alloc, tables, coin, 4, true)?,
+        lock(alloc, tables, coin, 4, false)?,
+        lock(alloc, tables, coin, 5, false)?,
+    ])
+}
+
 #[test]
 fn releases_behind_the_locks(rt: HostRuntime) -> Result<(), Fail> {
     let alloc = rt.alloc();
-    let first = spell(alloc, 1, 100, &[], &[])?;
-    let coin = output(alloc, &first)?;
     let mut tables = Tables::new(alloc, Party(1));
-    assert!(rt; record(alloc, &mut tables, &first)?);
-    assert!(rt; lock(alloc, &mut tables, coin, 4, true)?);
-    assert!(rt; lock(alloc, &mut tables, coin, 4, false)?);
-    assert!(rt; !lock(alloc, &mut tables, coin, 5, false)?);
-    assert_eq!(rt; held(alloc, &tables)?, (1, 100));
-    assert_eq!(rt; tables.book().entries().len(), 2);
+    let coin = record_first(alloc, &mut tables)?;
+    assert_eq!(rt; lock_all(alloc, &mut tables, coin)?, [true, true, false]);
+    book(alloc, &mut tables)?;
+    assert_eq!(rt; tables.book().entries().len(), 1);
     Ok(())
 }

