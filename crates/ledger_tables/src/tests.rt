@@ -1,11 +1,10 @@
-//! A chain of three transactions recorded in order, and what one change locks, books and releases.
+//! A chain of three transactions recorded in order.
 
-ghost use Rattle.std.specs.Prelude.{◌≡◌, ◌≤◌, ◌∷◌, [], None, IfOk, length};
+ghost use Rattle.std.specs.Prelude.{◌≤◌, IfOk, length};
 ghost use Rattle.ledger_types.specs.Txs.{IsTx};
-ghost use Rattle.ledger_types.specs.Requests.{IsEntry};
 
 use crate::Tables;
-use ledger_types::{Entry, LedgerChange, SignedTx, Tx};
+use ledger_types::{LedgerChange, SignedTx, Tx};
 use net_base::{ByteList, Hash32, ListOf, Party, Reader, StateRef, Token, Writer};
 use std::alloc::{AllocError, Global};
 use std::test::Fail;
@@ -88,82 +87,6 @@ fn record(alloc: Global, tables: &mut Tables, bytes: &ByteList) -> Result<bool, 
     Ok(true)
 }
 
-/// Whether all that the transaction depends on is recorded.
-fn has_dependencies(alloc: Global, tables: &Tables, bytes: &ByteList) -> Result<bool, Fail> {
-    let tx = read(alloc, bytes)?;
-    Ok(tables.store().has_dependencies(&tx))
-}
-
-/// A change that locks a coin for a flow, which may end with it, and books an entry.
-fn locking(
-    alloc: Global,
-    coin: StateRef,
-    flow: u32,
-    ended: bool,
-    booked: Option<Entry>,
-) -> Result<LedgerChange, Fail>
-    ensures { IfOk result (λ change. (change.recorded ≡ None) × (change.locked ≡ coin ∷ []) × (change.booked ≡ booked)) }
-{
-    Ok(LedgerChange {
-        recorded: None,
-        locked: ListOf::from_slice(alloc, &[coin])?,
-        owner: flow,
-        ended,
-        booked,
-    })
-}
-
-/// Locks a coin for a flow, which may end with it.
-fn lock(
-    alloc: Global,
-    tables: &mut Tables,
-    coin: StateRef,
-    flow: u32,
-    ended: bool,
-) -> Result<bool, Fail> {
-    if !tables.vault().is_coin(&coin) || tables.store().count() > 9 {
-        return Ok(false);
-    }
-    let change = locking(alloc, coin, flow, ended, None)?;
-    tables.make_room(alloc, &change)?;
-    tables.apply(change);
-    Ok(true)
-}
-
-/// Books an entry.
-fn book(alloc: Global, tables: &mut Tables) -> Result<(), Fail> {
-    if tables.store().count() > 9 {
-        return Ok(());
-    }
-    let change = LedgerChange {
-        recorded: None,
-        locked: ListOf::new(alloc),
-        owner: 4,
-        ended: false,
-        booked: Some(entry(alloc)?),
-    };
-    tables.make_room(alloc, &change)?;
-    tables.apply(change);
-    Ok(())
-}
-
-/// The entry of a request with a bad tear-off.
-fn entry(alloc: Global) -> Result<Entry, Fail>
-    ensures { IfOk result (λ e. IsEntry e) }
-{
-    let mut out = Writer::new(alloc);
-    out.put_u8(alloc, 1)?;
-    out.put_u32(alloc, 5)?;
-    out.put_hash(alloc, &hash(7))?;
-    out.put_u8(alloc, 0)?;
-    out.put_u8(alloc, 1)?;
-    out.put_hash(alloc, &hash(7))?;
-    out.put_hash(alloc, &hash(8))?;
-    out.put_bytes(alloc, &[0, 42])?;
-    let bytes = out.into_bytes();
-    Ok(Entry::decode(alloc, &mut Reader::new(bytes.as_slice()))?)
-}
-
 /// What the vault holds, and what it is worth.
 fn held(alloc: Global, tables: &Tables) -> Result<(usize, u128), Fail> {
     let list = tables.vault().unconsumed(alloc)?;
@@ -202,42 +125,18 @@ fn record_all(alloc: Global, chain: &Chain, tables: &mut Tables) -> Result<[bool
     ])
 }
 
+/// Whether each was recorded, and what the vault holds then.
+fn record_and_hold(alloc: Global, chain: &Chain) -> Result<([bool; 5], (usize, u128)), Fail> {
+    let mut tables = Tables::new(alloc, Party(1));
+    let answers = record_all(alloc, chain, &mut tables)?;
+    Ok((answers, held(alloc, &tables)?))
+}
+
 #[test]
 fn records_a_chain_in_order(rt: HostRuntime) -> Result<(), Fail> {
-    let alloc = rt.alloc();
-    let chain = three_in_a_row(alloc)?;
-    let mut tables = Tables::new(alloc, Party(1));
-    assert!(rt; !has_dependencies(alloc, &tables, &chain.third)?);
-    let answers = record_all(alloc, &chain, &mut tables)?;
+    let chain = three_in_a_row(rt.alloc())?;
+    let (answers, held) = record_and_hold(rt.alloc(), &chain)?;
     assert_eq!(rt; answers, [true, false, true, true, false]);
-    assert_eq!(rt; held(alloc, &tables)?, (2, 100));
-    assert_eq!(rt; tables.store().count(), 3);
-    Ok(())
-}
-
-/// Records a transaction, and gives its output.
-fn record_first(alloc: Global, tables: &mut Tables) -> Result<StateRef, Fail> {
-    let first = spell(alloc, 1, 100, &[], &[])?;
-    record(alloc, tables, &first)?;
-    output(alloc, &first)
-}
-
-/// Whether the coin was locked: by a flow that ends with it, by one that doesn't, and by another.
-fn lock_all(alloc: Global, tables: &mut Tables, coin: StateRef) -> Result<[bool; 3], Fail> {
-    Ok([
-        lock(alloc, tables, coin, 4, true)?,
-        lock(alloc, tables, coin, 4, false)?,
-        lock(alloc, tables, coin, 5, false)?,
-    ])
-}
-
-#[test]
-fn releases_behind_the_locks(rt: HostRuntime) -> Result<(), Fail> {
-    let alloc = rt.alloc();
-    let mut tables = Tables::new(alloc, Party(1));
-    let coin = record_first(alloc, &mut tables)?;
-    assert_eq!(rt; lock_all(alloc, &mut tables, coin)?, [true, true, false]);
-    book(alloc, &mut tables)?;
-    assert_eq!(rt; tables.book().entries().len(), 1);
+    assert_eq!(rt; held, (2, 100));
     Ok(())
 }
