@@ -5,7 +5,7 @@ use Rattle.flow_machine.specs.declared.flows.FlowState.{FlowState}
 use Rattle.checkpoints.specs.Tables.{is_live, where_true, live_from, live_numbers, IsNumbered, AreNumberedFrom, with_flow, IsRising}
 
 -- whether the flow that stands there is live
-pub live_at : {F : Type 0} → ℕ → List (FlowState F) → Bool
+abbrev pub live_at : {F : Type 0} → ℕ → List (FlowState F) → Bool
 live_at k [] = false
 live_at zero (flow ∷ flows) = is_live flow
 live_at (suc k) (flow ∷ flows) = live_at k flows
@@ -50,7 +50,7 @@ rising_where false n xs least up = up
 -- the numbers of the live flows rise
 pub live_rises : {F : Type 0} (n : ℕ) (flows : List (FlowState F)) → IsRising (live_from n flows)
 live_rises n [] i j le lt = absurd (omega (arith, lt))
-live_rises n (flow ∷ flows) = rising_where (is_live flow) n (live_from (suc n) flows) (from_least (suc n) n flows (omega arith)) (live_rises (suc n) flows)
+live_rises n (flow ∷ flows) i j le lt = rising_where (is_live flow) n (live_from (suc n) flows) (from_least (suc n) n flows (omega arith)) (live_rises (suc n) flows) i j le lt
 
 -- the numbers of the live flows in three parts: below a number, there, and above
 pub three_parts : {F : Type 0} (n k top : ℕ) (flows : List (FlowState F)) → n + k ≡ top → k ≤ length flows
@@ -77,3 +77,11 @@ numbered_with n zero top state [] e all own le = let same : top ≡ n = omega (a
 numbered_with n zero top state (flow ∷ flows) e all own le = let same : top ≡ n = omega (arith, e) in (subst (λ (m : ℕ). IsNumbered m state) same own, all.1)
 numbered_with n (suc k) top state [] e all own le = absurd (omega (arith, le))
 numbered_with n (suc k) top state (flow ∷ flows) e all own le = (all.0, numbered_with (suc n) k top state flows (omega (arith, e)) all.1 own (omega (arith, le)))
+
+-- the flow that stands at a place has its number
+pub numbered_at : {F : Type 0} (n k top : ℕ) (state other : FlowState F) (flows : List (FlowState F)) → n + k ≡ top → AreNumberedFrom n flows → k < length flows → state ≡ get_or flows k other → IsNumbered top state
+numbered_at n k top state other [] e all lt is = absurd (omega (arith, lt))
+numbered_at {F} n zero top state other (flow ∷ flows) e all lt is =
+    let same : n ≡ top = omega (arith, e) in
+    subst (λ (m : ℕ). IsNumbered m state) same (subst (λ (f : FlowState F). IsNumbered n f) (sym is) all.0)
+numbered_at n (suc k) top state other (flow ∷ flows) e all lt is = numbered_at (suc n) k top state other flows (omega (arith, e)) all.1 (omega (arith, lt)) is

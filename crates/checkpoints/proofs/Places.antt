@@ -21,7 +21,7 @@ in_upper x k m lower upper all e lt = subst (λ (y : ℕ). x < y) (sym (behind k
 
 -- what a search tells of the place
 abbrev pub Searched : ℕ → List ℕ → Result ℕ ℕ → Type 0
-Searched x xs r = MatchResult r (λ i. (i < length xs) × (get_or xs i 0 ≡ x)) (λ i. (i ≤ length xs) × (((k : ℕ) → k < i → get_or xs k 0 < x) × ((k : ℕ) → i ≤ k → k < length xs → x < get_or xs k 0)))
+Searched x xs r = MatchResult r (λ i. (i < length xs) × (get_or xs i 0 ≡ x)) (λ i. (i ≤ length xs) × ((k : ℕ) → k < i → get_or xs k 0 < x) × ((k : ℕ) → i ≤ k → k < length xs → x < get_or xs k 0))
 
 -- whether the number is there or not, and where
 abbrev pub spot : Bool → ℕ → Result ℕ ℕ
@@ -84,6 +84,6 @@ absent_found lower upper x i lt is all_lower all_upper =
 -- the place that a search tells is the one between the numbers below and above
 pub placed : (lower upper : List ℕ) (there : Bool) (x : ℕ) (r : Result ℕ ℕ) → Searched x (lower ++ (where_true there x ++ upper)) r → AllByRecursion (λ n. n < x) lower → AllByRecursion (λ n. x < n) upper → r ≡ spot there (length lower)
 placed lower upper true x (Ok i) h all_lower all_upper = ap (λ (j : ℕ). Ok j) (there_found lower upper x i h.0 h.1 all_lower all_upper)
-placed lower upper true x (Err i) h all_lower all_upper = absurd (there_missed lower upper x i h.1.0 h.1.1)
+placed lower upper true x (Err i) h all_lower all_upper = absurd (there_missed lower upper x i h.1 h.2)
 placed lower upper false x (Ok i) h all_lower all_upper = absurd (absent_found lower upper x i h.0 h.1 all_lower all_upper)
-placed lower upper false x (Err i) h all_lower all_upper = ap (λ (j : ℕ). Err j) (absent_missed lower upper x i h.0 h.1.0 h.1.1 all_lower all_upper)
+placed lower upper false x (Err i) h all_lower all_upper = ap (λ (j : ℕ). Err j) (absent_missed lower upper x i h.0 h.1 h.2 all_lower all_upper)

@@ -1,6 +1,6 @@
 //! The table of a node's flows.
 
-ghost use Rattle.std.specs.Prelude.{◌≡◌, ◌+◌, ◌++◌, ◌<◌, ◌≤◌, ℕ, List, [], Bool, length, option_map, slice_get, vec_len, vec_capacity, if◌then◌else◌, Result, Ok, Err, OnOk, IfSome, min};
+ghost use Rattle.std.specs.Prelude.{◌≡◌, ◌+◌, ◌++◌, ◌<◌, ◌≤◌, ℕ, List, [], Bool, length, option_map, slice_get, vec_len, vec_capacity, if◌then◌else◌, Result, Ok, Err, OnOk, IfSome, MatchResult, min};
 ghost use Rattle.std.specs.List.{AllByRecursion};
 ghost use Rattle.checkpoints.specs.Tables.{is_live, live_numbers, where_true, IsNumbered, with_flow, IsRising};
 ghost use Rattle.checkpoints.specs.Views.{state_of};
@@ -68,19 +68,7 @@ impl<F: Drop> Flows<F> {
         ensures flow { option_map state_of result ≡ slice_get self.now.flows flow }
         ensures own { IfSome result (λ view. IsNumbered flow (state_of view)) }
     {
-        Some(match self.states.get(flow as usize)? {
-            FlowState::Live(at) => FlowView::Live(at),
-            FlowState::Ended { step, class, value } => FlowView::Ended {
-                step: *step,
-                class: *class,
-                value,
-            },
-            FlowState::Failed { step, class, code } => FlowView::Failed {
-                step: *step,
-                class: *class,
-                code: *code,
-            },
-        })
+        Some(lent(self.states.get(flow as usize)?))
     }
 
     /// The numbers of the live flows, ascending.
@@ -125,10 +113,30 @@ impl<F: Drop> Flows<F> {
     }
 }
 
+/// The flow, lent.
+fn lent<F>(state: &FlowState<F>) -> FlowView<'_, F>
+    ensures { state_of result ≡ state.now }
+{
+    match state {
+        FlowState::Live(at) => FlowView::Live(at),
+        FlowState::Ended { step, class, value } => FlowView::Ended {
+            step: *step,
+            class: *class,
+            value,
+        },
+        FlowState::Failed { step, class, code } => FlowView::Failed {
+            step: *step,
+            class: *class,
+            code: *code,
+        },
+    }
+}
+
 /// Where the number stands in the numbers below it and those above it, or where it belongs.
 fn place_of(live: &[u32], flow: u32) -> Result<usize, usize>
     requires { IsRising live.now }
-    ensures { (lower upper : List ℕ) (there : Bool) → live.now ≡ lower ++ (where_true there flow ++ upper) → AllByRecursion (λ n. n < flow) lower → AllByRecursion (λ n. flow < n) upper → result ≡ (if there then Ok (length lower) else Err (length lower)) }
+    ensures range { MatchResult result (λ at. at < length live.now) (λ at. at ≤ length live.now) }
+    ensures place { (lower upper : List ℕ) (there : Bool) → live.now ≡ lower ++ (where_true there flow ++ upper) → AllByRecursion (λ n. n < flow) lower → AllByRecursion (λ n. flow < n) upper → result ≡ (if there then Ok (length lower) else Err (length lower)) }
 {
     live.binary_search(&flow)
 }
