@@ -85,3 +85,11 @@ numbered_at {F} n zero top state other (flow ∷ flows) e all lt is =
     let same : n ≡ top = omega (arith, e) in
     subst (λ (m : ℕ). IsNumbered m state) same (subst (λ (f : FlowState F). IsNumbered n f) (sym is) all.0)
 numbered_at n (suc k) top state other (flow ∷ flows) e all lt is = numbered_at (suc n) k top state other flows (omega (arith, e)) all.1 (omega (arith, lt)) is
+
+-- the live numbers, once one is marked as its new flow says
+pub marked : {F : Type 0} (k : ℕ) (state : FlowState F) (flows : List (FlowState F)) (old new : List ℕ) → k ≤ length flows → old ≡ live_numbers flows
+    → ((lower upper : List ℕ) (there : Bool) → old ≡ lower ++ (where_true there k ++ upper) → AllByRecursion (λ n. n < k) lower → AllByRecursion (λ n. k < n) upper → new ≡ lower ++ (where_true (is_live state) k ++ upper))
+    → new ≡ live_numbers (with_flow k state flows)
+marked k state flows old new le is mark =
+    mark (live_from 0 (take k flows)) (live_from (suc k) (drop (suc k) flows)) (live_at k flows) (is ∙ three_parts 0 k k flows (omega arith) le) (below 0 k k flows (omega arith)) (above (suc k) k (drop (suc k) flows) (omega arith))
+    ∙ sym (three_parts_with 0 k k state flows (omega arith) le)

@@ -1,6 +1,6 @@
 //! The table of a node's flows.
 
-ghost use Rattle.std.specs.Prelude.{◌≡◌, ◌+◌, ◌++◌, ◌<◌, ◌≤◌, ℕ, List, [], Bool, length, option_map, slice_get, vec_len, vec_capacity, if◌then◌else◌, Result, Ok, Err, OnOk, IfSome, MatchResult, min};
+ghost use Rattle.std.specs.Prelude.{◌≡◌, ◌+◌, ◌++◌, ◌∷◌, ◌<◌, ◌≤◌, ℕ, suc, List, [], Bool, take, drop, length, option_map, slice_get, vec_len, vec_capacity, if◌then◌else◌, Result, Ok, Err, OnOk, IfSome, MatchResult, min};
 ghost use Rattle.std.specs.List.{AllByRecursion};
 ghost use Rattle.checkpoints.specs.Tables.{is_live, live_numbers, where_true, IsNumbered, with_flow, IsRising};
 ghost use Rattle.checkpoints.specs.Views.{state_of};
@@ -103,13 +103,35 @@ impl<F: Drop> Flows<F> {
         ensures flows { self.new.flows ≡ with_flow flow state self.old.flows }
         ensures room { self.old.room ≤ self.new.room + 1 }
     {
-        mark(&mut self.live, flow, matches!(&state, FlowState::Live(_)));
-        let place = flow as usize;
-        if place < self.states.len() {
-            self.states[place] = state;
-        } else {
-            self.states.push(state).unwrap();
-        }
+        let live = goes_on(&state);
+        mark(&mut self.live, flow, live);
+        put_at(&mut self.states, flow as usize, state);
+    }
+}
+
+/// Whether the flow is live.
+fn goes_on<F>(state: &FlowState<F>) -> bool
+    ensures { result ≡ is_live state.now }
+{
+    match state {
+        FlowState::Live(_) => true,
+        FlowState::Ended { .. } | FlowState::Failed { .. } => false,
+    }
+}
+
+/// The item in place of the one that stands there, or at the end.
+#[tactic(auto, using(crate::proofs::Items::set_parts, crate::proofs::Items::push_parts))]
+fn put_at<T: Drop>(items: &mut Vec<T>, place: usize, item: T)
+    requires room { vec_len items.old < vec_capacity items.old }
+    requires place { place ≤ length items.old.items }
+    ensures items { items.new.items ≡ take place items.old.items ++ item ∷ drop (suc place) items.old.items }
+    ensures capacity { vec_capacity items.old ≤ vec_capacity items.new }
+    ensures len { vec_len items.new ≤ vec_len items.old + 1 }
+{
+    if place < items.len() {
+        items[place] = item;
+    } else {
+        items.push(item).unwrap();
     }
 }
 
