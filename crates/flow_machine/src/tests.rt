@@ -1,6 +1,6 @@
 use super::*;
-use ledger_types::Value;
-use net_base::{ByteList, Moment, Party};
+use ledger_types::{Value, Verdict};
+use net_base::{ByteList, DecodeFault, Key, Moment, Party, Writer, decode_whole, encode};
 use std::alloc::{AllocError, Global};
 use std::test::Fail;
 
@@ -75,4 +75,86 @@ fn the_counting_flow_keeps_the_laws() {
     tags_are_kept::<Counter>();
     begins_bare::<Counter>();
     args_are_short::<Counter>();
+}
+
+/// A frame that returns 0, as it stands in a checkpoint: 10 bytes of machine 1, place 2, with 0 sleeps left of 0.
+fn returning() -> [u8; 12] {
+    [0, 10, 1, 2, 0, 0, 0, 0, 0, 0, 0, 0]
+}
+
+fn sleeping(left: u32, all: u32) -> Counter {
+    Counter {
+        phase: Phase::Sleeping,
+        left,
+        all,
+    }
+}
+
+#[test]
+fn a_frame_in_bytes(rt: HostRuntime) -> Result<(), Fail> {
+    let alloc = rt.alloc();
+    let frame = Counter {
+        phase: Phase::Returning,
+        left: 0,
+        all: 0,
+    };
+    let mut out = Writer::new(alloc);
+    encode(alloc, &frame, &mut out)?;
+    let bytes = out.into_bytes();
+    assert!(rt; bytes.as_slice() == returning().as_slice());
+    let read = decode_whole::<Counter>(alloc, bytes.as_slice());
+    assert!(rt; matches!(&read, Ok(same) if *same == frame));
+    Ok(())
+}
+
+#[test]
+fn bytes_that_are_no_frame(rt: HostRuntime) {
+    let alloc = rt.alloc();
+    for (at, byte) in [(1usize, 11u8), (2, 2), (3, 3)] {
+        let mut bytes = returning();
+        bytes[at] = byte;
+        let read = decode_whole::<Counter>(alloc, &bytes);
+        assert!(rt; matches!(&read, Err(DecodeFault::Malformed { at: place }) if *place == at));
+    }
+}
+
+#[test]
+fn no_class_answers(rt: HostRuntime) {
+    let key = Key {
+        initiator: Party(1),
+        number: 0,
+    };
+    let begun = Counter::initiated(rt.alloc(), 2, &key, &here());
+    assert!(rt; matches!(&begun, Err(MakeFault::UnknownClass)));
+}
+
+#[test]
+fn codes_of_unnamed_results(rt: HostRuntime) {
+    let refused = Resumed::Verdict {
+        verdict: Verdict::Refused {
+            contract: 1,
+            clause: 4,
+        },
+    };
+    assert_eq!(rt; refused.unnamed_code(), 32);
+    assert_eq!(rt; Resumed::Refused { code: 49 }.unnamed_code(), 49);
+    assert_eq!(rt; Resumed::Started.unnamed_code(), 54);
+}
+
+#[test]
+fn a_stack_of_two(rt: HostRuntime) -> Result<(), Fail> {
+    let alloc = rt.alloc();
+    let mut stack = Stack::new(alloc, sleeping(1, 2));
+    stack.push(sleeping(3, 4))?;
+    assert_eq!(rt; stack.depth(), 2);
+    stack.replace_top(sleeping(2, 4));
+    assert!(rt; *stack.top() == sleeping(2, 4));
+    assert!(rt; stack.below() == [sleeping(1, 2)].as_slice());
+    let same = stack.copy(alloc)?;
+    assert!(rt; *same.top() == sleeping(2, 4));
+    let popped = stack.pop();
+    assert!(rt; popped == Some(sleeping(2, 4)));
+    assert!(rt; stack.pop() == None);
+    assert!(rt; *stack.top() == sleeping(1, 2));
+    Ok(())
 }
