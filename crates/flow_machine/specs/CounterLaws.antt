@@ -1,77 +1,232 @@
 -- The laws of the counting flow, proved.
-use Rattle.std.specs.Prelude.{◌≡◌, ℕ, zero, suc, ◌+◌, ◌-◌, ◌≤◌, ◌==◌, ◌&&◌, nat_le, nat_lt, List, [], ◌∷◌, length, Bool, true, false, refl, if◌then◌else◌, Some, None, Option, Result, Ok, Err, IfOk, codes, ◌^◌}
-use Rattle.std.proofs.Common.{arith}
-use Rattle.std.proofs.lemmas.Bool.{eqb-true, and_parts}
+use Rattle.std.specs.Prelude.{◌≡◌, ℕ, zero, suc, ◌+◌, ◌-◌, ◌<◌, ◌≤◌, ◌^◌, ◌==◌, ◌&&◌, nat_le, nat_lt, List, [], ◌∷◌, ◌++◌, length, Bool, true, false, refl, if◌then◌else◌, Some, None, Option, Result, Ok, Err, IfOk, codes}
+use Rattle.std.specs.List.{list_all}
+use Rattle.std.proofs.Common.{arith, ap, subst}
+use Rattle.std.proofs.lemmas.Bool.{eqb-true, and_parts, leb-true}
 use Rattle.std.specs.Int.{from_be_bytes, to_be_bytes, w32}
 use Rattle.std.specs.Str.{bytes_eq}
 use Rattle.net_base.specs.Numbers.{number_of}
-use Rattle.flow_machine.specs.Flows.{WeightFalls, OverIsExact, OverFails, ArgsAreShort, IsOverBy, IsFail, cost}
+use Rattle.net_base.specs.Reading.{number}
+use Rattle.net_base.specs.Laws.{Laws}
+use Rattle.net_base.specs.Combining.{mapped_laws, pair_laws}
+use Rattle.net_base.specs.Fields.{below_laws, u32_laws}
+use Rattle.net_base.specs.Kinds.{between_laws}
+use Rattle.flow_machine.specs.Flows.{Falls, LoadHolds, is_fair, OversHold, is_fail, OverFails, ArgsAreShort, SpellsContent, AreWithin, KeepsLimits, cost}
+use Rattle.flow_machine.specs.Limits.{IsResumed}
+use Rattle.flow_machine.specs.Tags.{KeepsTags, BeginsBare, AreBare, act_tags}
+use Rattle.flow_machine.specs.declared.acts.Act.{Act}
 use Rattle.flow_machine.specs.declared.acts.Place.{Place}
 use Rattle.flow_machine.specs.declared.acts.Resumed.{Resumed}
 use Rattle.flow_machine.specs.declared.acts.Resumed.TheVariants as resumed
+use Rattle.ledger_types.specs.declared.verdict.Verdict.{Verdict}
+use Rattle.ledger_types.specs.declared.verdict.Verdict.TheVariants as verdict
 use Rattle.flow_machine.specs.declared.flow_set.WordFault.TheVariants as word
 use Rattle.flow_machine.specs.declared.flow_set.MakeFault.TheVariants as make
 use Rattle.flow_machine.specs.declared.counter.Counter.{Counter}
 use Rattle.flow_machine.specs.declared.counter.Phase.{Phase}
 use Rattle.flow_machine.specs.declared.counter.Phase.TheVariants.{Sleeping, Returning, Failing}
-use Rattle.flow_machine.specs.Counter.{machine, worded, count_words, spelt_count, made, made_of, next, next_at, with_left, weight, weight_at, over, over_at}
+use Rattle.flow_machine.specs.Unnamed.{unnamed_code, verdict_code}
+use Rattle.flow_machine.specs.Counter.{machine, worded, count_words, spelt_count, made, made_of, next, next_at, woken, with_left, weight, weight_at, over, over_at, place_of, phase_of, counter, IsCounter, counter_of, counter_at}
+
+-- ---- bytes
+
+-- a place is told by its number
+of_place : (n : ℕ) → n < 3 → place_of (phase_of n) ≡ n
+of_place zero h = refl
+of_place (suc zero) h = refl
+of_place (suc (suc zero)) h = refl
+of_place (suc (suc (suc n))) h = absurd (omega (arith, h))
+
+-- a phase is told by its place
+to_phase : (phase : Phase) → phase_of (place_of phase) ≡ phase
+to_phase Failing = refl
+to_phase Sleeping = refl
+to_phase Returning = refl
+
+-- there are three places
+place_below : (phase : Phase) → place_of phase < 3
+place_below Failing = omega arith
+place_below Sleeping = omega arith
+place_below Returning = omega arith
+
+pub counter_laws : Laws IsCounter counter counter_at
+unfolding counter_at number
+counter_laws =
+    mapped_laws counter_of (pair_laws (between_laws 0 1 (omega arith)) (pair_laws (between_laws 10 11 (omega arith)) (pair_laws (between_laws 1 2 (omega arith)) (pair_laws (below_laws 3 (omega arith)) (pair_laws u32_laws u32_laws))))) (record {
+      keeps = λ p h.
+          let high : 0 ≡ p.0 = omega (arith, h.0) in
+          let low : 10 ≡ p.1.0 = omega (arith, h.1.0) in
+          let first : 1 ≡ p.1.1.0 = omega (arith, h.1.1.0) in
+          let place : place_of (phase_of p.1.1.1.0) ≡ p.1.1.1.0 = of_place p.1.1.1.0 h.1.1.1.0 in
+          (h.1.1.1.1, λ i. high i ∷ low i ∷ first i ∷ place i ∷ (number w32 p.1.1.1.1.0 ++ number w32 p.1.1.1.1.1));
+      from = λ c h.
+          ((0, (10, (1, (place_of c.phase, (c.left, c.all))))), (((omega arith, omega arith), ((omega arith, omega arith), ((omega arith, omega arith), (place_below c.phase, h)))), ap (λ (phase : Phase). record { phase = phase; left = c.left; all = c.all }) (to_phase c.phase)));
+    })
+
+pub spells_content : SpellsContent IsCounter counter machine
+unfolding number
+spells_content = record { framed = λ c h. refl; short = λ c h. omega arith }
+
+-- ---- what begins, by its arguments
+
+-- what was given under a test was given because the test holds
+given : {X E : Type 0} (test : Bool) (r : Result X E) (fault : E) (x : X) → (if test then r else Err fault) ≡ Ok x → (test ≡ true) × (r ≡ Ok x)
+given true r fault x e = (refl, e)
+given false r fault x e = absurd cc
+
+-- what was given is the one value that the test lets through
+given_one : {X E : Type 0} (test : Bool) (x y : X) (fault : E) → (if test then Ok x else Err fault) ≡ Ok y → (test ≡ true) × (x ≡ y)
+given_one true x y fault e = (refl, cc)
+given_one false x y fault e = absurd cc
+
+-- a flow that is made begins with some count of sleeps, at most 65,534
+made_begins : (class : ℕ) (args : List ℕ) (at : Place) (begins : Counter × Act Counter) → made class args at ≡ Ok begins → (n : ℕ) × ((n ≤ 65534) × (with_left n n ≡ begins))
+unfolding made
+made_begins class args at begins e =
+    let known = given (class == 1) (made_of args) make.UnknownClass begins e in
+    let n = from_be_bytes w32 args in
+    let four = given_one (length args == 4 && nat_le n 65534) (with_left n n) begins make.BadArgs known.1 in
+    (n, (leb-true n 65534 (and_parts (length args == 4) (nat_le n 65534) four.0).1, four.1))
+
+-- no flow answers
+begun_none : (begins : Counter × Act Counter) → None ≡ Some begins → ⊥
+begun_none begins e = absurd cc
+
+-- ---- limits
+
+left_within : (left all : ℕ) → left < 2 ^ 32 → all < 2 ^ 32 → AreWithin IsCounter (with_left left all)
+unfolding with_left
+left_within zero all hl ha = ((hl, ha), omega (arith, ha))
+left_within (suc n) all hl ha = ((hl, ha), omega arith)
+
+verdict_small : (v : Verdict) → verdict_code v < 2 ^ 16
+verdict_small verdict.Accepted = omega arith
+verdict_small (verdict.Broken rule) = omega arith
+verdict_small (verdict.Refused contract clause) = omega arith
+verdict_small (verdict.NoContract id) = omega arith
+
+code_small : (with : Resumed) → IsResumed with → unnamed_code with < 2 ^ 16
+code_small (resumed.Refused code) h = h
+code_small (resumed.Verdict v) h = verdict_small v
+code_small other h = omega arith
+
+woken_within : (with : Resumed) (c : Counter) → IsCounter c → IsResumed with → AreWithin IsCounter (woken with c)
+woken_within resumed.Lapsed c h small = left_within (c.left - 1) c.all (omega (arith, h.0)) h.1
+woken_within other c h small = (h, code_small other small)
+
+next_within : (phase : Phase) (with : Resumed) (c : Counter) → IsCounter c → IsResumed with → AreWithin IsCounter (next_at phase with c)
+next_within Sleeping with c h small = woken_within with c h small
+next_within Returning with c h small = (h, code_small with small)
+next_within Failing with c h small = (h, code_small with small)
+
+made_within : (class : ℕ) (args : List ℕ) (at : Place) (begins : Counter × Act Counter) → made class args at ≡ Ok begins → AreWithin IsCounter begins
+made_within class args at begins e =
+    let m = made_begins class args at begins e in
+    subst (AreWithin IsCounter) m.1.1 (left_within m.0 m.0 (omega (arith, m.1.0)) (omega (arith, m.1.0)))
+
+pub keeps_limits : KeepsLimits IsCounter machine
+unfolding next
+keeps_limits = record {
+  made = λ class args at begins bytes place e. made_within class args at begins e;
+  begun = λ class key at begins is place e. absurd (begun_none begins e);
+  next = λ c with at h small place. next_within c.phase with c h small;
+}
+
+-- ---- the weight
 
 -- one sleep fewer
-slept : (left all : ℕ) → weight (with_left (left - 1) all).0 + cost weight (with_left (left - 1) all).1 ≤ left + 2
+slept : (left all : ℕ) → weight (with_left (left - 1) all).0 + cost machine (with_left (left - 1) all).1 ≤ left + 2
 unfolding weight with_left
 slept zero all = omega arith
 slept (suc zero) all = omega arith
 slept (suc (suc n)) all = let e : suc (suc n) - 1 ≡ suc n = omega arith in rw e (omega arith)
 
-falls_at : (phase : Phase) (with : Resumed) (c : Counter) → over_at phase ≡ false → weight (next_at phase with c).0 + cost weight (next_at phase with c).1 ≤ weight_at phase c.left
+woken_falls : (with : Resumed) (c : Counter) → weight (woken with c).0 + cost machine (woken with c).1 ≤ c.left + 2
 unfolding weight
-falls_at Sleeping resumed.Lapsed c h = slept c.left c.all
-falls_at Sleeping resumed.Started c h = omega arith
-falls_at Sleeping (resumed.Returned value) c h = omega arith
-falls_at Returning with c h = cc
-falls_at Failing with c h = cc
+woken_falls resumed.Lapsed c = slept c.left c.all
+woken_falls other c = omega arith
 
-pub weight_falls : WeightFalls machine
+falls_at : (phase : Phase) (with : Resumed) (c : Counter) → over_at phase ≡ false → weight (next_at phase with c).0 + cost machine (next_at phase with c).1 ≤ weight_at phase c.left
+unfolding weight
+falls_at Sleeping with c h = woken_falls with c
+falls_at Returning with c h = absurd cc
+falls_at Failing with c h = absurd cc
+
+pub falls : Falls machine
 unfolding weight next
-weight_falls c with at h = falls_at c.phase with c h
+falls c with at h = falls_at c.phase with c h
 
-left_over : (left all : ℕ) → IsOverBy over (with_left left all)
+pub load_holds : LoadHolds machine
+load_holds class key at begins e = absurd (begun_none begins e)
+
+-- ---- frames that are over
+
+left_fair : (left all : ℕ) → is_fair machine (with_left left all).0 (with_left left all).1 ≡ true
 unfolding with_left
-left_over zero all = refl
-left_over (suc n) all = refl
+left_fair zero all = refl
+left_fair (suc n) all = refl
 
-next_over : (phase : Phase) (with : Resumed) (c : Counter) → IsOverBy over (next_at phase with c)
-next_over Sleeping resumed.Lapsed c = left_over (c.left - 1) c.all
-next_over Sleeping resumed.Started c = refl
-next_over Sleeping (resumed.Returned value) c = refl
-next_over Returning with c = refl
-next_over Failing with c = refl
+woken_fair : (with : Resumed) (c : Counter) → is_fair machine (woken with c).0 (woken with c).1 ≡ true
+woken_fair resumed.Lapsed c = left_fair (c.left - 1) c.all
+woken_fair other c = refl
+
+next_fair : (phase : Phase) (with : Resumed) (c : Counter) → is_fair machine (next_at phase with c).0 (next_at phase with c).1 ≡ true
+next_fair Sleeping with c = woken_fair with c
+next_fair Returning with c = refl
+next_fair Failing with c = refl
+
+made_fair : (class : ℕ) (args : List ℕ) (at : Place) (begins : Counter × Act Counter) → made class args at ≡ Ok begins → is_fair machine begins.0 begins.1 ≡ true
+made_fair class args at begins e =
+    let m = made_begins class args at begins e in
+    subst (λ (b : Counter × Act Counter). is_fair machine b.0 b.1 ≡ true) m.1.1 (left_fair m.0 m.0)
+
+pub overs_hold : OversHold machine
+unfolding next
+overs_hold = record { made = made_fair; begun = λ class key at begins e. absurd (begun_none begins e); next = λ c with at. next_fair c.phase with c }
+
+fails_at : (phase : Phase) (with : Resumed) (c : Counter) → over_at phase ≡ true → (is_fail (next_at phase with c).1 ≡ true) × (over (next_at phase with c).0 ≡ true)
+fails_at Sleeping with c h = absurd cc
+fails_at Returning with c h = (refl, refl)
+fails_at Failing with c h = (refl, refl)
+
+pub over_fails : OverFails machine
+unfolding next
+over_fails c with at h = fails_at c.phase with c h
+
+-- ---- tags
+
+left_bare : (left all : ℕ) → act_tags machine.tags (with_left left all).1 ≡ []
+unfolding with_left
+left_bare zero all = refl
+left_bare (suc n) all = refl
+
+woken_bare : (with : Resumed) (c : Counter) → act_tags machine.tags (woken with c).1 ≡ []
+woken_bare resumed.Lapsed c = left_bare (c.left - 1) c.all
+woken_bare other c = refl
+
+next_bare : (phase : Phase) (with : Resumed) (c : Counter) → act_tags machine.tags (next_at phase with c).1 ≡ []
+next_bare Sleeping with c = woken_bare with c
+next_bare Returning with c = refl
+next_bare Failing with c = refl
+
+made_bare : (class : ℕ) (args : List ℕ) (at : Place) (begins : Counter × Act Counter) → made class args at ≡ Ok begins → AreBare machine begins
+made_bare class args at begins e =
+    let m = made_begins class args at begins e in
+    subst (AreBare machine) m.1.1 (refl, left_bare m.0 m.0)
+
+pub keeps_tags : KeepsTags machine
+unfolding next
+keeps_tags test c with at old given = (refl, ap (list_all test) (next_bare c.phase with c))
+
+pub begins_bare : BeginsBare machine
+begins_bare = record { made = made_bare; begun = λ class key at begins e. absurd (begun_none begins e) }
+
+-- ---- arguments
 
 -- what holds of a result holds where it is given only under a test
 given_ok : {X E : Type 0} (P : X → Type 0) (test : Bool) (r : Result X E) (fault : E) → (test ≡ true → IfOk r P) → IfOk (if test then r else Err fault) P
 given_ok P true r fault h = h refl
 given_ok P false r fault h = tt
-
-begun_over : (class : ℕ) (args : List ℕ) (at : Place) → IfOk (made class args at) (IsOverBy over)
-unfolding made
-begun_over class args at =
-    given_ok (IsOverBy over) (class == 1) (made_of args) make.UnknownClass (λ _. given_ok (IsOverBy over) (length args == 4 && nat_le (from_be_bytes w32 args) 65534) (Ok (with_left (from_be_bytes w32 args) (from_be_bytes w32 args))) make.BadArgs (λ _. left_over _ _))
-
-next_is_over : (c : Counter) (with : Resumed) (at : Place) → IsOverBy over (next c with at)
-unfolding next
-next_is_over c with at = next_over c.phase with c
-
-pub over_is_exact : OverIsExact machine
-over_is_exact = record { begins = begun_over; goes_on = next_is_over }
-
-fails_at : (phase : Phase) (with : Resumed) (c : Counter) → over_at phase ≡ true → IsFail (next_at phase with c).1 × (over (next_at phase with c).0 ≡ true)
-fails_at Sleeping with c h = cc
-fails_at Returning with c h = (tt, refl)
-fails_at Failing with c h = (tt, refl)
-
-pub over_fails : OverFails machine
-unfolding next
-over_fails c with at h = fails_at c.phase with c h
 
 spelt_short : (count : Option ℕ) → IfOk (spelt_count count) (λ words. length words.1 ≤ 65535)
 spelt_short None = tt

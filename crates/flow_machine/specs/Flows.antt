@@ -1,5 +1,9 @@
--- What a flow set means: how its flows begin and go on, as functions of plain data.
-use Rattle.std.specs.Prelude.{◌≡◌, ℕ, ◌+◌, ◌≤◌, Bool, true, false, List, length, Result, Ok, Err, IfOk, ⊤}
+-- How flows begin and go on: what the calls of a flow set answer, and the laws of every flow set.
+use Rattle.std.specs.Prelude.{◌≡◌, ℕ, ◌+◌, ◌≤◌, ◌&&◌, not, Bool, true, false, List, length, Option, Some, None, Result, Ok, Err, IfOk, ⊤}
+use Rattle.net_base.specs.declared.names.Key.{Key}
+use Rattle.net_base.specs.Reading.{IsBytes}
+use Rattle.net_base.specs.Forms.{bytes16}
+use Rattle.net_base.specs.Names.{IsKey}
 use Rattle.flow_machine.specs.declared.acts.Act.{Act}
 use Rattle.flow_machine.specs.declared.acts.Act.TheVariants as act
 use Rattle.flow_machine.specs.declared.acts.Place.{Place}
@@ -8,19 +12,8 @@ use Rattle.flow_machine.specs.declared.flow_set.WordFault.{WordFault}
 use Rattle.flow_machine.specs.declared.flow_set.WordFault.TheVariants as word
 use Rattle.flow_machine.specs.declared.flow_set.MakeFault.{MakeFault}
 use Rattle.flow_machine.specs.declared.flow_set.MakeFault.TheVariants as make
-
--- what a flow set means
-pub record Machine (F : Type 0) : Type 0 where
-  -- the class and the arguments that a name and words ask for
-  pub worded : List ℕ → List (List ℕ) → Result (ℕ × List ℕ) WordFault
-  -- the frame and the act with which a flow of a class begins
-  pub made : ℕ → List ℕ → Place → Result (F × Act F) MakeFault
-  -- the frame and the act that follow once a frame is resumed
-  pub next : F → Resumed → Place → F × Act F
-  -- a bound on what a frame may still cause
-  pub weight : F → ℕ
-  -- the frames that wait on Return or Fail
-  pub over : F → Bool
+use Rattle.flow_machine.specs.Machine.{Machine}
+use Rattle.flow_machine.specs.Limits.{IsAct, IsResumed, IsPlace}
 
 -- ---- answers
 
@@ -38,45 +31,72 @@ GivesMade (Err make.UnknownClass) meant = meant ≡ Err make.UnknownClass
 GivesMade (Err make.BadArgs) meant = meant ≡ Err make.BadArgs
 GivesMade (Err make.Memory) meant = ⊤
 
--- ---- laws
+-- a flow that answers begins as is meant, its class isn't known, or there is no memory
+abbrev pub GivesBegun : {X : Type 0} → Result X MakeFault → Option X → Type 0
+GivesBegun (Ok x) meant = meant ≡ Some x
+GivesBegun (Err make.UnknownClass) meant = meant ≡ None
+GivesBegun (Err make.BadArgs) meant = ⊥
+GivesBegun (Err make.Memory) meant = ⊤
 
--- what an act may cause beside its own frame, and one for the act itself; a pushed frame brings its weight
-abbrev pub cost : {F : Type 0} → (F → ℕ) → Act F → ℕ
-cost weight (act.Sleep until) = 1
-cost weight (act.Sub frame) = weight frame + 1
-cost weight (act.Return value) = 1
-cost weight (act.Fail code) = 1
+-- ---- the weight falls
+
+-- what an act may cause at its node and elsewhere
+abbrev pub cost : {F : Type 0} → Machine F → Act F → ℕ
+cost m (act.Open to class first) = m.load class + 6
+cost m (act.Send key value) = 2
+cost m (act.Sub frame) = m.weight frame + 1
+cost m other = 1
 
 -- from a frame that isn't over the weight falls by at least the cost of the new act
-abbrev pub WeightFalls : {F : Type 0} → Machine F → Type 0
-WeightFalls {F} m = (frame : F) (with : Resumed) (at : Place) → m.over frame ≡ false
-    → m.weight (m.next frame with at).0 + cost m.weight (m.next frame with at).1 ≤ m.weight frame
+abbrev pub Falls : {F : Type 0} → Machine F → Type 0
+Falls {F} m = (frame : F) (with : Resumed) (at : Place) → m.over frame ≡ false → m.weight (m.next frame with at).0 + cost m (m.next frame with at).1 ≤ m.weight frame
 
--- the frame is over exactly where the act is Return or Fail, and a pushed frame isn't
-abbrev pub IsOverBy : {F : Type 0} → (F → Bool) → F × Act F → Type 0
-IsOverBy over (frame, act.Sleep until) = over frame ≡ false
-IsOverBy over (frame, act.Sub child) = (over frame ≡ false) × (over child ≡ false)
-IsOverBy over (frame, act.Return value) = over frame ≡ true
-IsOverBy over (frame, act.Fail code) = over frame ≡ true
+-- a flow that answers an Init takes no more than what its class's Init may cause
+abbrev pub LoadHolds : {F : Type 0} → Machine F → Type 0
+LoadHolds {F} m = (class : ℕ) (key : Key) (at : Place) (begins : F × Act F) → m.begun class key at ≡ Some begins → m.weight begins.0 + cost m begins.1 ≤ m.load class
 
--- of the frames that begin or go on, exactly those that wait on Return or Fail are over
-pub record OverIsExact {F : Type 0} (m : Machine F) : Type 0 where
-  pub begins : (class : ℕ) (args : List ℕ) (at : Place) → IfOk (m.made class args at) (IsOverBy m.over)
-  pub goes_on : (frame : F) (with : Resumed) (at : Place) → IsOverBy m.over (m.next frame with at)
+-- ---- frames that are over
 
--- the act is a Fail
-abbrev pub IsFail : {F : Type 0} → Act F → Type 0
-IsFail (act.Sleep until) = ⊥
-IsFail (act.Sub frame) = ⊥
-IsFail (act.Return value) = ⊥
-IsFail (act.Fail code) = ⊤
+-- the frame is over exactly where the act is Return or Fail, and a frame that a Sub carries isn't
+abbrev pub is_fair : {F : Type 0} → Machine F → F → Act F → Bool
+is_fair m frame (act.Return value) = m.over frame
+is_fair m frame (act.Fail code) = m.over frame
+is_fair m frame (act.Sub child) = not (m.over frame) && not (m.over child)
+is_fair m frame other = not (m.over frame)
+
+-- so are the frames and acts that are made, begun or gone on to
+pub record OversHold {F : Type 0} (m : Machine F) : Type 0 where
+  pub made : (class : ℕ) (args : List ℕ) (at : Place) (begins : F × Act F) → m.made class args at ≡ Ok begins → is_fair m begins.0 begins.1 ≡ true
+  pub begun : (class : ℕ) (key : Key) (at : Place) (begins : F × Act F) → m.begun class key at ≡ Some begins → is_fair m begins.0 begins.1 ≡ true
+  pub next : (frame : F) (with : Resumed) (at : Place) → is_fair m (m.next frame with at).0 (m.next frame with at).1 ≡ true
+
+-- whether the act is a Fail
+abbrev pub is_fail : {F : Type 0} → Act F → Bool
+is_fail (act.Fail code) = true
+is_fail other = false
 
 -- a frame that is over goes on to a Fail, and is over then too
 abbrev pub OverFails : {F : Type 0} → Machine F → Type 0
-OverFails {F} m = (frame : F) (with : Resumed) (at : Place) → m.over frame ≡ true
-    → IsFail (m.next frame with at).1 × (m.over (m.next frame with at).0 ≡ true)
+OverFails {F} m = (frame : F) (with : Resumed) (at : Place) → m.over frame ≡ true → (is_fail (m.next frame with at).1 ≡ true) × (m.over (m.next frame with at).0 ≡ true)
+
+-- ---- bytes and limits
 
 -- words give at most 65,535 bytes of arguments, and a flow is made of no more
 pub record ArgsAreShort {F : Type 0} (m : Machine F) : Type 0 where
   pub worded : (class : List ℕ) (args : List (List ℕ)) → IfOk (m.worded class args) (λ words. length words.1 ≤ 65535)
   pub made : (class : ℕ) (args : List ℕ) (at : Place) → IfOk (m.made class args at) (λ begun. length args ≤ 65535)
+
+-- a frame is spelt by two bytes of length and its own bytes, of which there are at most 32,768
+pub record SpellsContent {F : Type 0} (within : F → Type 0) (spelling : F → List ℕ) (m : Machine F) : Type 0 where
+  pub framed : (frame : F) → within frame → spelling frame ≡ bytes16 (m.content frame)
+  pub short : (frame : F) → within frame → length (m.content frame) ≤ 32768
+
+-- the frame and the act are within their limits
+abbrev pub AreWithin : {F : Type 0} → (F → Type 0) → F × Act F → Type 0
+AreWithin within begins = within begins.0 × IsAct within begins.1
+
+-- what is within its limits makes, begins and goes on to what is within its limits
+pub record KeepsLimits {F : Type 0} (within : F → Type 0) (m : Machine F) : Type 0 where
+  pub made : (class : ℕ) (args : List ℕ) (at : Place) (begins : F × Act F) → IsBytes args → IsPlace at → m.made class args at ≡ Ok begins → AreWithin within begins
+  pub begun : (class : ℕ) (key : Key) (at : Place) (begins : F × Act F) → IsKey key → IsPlace at → m.begun class key at ≡ Some begins → AreWithin within begins
+  pub next : (frame : F) (with : Resumed) (at : Place) → within frame → IsResumed with → IsPlace at → AreWithin within (m.next frame with at)

@@ -1,3 +1,8 @@
+pub mod Stacks
+pub mod Machine
+pub mod Limits
 pub mod Flows
+pub mod Tags
+pub mod Unnamed
 pub mod Counter
 pub mod CounterLaws

@@ -1,7 +1,7 @@
 use super::fields::u32_of;
 use super::{Act, FlowSet, MakeFault, Place, Resumed, WordFault};
 use ledger_types::Value;
-use net_base::{ByteList, number};
+use net_base::{ByteList, Key, PartFault, Reader, Spelt, Writer, number, read_below, read_between};
 use std::alloc::{AllocError, Global};
 
 /// The most sleeps that a counting flow is made for.
@@ -51,30 +51,102 @@ impl Counter {
         }
     }
 
-    fn fails(&self) -> (Counter, Act<Counter>)
-        ensures { result ≡ fails self.now }
+    fn fails(&self, with: &Resumed) -> (Counter, Act<Counter>)
+        ensures { result ≡ fails with.now self.now }
     {
         let frame = Counter {
             phase: Phase::Failing,
             left: self.left,
             all: self.all,
         };
-        (frame, Act::Fail { code: 54 })
+        let code = with.unnamed_code();
+        (frame, Act::Fail { code })
+    }
+}
+
+impl Phase {
+    ghost use Rattle.std.specs.Prelude.{◌≡◌};
+    ghost use Rattle.flow_machine.specs.Counter.{place_of, phase_of};
+
+    /// The number of the act that it waits on: 0 Fail, 1 Sleep, 2 Return.
+    fn place(self) -> u8
+        ensures { result ≡ place_of self }
+    {
+        match self {
+            Phase::Failing => 0,
+            Phase::Sleeping => 1,
+            Phase::Returning => 2,
+        }
+    }
+
+    /// The phase of such a number.
+    fn of_place(place: u8) -> Phase
+        ensures { result ≡ phase_of place }
+    {
+        match place {
+            0 => Phase::Failing,
+            1 => Phase::Sleeping,
+            _ => Phase::Returning,
+        }
+    }
+}
+
+#[tactic(auto, unfolding(crate::specs::Counter::counter_at))]
+impl Spelt for Counter {
+    ghost use Rattle.flow_machine.specs.Counter.{IsCounter, counter, counter_at};
+    ghost use Rattle.flow_machine.specs.CounterLaws.{counter_laws};
+
+    ghost spelling = { counter };
+
+    ghost within = { IsCounter };
+
+    ghost reading = { counter_at };
+
+    ghost laws = { counter_laws };
+
+    fn read_part(alloc: Global, from: &mut Reader) -> Result<Counter, PartFault> {
+        let _length_high = read_between(from, 0, 1)?;
+        let _length_low = read_between(from, 10, 11)?;
+        let _machine = read_between(from, 1, 2)?;
+        Ok(Counter {
+            phase: Phase::of_place(read_below(from, 3)?),
+            left: Spelt::read_part(alloc, from)?,
+            all: Spelt::read_part(alloc, from)?,
+        })
+    }
+
+    fn write_part(&self, alloc: Global, out: &mut Writer) -> Result<(), AllocError> {
+        out.put_u16(alloc, 10)?;
+        out.put_u8(alloc, 1)?;
+        out.put_u8(alloc, self.phase.place())?;
+        self.left.write_part(alloc, out)?;
+        self.all.write_part(alloc, out)?;
+        Ok(())
     }
 }
 
 #[tactic(auto, unfolding(crate::specs::Counter::worded, crate::specs::Counter::made, crate::specs::Counter::next, crate::specs::Counter::weight))]
 impl FlowSet for Counter {
     ghost use Rattle.flow_machine.specs.Counter.{machine};
-    ghost use Rattle.flow_machine.specs.CounterLaws.{weight_falls, over_is_exact, over_fails, args_are_short};
+    ghost use Rattle.flow_machine.specs.CounterLaws.{spells_content, keeps_limits, falls, load_holds, overs_hold, over_fails, keeps_tags, begins_bare, args_are_short};
 
     ghost machine = { machine };
 
-    ghost weight_falls = { weight_falls };
+    ghost spells_content = { spells_content };
 
-    ghost over_is_exact = { over_is_exact };
+    ghost keeps_limits = { keeps_limits };
+
+    ghost falls = { falls };
+
+    ghost load_holds = { load_holds };
+
+    ghost overs_hold = { overs_hold };
 
     ghost over_fails = { over_fails };
+
+    ghost keeps_tags = { keeps_tags };
+
+    ghost begins_bare = { begins_bare };
 
     ghost args_are_short = { args_are_short };
 
@@ -117,6 +189,15 @@ impl FlowSet for Counter {
         Ok(Counter::with_left(count, count))
     }
 
+    fn initiated(
+        _alloc: Global,
+        _class: u16,
+        _key: &Key,
+        _at: &Place,
+    ) -> Result<(Counter, Act<Counter>), MakeFault> {
+        Err(MakeFault::UnknownClass)
+    }
+
     fn resume(
         &self,
         _alloc: Global,
@@ -128,7 +209,7 @@ impl FlowSet for Counter {
                 self.left.saturating_sub(1),
                 self.all,
             )),
-            _ => Ok(self.fails()),
+            _ => Ok(self.fails(with)),
         }
     }
 

@@ -1,8 +1,12 @@
+//! What a set of flows is.
+
 ghost use Rattle.std.specs.Prelude.{◌≡◌, map, string_bytes, IfOk};
-ghost use Rattle.flow_machine.specs.Flows.{Machine, GivesWords, GivesMade, WeightFalls, OverIsExact, OverFails, ArgsAreShort};
+ghost use Rattle.flow_machine.specs.Machine.{Machine};
+ghost use Rattle.flow_machine.specs.Flows.{GivesWords, GivesMade, GivesBegun, Falls, LoadHolds, OversHold, OverFails, ArgsAreShort, SpellsContent, KeepsLimits};
+ghost use Rattle.flow_machine.specs.Tags.{KeepsTags, BeginsBare};
 
 use super::{Act, Place, Resumed};
-use net_base::ByteList;
+use net_base::{ByteList, DecodeFault, Key, Spelt, Writer, decode_whole, encode};
 use std::alloc::{AllocError, Global};
 use thiserror::Error;
 
@@ -43,8 +47,9 @@ impl From<AllocError> for WordFault {
     }
 }
 
-/// A set of flows: their frames, and how these begin and go on.
-pub trait FlowSet: Sized + Drop {
+/// A set of flows: their frames, and how these begin and go on. A frame is spelt as it stands in an act and in a checkpoint: two
+/// bytes of length and its own bytes, of which there are at most 32,768.
+pub trait FlowSet: Spelt + Drop {
     /// What the set means, as functions of plain data.
     ghost machine: { Machine Self };
 
@@ -69,6 +74,19 @@ pub trait FlowSet: Sized + Drop {
     ) -> Result<(Self, Act<Self>), MakeFault>
         ensures { GivesMade result (machine.made class args.now at.entry.now) };
 
+    /// The frame and the act with which a flow begins that answers the session's Init of the class.
+    ///
+    /// # Errors
+    ///
+    /// `UnknownClass` exactly where `machine.begun` gives none, never `BadArgs`, and `Memory` for want of memory.
+    fn initiated(
+        alloc: Global,
+        class: u16,
+        key: &Key,
+        at: &Place,
+    ) -> Result<(Self, Act<Self>), MakeFault>
+        ensures { GivesBegun result (machine.begun class key.now at.entry.now) };
+
     /// The frame and the act that follow, once the act was performed with this result.
     ///
     /// # Errors
@@ -86,32 +104,91 @@ pub trait FlowSet: Sized + Drop {
     fn weight(&self) -> u64
         ensures { result ≡ machine.weight self.now };
 
+    /// A frame is spelt by its bytes behind their length, and has at most 32,768.
+    ghost spells_content: { SpellsContent Self.within Self.spelling machine };
+
+    /// What is given within the limits makes frames and acts within the limits.
+    ghost keeps_limits: { KeepsLimits Self.within machine };
+
     /// The weight falls at each resume, by at least the cost of the new act.
-    ghost weight_falls: { WeightFalls machine };
+    ghost falls: { Falls machine };
+
+    /// What an Init may cause is at least the weight and the cost of what answers it.
+    ghost load_holds: { LoadHolds machine };
 
     /// Exactly the frames that wait on Return or Fail are over.
-    ghost over_is_exact: { OverIsExact machine };
+    ghost overs_hold: { OversHold machine };
 
     /// A frame that is over fails.
     ghost over_fails: { OverFails machine };
+
+    /// No tag comes from nowhere.
+    ghost keeps_tags: { KeepsTags machine };
+
+    /// What begins has no tag.
+    ghost begins_bare: { BeginsBare machine };
 
     /// Arguments have at most 65,535 bytes.
     ghost args_are_short: { ArgsAreShort machine };
 }
 
-/// The law of every flow set that from a frame that isn't over the weight falls by at least the cost of the new act.
-pub fn weight_falls<F: FlowSet>()
-    ensures { WeightFalls F.machine }
+/// An equal frame.
+///
+/// # Errors
+///
+/// `AllocError` for want of memory.
+pub fn copy_frame<F: FlowSet>(alloc: Global, frame: &F) -> Result<F, AllocError>
+    requires { F.within frame.now }
+    ensures { IfOk result (λ copy. copy ≡ frame.now) }
+{
+    let mut out = Writer::new(alloc);
+    encode(alloc, frame, &mut out)?;
+    let bytes = out.into_bytes();
+    match decode_whole(alloc, bytes.as_slice()) {
+        Ok(copy) => Ok(copy),
+        Err(DecodeFault::Memory) => Err(AllocError),
+        Err(DecodeFault::Malformed { .. }) => unreachable!(),
+    }
+}
+
+/// The law of every flow set that a frame is spelt by two bytes of length and its own bytes, of which there are at most 32,768.
+pub fn frames_are_spelt<F: FlowSet>()
+    ensures { SpellsContent F.within F.spelling F.machine }
 {}
 
-/// The law of every flow set that exactly the frames that wait on Return or Fail are over.
+/// The law of every flow set that what is given within the limits makes frames and acts within the limits.
+pub fn limits_are_kept<F: FlowSet>()
+    ensures { KeepsLimits F.within F.machine }
+{}
+
+/// The law of every flow set that from a frame that isn't over the weight falls by at least the cost of the new act.
+pub fn weight_falls<F: FlowSet>()
+    ensures { Falls F.machine }
+{}
+
+/// The law of every flow set that what an Init of a class may cause is at least the weight and the cost of what answers it.
+pub fn load_holds<F: FlowSet>()
+    ensures { LoadHolds F.machine }
+{}
+
+/// The law of every flow set that exactly the frames that wait on Return or Fail are over, and none that a Sub carries.
 pub fn over_is_exact<F: FlowSet>()
-    ensures { OverIsExact F.machine }
+    ensures { OversHold F.machine }
 {}
 
 /// The law of every flow set that a frame that is over goes on to a Fail, and is over then too.
 pub fn over_frames_fail<F: FlowSet>()
     ensures { OverFails F.machine }
+{}
+
+/// The law of every flow set that every tag in a new frame or act stood in the old frame or in what it was resumed with.
+pub fn tags_are_kept<F: FlowSet>()
+    ensures { KeepsTags F.machine }
+{}
+
+/// The law of every flow set that what begins has no tag.
+pub fn begins_bare<F: FlowSet>()
+    ensures { BeginsBare F.machine }
 {}
 
 /// The law of every flow set that the words of a flow give at most 65,535 bytes of arguments, and that longer ones make none.

@@ -1,7 +1,7 @@
-use super::Act;
+use super::{Act, Stack};
 use ledger_types::Value;
 
-/// Where a live flow stands: the frame that waits, and the act that it waits on.
+/// Where a live flow stands: its frames, and the act that the top one waits on.
 #[derive(Debug, Drop)]
 pub struct Checkpoint<F> {
     /// The flow's number at its node, counted from 0.
@@ -10,7 +10,7 @@ pub struct Checkpoint<F> {
     pub step: u32,
     pub class: u16,
     pub waiting: Act<F>,
-    pub top: F,
+    pub stack: Stack<F>,
 }
 
 /// A flow of a node.

@@ -9,12 +9,15 @@ mod counter;
 mod fields;
 mod flow_set;
 mod flows;
+mod stack;
 #[cfg(test)]
 mod tests;
 
 pub use acts::{Act, Place, Resumed};
 pub use counter::{Counter, Phase};
 pub use flow_set::{
-    FlowSet, MakeFault, WordFault, args_are_short, over_frames_fail, over_is_exact, weight_falls,
+    FlowSet, MakeFault, WordFault, args_are_short, begins_bare, copy_frame, frames_are_spelt,
+    limits_are_kept, load_holds, over_frames_fail, over_is_exact, tags_are_kept, weight_falls,
 };
 pub use flows::{Checkpoint, FlowState};
+pub use stack::Stack;

@@ -66,8 +66,13 @@ fn a_count_of_one_sleeps_once(rt: HostRuntime) -> Result<(), Fail> {
 
 #[test]
 fn the_counting_flow_keeps_the_laws() {
+    frames_are_spelt::<Counter>();
+    limits_are_kept::<Counter>();
     weight_falls::<Counter>();
+    load_holds::<Counter>();
     over_is_exact::<Counter>();
     over_frames_fail::<Counter>();
+    tags_are_kept::<Counter>();
+    begins_bare::<Counter>();
     args_are_short::<Counter>();
 }
