@@ -3,6 +3,11 @@ pub mod Steps
 pub mod Enabled
 pub mod Runs
 pub mod Numbers
-mod Merging
+pub mod Growth
+pub mod Effects
+pub mod Local
+pub mod Merging
+pub mod Faithful
+pub mod Commits
 mod Ordered
 mod Stamps
