@@ -23,14 +23,15 @@ use Rattle.flow_machine.specs.declared.acts.Resumed.{Resumed}
 use Rattle.flow_machine.specs.declared.acts.Resumed.TheVariants as resumed
 use Rattle.flow_machine.specs.declared.flow_set.MakeFault.{MakeFault}
 use Rattle.flow_machine.specs.declared.flows.Checkpoint.{Checkpoint}
+use Rattle.session_wire.specs.Sessions.{Session, next_item, session_of}
 use Rattle.net_model.specs.Environment.{Environment, party}
 use Rattle.ledger_types.specs.Notary.{tag_by}
 use Rattle.ledger_types.specs.Stores.{is_stored, stored_of, resolved_of}
 use Rattle.ledger_types.specs.Rules.{is_other_notary}
 use Rattle.ledger_types.specs.Vaults.{reserved, reservable}
 use Rattle.ledger_types.specs.Signatures.{tx_id, is_signed}
-use Rattle.net_model.specs.State.{Session, NodeState, no_flow, Effect, nothing, with_ids, session_of}
-use Rattle.net_model.specs.Steps.{Done, opening, sends, receives, takes, next_item, verifies, reserves, finds, notarises, records_in, records_by, vault_at, goes_on, onwards, place, is_no_peer, has_many, is_next, returns, fails, performed, lapsed, lapses, started, answering, answered_with, is_new_key, arrived, meant_of, effect_of, live, live_at, owned, owned_by}
+use Rattle.net_model.specs.State.{NodeState, no_flow, Effect, nothing, with_ids}
+use Rattle.net_model.specs.Steps.{Done, opening, sends, receives, takes, verifies, reserves, finds, notarises, records_in, records_by, vault_at, goes_on, onwards, place, is_no_peer, has_many, is_next, returns, fails, performed, lapsed, lapses, started, answering, answered_with, is_new_key, arrived, meant_of, effect_of, live, live_at, owned, owned_by}
 use Rattle.net_model.specs.Names.{number_is}
 use Rattle.net_model.proofs.Basics.{some_eq, from_some, from_map, from_then, from_cond}
 use Rattle.net_model.proofs.Effects.{effect_meant}

@@ -20,14 +20,15 @@ use Rattle.flow_machine.specs.declared.acts.Act.TheVariants as act
 use Rattle.flow_machine.specs.declared.acts.Resumed.TheVariants as resumed
 use Rattle.flow_machine.specs.declared.flow_set.MakeFault.{MakeFault}
 use Rattle.flow_machine.specs.declared.flows.Checkpoint.{Checkpoint}
+use Rattle.session_wire.specs.Sessions.{Sent, Session, next_item, session_of}
 use Rattle.net_model.specs.Environment.{Environment, party}
 use Rattle.ledger_types.specs.Notary.{tag_by}
 use Rattle.ledger_types.specs.Stores.{is_stored, resolved_of}
 use Rattle.ledger_types.specs.Rules.{is_other_notary}
 use Rattle.ledger_types.specs.Vaults.{reservable}
 use Rattle.ledger_types.specs.Signatures.{tx_id, is_signed}
-use Rattle.net_model.specs.State.{Sent, Session, NodeState, Effect, nothing, with_ids, session_of, apply_effect}
-use Rattle.net_model.specs.Steps.{Done, opens, opening, sends, receives, takes, next_item, verifies, reserves, vault_at, finds, signs_id, records, records_in, records_by, goes_on, onwards, is_no_peer, has_many, is_next, pushes, returns, performed, lapsed, started, answering, answered_with, is_new_key, is_built, meant_of, effect_of, node_step, body_in, stamp_in, in_order, live_at, owned}
+use Rattle.net_model.specs.State.{NodeState, Effect, nothing, with_ids, apply_effect}
+use Rattle.net_model.specs.Steps.{Done, opens, opening, sends, receives, takes, verifies, reserves, vault_at, finds, signs_id, records, records_in, records_by, goes_on, onwards, is_no_peer, has_many, is_next, pushes, returns, performed, lapsed, started, answering, answered_with, is_new_key, is_built, meant_of, effect_of, node_step, body_in, stamp_in, in_order, live_at, owned}
 use Rattle.net_model.specs.Runs.{accepts, StepIsItsEffect}
 use Rattle.net_model.proofs.Basics.{some_eq, from_some, from_map, from_then, from_cond, cond_all}
 

@@ -17,10 +17,11 @@ use Rattle.flow_machine.specs.declared.acts.Resumed.TheVariants as resumed
 use Rattle.flow_machine.specs.declared.flows.Checkpoint.{Checkpoint}
 use Rattle.flow_machine.specs.declared.flows.FlowState.{FlowState}
 use Rattle.flow_machine.specs.declared.flows.FlowState.TheVariants as state
-use Rattle.net_model.specs.Names.{key_eq, number_is}
+use Rattle.session_wire.specs.Sessions.{Sent, Session, changed_at, key_eq, new_session, opened_on, sent_on, taken_on, with_sent, with_taken}
+use Rattle.net_model.specs.Names.{number_is}
 use Rattle.flow_machine.specs.Machine.{Machine}
 use Rattle.net_model.specs.Environment.{Environment}
-use Rattle.net_model.specs.State.{Sent, Session, NodeState, FlowPart, now_live, Effect, Change, changed_at, new_session, with_sent, with_taken, came_on, opened_on, sent_on, taken_on, sessions_on, flow_of, flows_on, placed, apply_effect}
+use Rattle.net_model.specs.State.{NodeState, FlowPart, now_live, Effect, Change, came_on, sessions_on, flow_of, flows_on, placed, apply_effect}
 use Rattle.net_model.specs.Steps.{Done, live_at, checkpoint_of, sessions_of, item_on, place}
 use Rattle.net_model.specs.Fits.{keys_differ, IsSound, Fits}
 use Rattle.flow_machine.specs.Flows.{cost, Falls, is_fair}

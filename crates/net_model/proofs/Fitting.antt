@@ -17,14 +17,15 @@ use Rattle.session_wire.specs.declared.body.Body.{Body}
 use Rattle.session_wire.specs.declared.body.Body.TheVariants as body_of
 use Rattle.flow_machine.specs.declared.acts.Act.{Act}
 use Rattle.flow_machine.specs.declared.flows.Checkpoint.{Checkpoint}
-use Rattle.net_model.specs.Names.{key_eq, number_is}
+use Rattle.session_wire.specs.Sessions.{Sent, Session, changed_at, first_item, is_confirm, key_eq, new_session, next_item, session_of, with_sent}
+use Rattle.net_model.specs.Names.{number_is}
 use Rattle.net_model.specs.Environment.{Environment, party, identity}
 use Rattle.ledger_types.specs.Stores.{is_stored, resolved_of, untagged}
 use Rattle.ledger_types.specs.Signatures.{tx_id}
 use Rattle.ledger_types.specs.Vaults.{vault_of, reserved}
 use Rattle.ledger_types.specs.Notary.{repeats, reply}
-use Rattle.net_model.specs.State.{Sent, Session, NodeState, Change, Effect, nothing, with_ids, session_of, changed_at, new_session, with_sent, came_on, flow_of}
-use Rattle.net_model.specs.Steps.{Done, owned, next_item, first_item, is_confirm, opening, booked_by, vault_at, next_key, sessions_of, is_no_peer, has_many, is_new_key, direction_out, item_on, is_lawful, answering, live_at, place, node_step, stamp_in, body_in}
+use Rattle.net_model.specs.State.{NodeState, Change, Effect, nothing, with_ids, came_on, flow_of}
+use Rattle.net_model.specs.Steps.{Done, owned, opening, booked_by, vault_at, next_key, sessions_of, is_no_peer, has_many, is_new_key, direction_out, item_on, is_lawful, answering, live_at, place, node_step, stamp_in, body_in}
 use Rattle.net_model.specs.Fits.{IsNextOf, AcceptsInit, GoesOn, FitsEvent, Continues, FitsSent, FitsTaken, names_coin, FitsBooked, FitsChange, Fits, keys_differ, is_counted, IsSound, StepsFit}
 use Rattle.net_model.proofs.Basics.{some_eq, from_map, find_map}
 use Rattle.net_model.proofs.Booked.{added}

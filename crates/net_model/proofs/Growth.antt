@@ -7,8 +7,8 @@ use Rattle.net_base.specs.declared.causes.Event.{Event}
 use Rattle.net_base.specs.declared.causes.Event.TheVariants as event
 use Rattle.session_wire.specs.declared.body.Body.{Body}
 use Rattle.session_wire.specs.declared.change.SentItem.{SentItem}
-use Rattle.net_model.specs.Names.{key_eq}
-use Rattle.net_model.specs.State.{Sent, Session, Effect, session_of, changed_at, with_came, with_sent, with_taken, came_on, opened_on, sent_on, taken_on, sessions_on, flow_of}
+use Rattle.session_wire.specs.Sessions.{Sent, Session, changed_at, key_eq, opened_on, sent_on, session_of, taken_on, with_came, with_sent, with_taken}
+use Rattle.net_model.specs.State.{Effect, came_on, sessions_on, flow_of}
 use Rattle.net_model.specs.Runs.{sent_to}
 use Rattle.net_model.proofs.Basics.{find_map, find_before, find_last, get_before, get_last, cond_all}
 

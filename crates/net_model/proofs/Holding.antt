@@ -18,14 +18,14 @@ use Rattle.flow_machine.specs.declared.acts.Resumed.TheVariants as resumed
 use Rattle.flow_machine.specs.declared.flows.Checkpoint.{Checkpoint}
 use Rattle.flow_machine.specs.declared.flows.FlowState.{FlowState}
 use Rattle.flow_machine.specs.declared.flows.FlowState.TheVariants as state
-use Rattle.net_model.specs.Names.{key_eq}
+use Rattle.session_wire.specs.Sessions.{Session, first_item, is_confirm, key_eq, next_item, session_of}
 use Rattle.net_model.specs.Environment.{Environment, party, identity}
 use Rattle.ledger_types.specs.Notary.{Reply, reply, tag_by}
 use Rattle.ledger_types.specs.Names.{hash_eq}
 use Rattle.ledger_types.specs.Signatures.{tx_id}
 use Rattle.ledger_types.specs.Stores.{stored_of}
-use Rattle.net_model.specs.State.{Session, NodeState, Effect, Change, with_ids, session_of}
-use Rattle.net_model.specs.Steps.{Done, next_item, first_item, is_confirm, handed, onwards, booked_by, place, answering, checkpoint_of, live_at, sessions_of, item_on, live}
+use Rattle.net_model.specs.State.{NodeState, Effect, Change, with_ids}
+use Rattle.net_model.specs.Steps.{Done, handed, onwards, booked_by, place, answering, checkpoint_of, live_at, sessions_of, item_on, live}
 use Rattle.flow_machine.specs.Tags.{answer_tags, value_tags, act_tags, resumed_tags, KeepsTags, BeginsBare}
 use Rattle.net_model.specs.Tags.{body_tags, flow_passes, body_passes, ending_passes, session_passes, entry_passes, Passes}
 use Rattle.net_model.proofs.Basics.{some_eq, from_some, from_map, from_then}

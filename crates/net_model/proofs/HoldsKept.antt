@@ -24,12 +24,12 @@ use Rattle.ledger_types.specs.Names.{party_eq, hash_eq, is_party}
 use Rattle.net_base.specs.declared.values.Moment.{Moment}
 use Rattle.net_base.specs.declared.names.Identity.{Identity}
 use Rattle.ledger_types.specs.declared.tx.Window.{Window}
-use Rattle.net_model.specs.Names.{key_eq}
+use Rattle.session_wire.specs.Sessions.{Sent, Session, key_eq, session_of}
 use Rattle.net_model.specs.Environment.{Environment, party, identity}
 use Rattle.flow_machine.specs.Machine.{Machine}
 use Rattle.ledger_types.specs.Notary.{repeats, tag_by, signs, is_notary, is_inside, has_good_tag, conflicts, answer_unsigned, answer_shown, answer_torn, reply_over, reply, entry_of}
 use Rattle.ledger_types.specs.Tears.{visible_of}
-use Rattle.net_model.specs.State.{Sent, Session, NodeState, Effect, apply_effect, session_of, fresh}
+use Rattle.net_model.specs.State.{NodeState, Effect, apply_effect, fresh}
 use Rattle.net_model.specs.Steps.{booked_by, body_in}
 use Rattle.net_model.specs.Runs.{sent_to, item_from, item_for, net_step, fresh_net, run_from, run_of}
 use Rattle.flow_machine.specs.Tags.{answer_tags, KeepsTags, BeginsBare}

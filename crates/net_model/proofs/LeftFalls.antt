@@ -16,10 +16,11 @@ use Rattle.flow_machine.specs.declared.acts.Act.TheVariants as act
 use Rattle.flow_machine.specs.declared.flows.Checkpoint.{Checkpoint}
 use Rattle.flow_machine.specs.declared.flows.FlowState.{FlowState}
 use Rattle.flow_machine.specs.declared.flows.FlowState.TheVariants as state
-use Rattle.net_model.specs.Names.{key_eq, number_is}
+use Rattle.session_wire.specs.Sessions.{Sent, Session, changed_at, key_eq, new_session, opened_on, sent_on, session_of, taken_on, with_came, with_sent, with_taken}
+use Rattle.net_model.specs.Names.{number_is}
 use Rattle.flow_machine.specs.Machine.{Machine}
 use Rattle.net_model.specs.Environment.{Environment}
-use Rattle.net_model.specs.State.{Sent, Session, NodeState, FlowPart, no_flow, now_live, now_ended, now_failed, Effect, nothing, session_of, changed_at, new_session, with_came, with_sent, with_taken, came_on, opened_on, sent_on, taken_on, sessions_on, flow_of, flows_on, placed, apply_effect, fresh}
+use Rattle.net_model.specs.State.{NodeState, FlowPart, no_flow, now_live, now_ended, now_failed, Effect, nothing, came_on, sessions_on, flow_of, flows_on, placed, apply_effect, fresh}
 use Rattle.net_model.specs.Steps.{place, live_at, checkpoint_of, is_new_key, answering, body_in, direction_out}
 use Rattle.net_model.specs.Runs.{sent_to, item_from, item_for, net_step, fresh_net, run_from, run_of}
 use Rattle.net_model.specs.Fits.{IsSound, Fits, keys_differ}

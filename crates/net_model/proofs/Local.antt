@@ -8,8 +8,9 @@ use Rattle.net_base.specs.declared.causes.Cause.{Cause}
 use Rattle.net_base.specs.declared.causes.Event.{Event}
 use Rattle.net_base.specs.declared.causes.Event.TheVariants as event
 use Rattle.session_wire.specs.declared.body.Body.{Body}
+use Rattle.session_wire.specs.Sessions.{Sent, Session, session_of}
 use Rattle.net_model.specs.Environment.{Environment}
-use Rattle.net_model.specs.State.{Sent, Session, NodeState, Effect, Record, session_of, apply_effect, sessions_on}
+use Rattle.net_model.specs.State.{NodeState, Effect, Record, apply_effect, sessions_on}
 use Rattle.net_model.specs.Steps.{node_step, in_order, body_in}
 use Rattle.net_model.specs.Runs.{item_from, item_for, net_step, net_step_at, Follows, IsLocalFrom, IsMatchedFrom, IsItem, accepts, stamped, record_stamp, ItemsStay, ItemsAreStamped}
 use Rattle.net_model.proofs.Basics.{some_eq, from_then, both_true, get_set, set_same, get_below}

@@ -14,9 +14,9 @@ use Rattle.session_wire.specs.declared.body.Body.TheVariants as body_of
 use Rattle.session_wire.specs.declared.change.SentItem.{SentItem}
 use Rattle.flow_machine.specs.declared.flows.FlowState.{FlowState}
 use Rattle.flow_machine.specs.declared.flows.FlowState.TheVariants as state
-use Rattle.net_model.specs.Names.{key_eq}
 use Rattle.flow_machine.specs.Machine.{Machine}
-use Rattle.net_model.specs.State.{Sent, Session, NodeState, FlowPart, no_flow, now_live, now_ended, now_failed, Effect, apply_effect, changed_at, new_session, with_came, with_sent, with_taken, ending_of, ending_at, came_on, opened_on, sent_on, taken_on, flow_of, flows_on, placed}
+use Rattle.session_wire.specs.Sessions.{Sent, Session, changed_at, ending_at, ending_of, key_eq, new_session, opened_on, sent_on, taken_on, with_came, with_sent, with_taken}
+use Rattle.net_model.specs.State.{NodeState, FlowPart, no_flow, now_live, now_ended, now_failed, Effect, apply_effect, came_on, flow_of, flows_on, placed}
 use Rattle.net_model.specs.Tags.{flow_passes, body_passes, ending_passes, session_passes, entry_passes, Passes}
 use Rattle.net_model.proofs.Lists.{all_append, all_one, all_set, all_get, all_mapped}
 

@@ -17,12 +17,12 @@ use Rattle.session_wire.specs.declared.change.SentItem.{SentItem}
 use Rattle.flow_machine.specs.declared.flows.Checkpoint.{Checkpoint}
 use Rattle.flow_machine.specs.declared.flows.FlowState.{FlowState}
 use Rattle.flow_machine.specs.declared.flows.FlowState.TheVariants as state
-use Rattle.net_model.specs.Names.{key_eq}
 use Rattle.ledger_types.specs.Names.{hash_eq}
+use Rattle.session_wire.specs.Sessions.{Sent, Session, changed_at, key_eq, new_session, opened_on, sent_on, session_of, taken_on, with_came, with_sent, with_taken}
 use Rattle.net_model.specs.Environment.{Environment, party}
 use Rattle.ledger_types.specs.Stores.{is_stored}
 use Rattle.ledger_types.specs.Signatures.{tx_id}
-use Rattle.net_model.specs.State.{Sent, Session, NodeState, FlowPart, no_flow, now_live, now_ended, now_failed, Effect, Record, with_ids, apply_effect, session_of, changed_at, new_session, with_came, with_sent, with_taken, came_on, opened_on, sent_on, taken_on, sessions_on, flow_of, flows_on, placed, fresh}
+use Rattle.net_model.specs.State.{NodeState, FlowPart, no_flow, now_live, now_ended, now_failed, Effect, Record, with_ids, apply_effect, came_on, sessions_on, flow_of, flows_on, placed, fresh}
 use Rattle.net_model.specs.Steps.{checkpoint_of}
 use Rattle.net_model.specs.Runs.{IsLocalFrom}
 use Rattle.net_model.specs.Fits.{AnswersFirst, AcceptsInit, FitsEvent, FitsOpened, is_init_of, FitsRecorded, Fits, keys_differ, ids_differ, is_counted, IsSound, FitsKeepSound, FreshIsSound}

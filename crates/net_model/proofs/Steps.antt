@@ -3,8 +3,9 @@ use Rattle.std.proofs.Common.{◌≡◌, ℕ, ◌+◌, ◌<◌, ◌≤◌, ◌^�
 use Rattle.std.proofs.lemmas.Bool.{and_parts, and_from, eqb-true, eq-eqb, lt-ltb, le-leb}
 use Rattle.net_base.specs.declared.causes.Cause.{Cause}
 use Rattle.net_base.specs.declared.causes.Event.{Event}
+use Rattle.session_wire.specs.Sessions.{Sent}
 use Rattle.net_model.specs.Environment.{Environment}
-use Rattle.net_model.specs.State.{Sent, NodeState, Effect, apply_effect}
+use Rattle.net_model.specs.State.{NodeState, Effect, apply_effect}
 use Rattle.net_model.specs.Steps.{effect_of, body_in, stamp_in, in_order, node_step, next_cause}
 use Rattle.net_model.proofs.Basics.{from_cond, from_map}
 

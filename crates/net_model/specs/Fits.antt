@@ -15,14 +15,15 @@ use Rattle.session_wire.specs.declared.body.Body.{Body}
 use Rattle.session_wire.specs.declared.body.Body.TheVariants as body_of
 use Rattle.session_wire.specs.declared.change.SentItem.{SentItem}
 use Rattle.flow_machine.specs.declared.flows.Checkpoint.{Checkpoint}
-use Rattle.net_model.specs.Names.{key_eq, number_is}
+use Rattle.session_wire.specs.Sessions.{Sent, Session, changed_at, key_eq, opened_on, session_of, with_sent}
+use Rattle.net_model.specs.Names.{number_is}
 use Rattle.ledger_types.specs.Names.{ref_eq}
 use Rattle.net_model.specs.Environment.{Environment, party, identity}
 use Rattle.ledger_types.specs.Stores.{is_stored, untagged}
 use Rattle.ledger_types.specs.Signatures.{tx_id}
 use Rattle.ledger_types.specs.Vaults.{vault_of, is_coin}
 use Rattle.ledger_types.specs.Notary.{repeats, is_notary}
-use Rattle.net_model.specs.State.{Sent, Session, NodeState, FlowPart, no_flow, now_live, now_ended, now_failed, Change, Effect, nothing, with_ids, session_of, changed_at, with_sent, came_on, opened_on, flow_of, apply_effect, fresh}
+use Rattle.net_model.specs.State.{NodeState, FlowPart, no_flow, now_live, now_ended, now_failed, Change, Effect, nothing, with_ids, came_on, flow_of, apply_effect, fresh}
 use Rattle.net_model.specs.Steps.{direction_out, next_key, is_no_peer, is_new_key, is_lawful, is_init, live_at, node_step}
 
 -- the flow is a new one of the number and class, at step 0

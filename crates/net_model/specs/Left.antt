@@ -11,9 +11,10 @@ use Rattle.flow_machine.specs.Machine.{Machine}
 use Rattle.flow_machine.specs.declared.flows.FlowState.{FlowState}
 use Rattle.flow_machine.specs.declared.flows.FlowState.TheVariants as state
 use Rattle.flow_machine.specs.Flows.{cost, Falls, LoadHolds, is_fair, OversHold}
+use Rattle.session_wire.specs.Sessions.{Session, session_of}
 use Rattle.net_model.specs.Names.{number_is}
 use Rattle.net_model.specs.Environment.{Environment}
-use Rattle.net_model.specs.State.{Session, NodeState, Effect, session_of}
+use Rattle.net_model.specs.State.{NodeState, Effect}
 use Rattle.net_model.specs.Runs.{net_step, run_of}
 use Rattle.net_model.specs.Fits.{IsSound}
 

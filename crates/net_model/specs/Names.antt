@@ -2,10 +2,6 @@
 use Rattle.std.specs.Prelude.{ℕ, Bool, false, ◌==◌, ◌&&◌, Option, Some, None}
 use Rattle.net_base.specs.declared.names.Key.{Key}
 
--- whether two keys name one session
-abbrev pub key_eq : Key → Key → Bool
-key_eq a b = (a.initiator.0 == b.initiator.0) && (a.number == b.number)
-
 -- whether there is a number and it is this one
 abbrev pub number_is : ℕ → Option ℕ → Bool
 number_is n None = false

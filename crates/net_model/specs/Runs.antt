@@ -6,8 +6,9 @@ use Rattle.net_base.specs.declared.causes.Cause.{Cause}
 use Rattle.net_base.specs.declared.causes.Event.{Event}
 use Rattle.net_base.specs.declared.causes.Event.TheVariants as event
 use Rattle.session_wire.specs.declared.body.Body.{Body}
+use Rattle.session_wire.specs.Sessions.{Sent, Session, session_of}
 use Rattle.net_model.specs.Environment.{Environment}
-use Rattle.net_model.specs.State.{Sent, Session, NodeState, Effect, Record, session_of, apply_effect, fresh, replay}
+use Rattle.net_model.specs.State.{NodeState, Effect, Record, apply_effect, fresh, replay}
 use Rattle.net_model.specs.Steps.{node_step}
 
 -- ---- one step of the network

@@ -19,30 +19,9 @@ use Rattle.session_wire.specs.declared.change.SentItem.{SentItem}
 use Rattle.flow_machine.specs.declared.flows.Checkpoint.{Checkpoint}
 use Rattle.flow_machine.specs.declared.flows.FlowState.{FlowState}
 use Rattle.flow_machine.specs.declared.flows.FlowState.TheVariants as state
-use Rattle.net_model.specs.Names.{key_eq}
+use Rattle.session_wire.specs.Sessions.{Session, changed_at, key_eq, new_session, opened_on, sent_on, taken_on, with_came}
 
 -- ---- the state
-
--- an item that was sent, with the stamp of the cause that sent it
-pub record Sent : Type 0 where
-  pub body : Body
-  pub stamp : ℕ
-
--- a node's side of a session
-pub record Session : Type 0 where
-  pub key : Key
-  -- the party of the other side
-  pub peer : Party
-  -- the flow that owns it, none where no flow answered
-  pub owner : Option ℕ
-  -- in order of sending
-  pub sent : List Sent
-  -- in order of arrival
-  pub came : List Body
-  -- how many of those that came were taken
-  pub taken : ℕ
-  -- the ending that was taken
-  pub ending : Option Body
 
 -- the state of a node
 pub record NodeState (F : Type 0) : Type 0 where
@@ -102,42 +81,6 @@ pub record Record (F : Type 0) : Type 0 where
 
 -- ---- sessions
 
--- the session of a key
-abbrev pub session_of : Key → List Session → Option Session
-session_of key sessions = find (λ s. key_eq key s.key) sessions
-
--- the sessions, with the one of the key changed
-abbrev pub changed_at : Key → (Session → Session) → List Session → List Session
-changed_at key change sessions = map (λ s. if key_eq key s.key then change s else s) sessions
-
--- a session in which nothing was sent
-abbrev pub new_session : Key → Party → Option ℕ → List Body → Session
-new_session key peer owner came = record { key = key; peer = peer; owner = owner; sent = []; came = came; taken = 0; ending = None }
-
--- a session once more has come
-abbrev pub with_came : List Body → Session → Session
-with_came bodies s = record s { came = s.came ++ bodies }
-
--- a session once an item was sent
-abbrev pub with_sent : Sent → Session → Session
-with_sent item s = record s { sent = s.sent ++ item ∷ [] }
-
--- the body, where it ends the other side
-abbrev pub ending_of : Body → Option Body
-ending_of (body_of.Reject code) = Some (body_of.Reject code)
-ending_of (body_of.Error code) = Some (body_of.Error code)
-ending_of body_of.End = Some body_of.End
-ending_of _ = None
-
--- the ending that is the last of the first n items
-abbrev pub ending_at : List Body → ℕ → Option Body
-ending_at came zero = None
-ending_at came (suc n) = option_and_then ending_of (slice_get came n)
-
--- a session once its first n items are taken
-abbrev pub with_taken : ℕ → Session → Session
-with_taken n s = record s { taken = n; ending = option_or s.ending (ending_at s.came n) }
-
 -- the sessions once an item was accepted: an Answer makes the session, an Arrive adds to it
 abbrev pub came_on : Event → List Body → Option ℕ → List Session → List Session
 came_on (event.Answer key) bodies owner sessions = sessions ++ new_session key key.initiator owner bodies ∷ []
@@ -145,21 +88,6 @@ came_on (event.Arrive key direction number) bodies owner sessions = changed_at k
 came_on (event.Start flow class args) bodies owner sessions = sessions
 came_on (event.Move flow) bodies owner sessions = sessions
 came_on (event.Lapse flow) bodies owner sessions = sessions
-
--- the sessions once one was opened
-abbrev pub opened_on : Option (Key × Party) → Option ℕ → List Session → List Session
-opened_on None owner sessions = sessions
-opened_on (Some opened) owner sessions = sessions ++ new_session opened.0 opened.1 owner [] ∷ []
-
--- the sessions once items were sent under a stamp
-abbrev pub sent_on : ℕ → List SentItem → List Session → List Session
-sent_on stamp [] sessions = sessions
-sent_on stamp (item ∷ items) sessions = sent_on stamp items (changed_at item.key (with_sent (record { body = item.body; stamp = stamp })) sessions)
-
--- the sessions once items of one were taken
-abbrev pub taken_on : Option (Key × ℕ) → List Session → List Session
-taken_on None sessions = sessions
-taken_on (Some taken) sessions = changed_at taken.0 (with_taken taken.1) sessions
 
 -- ---- flows and locks
 

@@ -32,9 +32,10 @@ use Rattle.flow_machine.specs.declared.flow_set.MakeFault.{MakeFault}
 use Rattle.flow_machine.specs.declared.flows.Checkpoint.{Checkpoint}
 use Rattle.flow_machine.specs.declared.flows.FlowState.{FlowState}
 use Rattle.flow_machine.specs.declared.flows.FlowState.TheVariants as state
+use Rattle.session_wire.specs.Sessions.{Sent, Session, next_item, session_of}
 use Rattle.net_model.specs.Names.{number_is}
 use Rattle.net_model.specs.Environment.{Environment, party, identity}
-use Rattle.net_model.specs.State.{Sent, Session, NodeState, FlowPart, no_flow, now_live, now_ended, now_failed, Change, Effect, nothing, with_ids, session_of, apply_effect}
+use Rattle.net_model.specs.State.{NodeState, FlowPart, no_flow, now_live, now_ended, now_failed, Change, Effect, nothing, with_ids, apply_effect}
 
 -- ---- names at a node
 
@@ -98,21 +99,6 @@ opens w me s f to class first =
 abbrev pub sends : ℕ → Value → Option Session → Done
 sends me value None = (resumed.Refused 58, nothing)
 sends me value (Some session) = (resumed.Sent, record nothing { sent = item_on me session (body_of.Data value) ∷ [] })
-
--- whether a body is a Confirm
-abbrev pub is_confirm : Body → Bool
-is_confirm body_of.Confirm = true
-is_confirm _ = false
-
--- the first item that isn't a Confirm, with its number; n is the number of the first of the list
-abbrev pub first_item : ℕ → List Body → Option (ℕ × Body)
-first_item n [] = None
-first_item n (body ∷ bodies) = if is_confirm body then first_item (n + 1) bodies else Some (n, body)
-
--- the item that is there for a Receive: an ending that was taken has no number
-abbrev pub next_item : Session → Option Body → Option (Option ℕ × Body)
-next_item session (Some ending) = Some (None, ending)
-next_item session None = option_map (λ found. (Some found.0, found.1)) (first_item session.taken (drop session.taken session.came))
 
 -- what a frame is resumed with once an item is taken
 abbrev pub handed : Body → Resumed

@@ -13,8 +13,9 @@ use Rattle.flow_machine.specs.Machine.{Machine}
 use Rattle.flow_machine.specs.declared.flows.FlowState.{FlowState}
 use Rattle.flow_machine.specs.declared.flows.FlowState.TheVariants as state
 use Rattle.flow_machine.specs.Tags.{answer_tags, value_tags, act_tags, KeepsTags, BeginsBare}
+use Rattle.session_wire.specs.Sessions.{Session}
 use Rattle.net_model.specs.Environment.{Environment}
-use Rattle.net_model.specs.State.{Session, NodeState}
+use Rattle.net_model.specs.State.{NodeState}
 use Rattle.net_model.specs.Runs.{run_of}
 
 -- the tags in a body
