@@ -1,3 +1,6 @@
+ghost use Rattle.std.specs.Prelude.{ℕ};
+ghost use Rattle.checkpoints.specs.Tables.{IsNumbered};
+
 use super::*;
 use flow_machine::{Act, Counter, Phase};
 use ledger_types::Value;
@@ -5,7 +8,9 @@ use std::alloc::Global;
 use std::test::Fail;
 
 /// A flow that has just begun to sleep.
-fn begun(alloc: Global, flow: u32) -> FlowState<Counter> {
+fn begun(alloc: Global, flow: u32) -> FlowState<Counter>
+    ensures { IsNumbered flow result }
+{
     let frame = Counter {
         phase: Phase::Sleeping,
         left: 1,
@@ -20,7 +25,9 @@ fn begun(alloc: Global, flow: u32) -> FlowState<Counter> {
     })
 }
 
-fn ended() -> FlowState<Counter> {
+fn ended() -> FlowState<Counter>
+    ensures { (n : ℕ) → IsNumbered n result }
+{
     FlowState::Ended {
         step: 2,
         class: 1,

@@ -13,7 +13,7 @@ invariant_of-self g c =
     let flows = c.self.inside.states.items in
     let state = c.args.state in
     let flow = c.args.flow in
-    let le : flow ≤ length flows = subst (λ (t : Table _). flow ≤ length t.flows) (sym c.self.view_is) c.requires.place in
+    let le : flow ≤ length flows = subst (λ (t : Table _). flow ≤ length t.flows) (sym {A = Table _} c.self.view_is) c.requires.place in
     let now = sym c.put_at.ensures.items in
     let lives = marked flow state flows c.self.inside.live.items c.mark.new.live.items le c.self.invariant.0 (λ lower upper there is all_lower all_upper. subst (λ (b : Bool). c.mark.new.live.items ≡ lower ++ (where_true b flow ++ upper)) c.goes_on-live.ensures (c.mark.ensures.marked lower upper there is all_lower all_upper)) in
     let numbered = numbered_with 0 flow flow state flows (omega arith) c.self.invariant.1.0 c.requires.own le in
