@@ -1,7 +1,6 @@
 -- The limits and orders that acts, results and places keep. What is spelt within its limits has a spelling.
 use Rattle.std.specs.Prelude.{◌<◌, ◌≤◌, ◌^◌, length, IfSome}
 use Rattle.std.specs.List.{AllByRecursion}
-use Rattle.net_base.specs.Framing.{ListBetween}
 use Rattle.net_base.specs.Values.{IsHash, IsParty, IsMoment}
 use Rattle.net_base.specs.Names.{IsStateRef, IsToken, IsKey, IsTag}
 use Rattle.ledger_types.specs.declared.held.Held.{Held}
@@ -14,7 +13,7 @@ use Rattle.flow_machine.specs.declared.acts.Act.TheVariants as act
 use Rattle.flow_machine.specs.declared.acts.Resumed.{Resumed}
 use Rattle.flow_machine.specs.declared.acts.Resumed.TheVariants as resumed
 use Rattle.flow_machine.specs.declared.acts.Place.{Place}
-use Rattle.flow_machine.specs.Stacks.{Frames, bottom_first}
+use Rattle.flow_machine.specs.Stacks.{Frames}
 
 -- the limits of an act, where a frame has these
 abbrev pub IsAct : {F : Type 0} → (F → Type 0) → Act F → Type 0
@@ -69,6 +68,6 @@ pub record IsPlace (at : Place) : Type 0 where
   pub step : at.step < 2 ^ 32
   pub moment : IsMoment at.now
 
--- one to eight frames within their limits
+-- the limits of a stack, where a frame has these: at most 7 frames below the top one
 abbrev pub IsStack : {F : Type 0} → (F → Type 0) → Frames F → Type 0
-IsStack within stack = ListBetween 1 8 within (bottom_first stack)
+IsStack within stack = within stack.top × ((length stack.below ≤ 7) × AllByRecursion within stack.below)

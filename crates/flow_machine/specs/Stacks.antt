@@ -1,11 +1,7 @@
 -- The frames of a live flow.
-use Rattle.std.specs.Prelude.{List, [], ◌∷◌, ◌++◌, reverse}
+use Rattle.std.specs.Prelude.{List}
 
 -- the frame that is resumed next, and those below it, the nearest first
 pub record Frames (F : Type 0) : Type 0 where
   pub top : F
   pub below : List F
-
--- the frames, the bottom first
-abbrev pub bottom_first : {F : Type 0} → Frames F → List F
-bottom_first stack = reverse stack.below ++ stack.top ∷ []

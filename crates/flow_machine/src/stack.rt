@@ -1,17 +1,13 @@
 //! The frames of a live flow.
 
-ghost use Rattle.std.specs.Prelude.{◌≡◌, ◌+◌, ◌∷◌, ◌++◌, ◌<◌, ◌≤◌, [], List, Option, Some, None, length, slice_get, reverse, map, OnOk, OnErr, IfOk, MatchOption};
+ghost use Rattle.std.specs.Prelude.{◌≡◌, ◌+◌, ◌∷◌, ◌<◌, ◌≤◌, [], length, reverse, OnOk, OnErr, IfOk, MatchOption};
 ghost use Rattle.std.specs.List.{AllByRecursion};
 ghost use Rattle.flow_machine.specs.Limits.{IsStack};
-ghost use Rattle.flow_machine.specs.Stacks.{bottom_first};
 
 use super::{FlowSet, copy_frame};
 use std::alloc::{AllocError, Global};
 use std::marker::Model;
 use std::mem;
-
-/// The most frames of a flow.
-pub const MOST_FRAMES: usize = 8;
 
 /// The frames of a live flow: the one that is resumed next, and those that wait below it for a subflow to return. A flow has at
 /// most 8.
