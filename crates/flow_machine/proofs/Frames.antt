@@ -1,5 +1,5 @@
 -- Frames within their limits.
-use Rattle.std.proofs.Common.{◌≡◌, List, [], ◌∷◌, ◌++◌, subst, sym, reverse}
+use Rattle.std.proofs.Common.{List, [], ◌∷◌, ◌++◌, subst, sym, reverse}
 use Rattle.std.specs.List.{AllByRecursion}
 use Rattle.std.proofs.lemmas.List.{reverse-append, reverse-reverse}
 use Rattle.flow_machine.specs.Limits.{IsStack}

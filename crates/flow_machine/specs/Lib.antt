@@ -6,3 +6,5 @@ pub mod Tags
 pub mod Unnamed
 pub mod Counter
 pub mod CounterLaws
+pub mod Acts
+pub mod Checkpoints

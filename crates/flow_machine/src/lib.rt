@@ -4,7 +4,9 @@
 //! when the act is performed the frame is resumed with the result, and gives the next frame and the next act.
 #![tactic(auto)]
 
+mod act_spelling;
 mod acts;
+mod checkpoint_spelling;
 mod counter;
 mod fields;
 mod flow_set;
@@ -13,7 +15,9 @@ mod stack;
 #[cfg(test)]
 mod tests;
 
+pub use act_spelling::FrameBytes;
 pub use acts::{Act, Place, Resumed};
+pub use checkpoint_spelling::same_bytes;
 pub use counter::{Counter, Phase};
 pub use flow_set::{
     FlowSet, MakeFault, WordFault, args_are_short, begins_bare, copy_frame, frames_are_spelt,

@@ -1,0 +1,12 @@
+use Rattle.std.proofs.Common.{◌≡◌, ◌-◌, ◌≤◌, length}
+use Rattle.net_base.specs.Forms.{items_at}
+use Rattle.net_base.specs.Parts.{SameEnd}
+use Rattle.net_base.proofs.Items.{with_front}
+use Rattle.flow_machine.proofs.checkpoint_spelling.read_frames.Given as goal
+
+abbrev pub invariant-loop : goal.invariant-loop
+invariant-loop g l = record {
+  given : with_front l.frames.items (items_at g.F.Spelt.reading (l.count - l.counter) l.from.left) ≡ items_at g.F.Spelt.reading l.count l.fn.from.left;
+  end : SameEnd l.fn.from l.from;
+  few : length l.frames.items ≤ l.counter;
+}
