@@ -1,0 +1,5 @@
+pub mod Found
+pub mod Items
+pub mod Keeping
+pub mod Stepping
+pub mod Written
