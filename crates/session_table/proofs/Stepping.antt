@@ -1,13 +1,16 @@
 -- What a step of the table makes of the sessions that contracts see.
-use Rattle.std.proofs.Common.{◌≡◌, ℕ, ◌+◌, Bool, true, false, List, [], ◌∷◌, ◌++◌, Option, Some, None, refl, sym, ◌∙◌, ap, subst, cond, map, length, slice_get, arith, is_some, option_map, true≢false, filter, ◌≤◌}
+use Rattle.std.proofs.Common.{◌≡◌, ℕ, ◌+◌, Bool, true, false, List, [], ◌∷◌, ◌++◌, Option, Some, None, refl, sym, ◌∙◌, ap, subst, cond, map, length, slice_get, arith, is_some, option_map, true≢false, filter, ◌≤◌, ◌-◌, zero, suc}
+use Rattle.std.specs.Option.{option_and_then}
 use Rattle.std.proofs.lemmas.List.{length-map}
 use Rattle.std.specs.List.{IsDistinct, list_all}
 use Rattle.std.specs.Map.{lookup, set_value, keys_of}
 use Rattle.net_base.specs.declared.names.Key.{Key}
 use Rattle.net_base.specs.declared.values.Party.{Party}
 use Rattle.session_wire.specs.declared.body.Body.{Body}
-use Rattle.session_wire.specs.Sessions.{Session, key_eq, session_of, changed_at, new_session, with_came, with_sent, with_taken}
-use Rattle.session_table.specs.Changes.{is_opened_by}
+use Rattle.session_wire.specs.Sessions.{Session, key_eq, session_of, changed_at, new_session, with_came, with_sent, with_taken, ending_at, ending_of, sent_on}
+use Rattle.session_table.specs.Changes.{is_opened_by, opened_by, is_init, came_on, FitsCame, FitsOpened, acks_of_came, acks_of_opened}
+use Rattle.session_wire.specs.declared.change.SessionChange.{SessionChange}
+use Rattle.session_wire.specs.declared.change.SentItem.{SentItem}
 use Rattle.session_table.specs.Kept.{is_below, items_of, place_of, sent_of, session_at, IsKept, IsCounted, Rewrites, one_came, one_sent, taken_to, acked_to}
 use Rattle.session_table.specs.declared.standing.Standing.{Standing}
 use Rattle.session_table.specs.declared.standing.Place.{Place}
@@ -166,3 +169,114 @@ filter_le {X} test (x ∷ xs) = by (test x) (filter_le test xs)
     by : (b : Bool) → length (filter test xs) ≤ length xs → length (cond b (x ∷ filter test xs) (filter test xs)) ≤ length (x ∷ xs)
     by true rest = omega (arith, rest)
     by false rest = omega (arith, rest)
+
+-- the ending among the first n items is the last of them
+pub ending_found : (came : List Body) (n : ℕ) → (n ≡ 0 → ⊥) → ending_at came n ≡ option_and_then ending_of (slice_get came (n - 1))
+ending_found came zero some = absurd (some refl)
+ending_found came (suc m) some = let back : suc m - 1 ≡ m = omega arith in ap (λ (k : ℕ). option_and_then ending_of (slice_get came k)) (sym back)
+
+-- a session that was made takes its first item
+pub came_begun : (list : List Session) (k : Key) (peer : Party) (owner : Option ℕ) (x : Body) → session_of k list ≡ None → changed_at k (with_came (x ∷ [])) (list ++ new_session k peer owner [] ∷ []) ≡ list ++ new_session k peer owner (x ∷ []) ∷ []
+came_begun [] k peer owner x new = let same = key_same k in rw same refl
+came_begun (s ∷ ss) k peer owner x new = by (key_eq k s.key) refl (λ rest. came_begun ss k peer owner x rest)
+  where
+    by : (b : Bool) → key_eq k s.key ≡ b → (session_of k ss ≡ None → changed_at k (with_came (x ∷ [])) (ss ++ new_session k peer owner [] ∷ []) ≡ ss ++ new_session k peer owner (x ∷ []) ∷ []) → changed_at k (with_came (x ∷ [])) ((s ∷ ss) ++ new_session k peer owner [] ∷ []) ≡ (s ∷ ss) ++ new_session k peer owner (x ∷ []) ∷ []
+    by true is ih = absurd (let e : Some s ≡ None = rw is at new in cc e)
+    by false is ih = let rest : session_of k ss ≡ None = rw is at new in rw is (ap (λ l. s ∷ l) (ih rest))
+
+-- and stands then
+pub stands_begun : (list : List Session) (k : Key) (peer : Party) (owner : Option ℕ) → session_of k list ≡ None → session_of k (list ++ new_session k peer owner [] ∷ []) ≡ Some (new_session k peer owner [])
+stands_begun [] k peer owner new = let same = key_same k in rw same refl
+stands_begun (s ∷ ss) k peer owner new = by (key_eq k s.key) refl (λ rest. stands_begun ss k peer owner rest)
+  where
+    by : (b : Bool) → key_eq k s.key ≡ b → (session_of k ss ≡ None → session_of k (ss ++ new_session k peer owner [] ∷ []) ≡ Some (new_session k peer owner [])) → session_of k ((s ∷ ss) ++ new_session k peer owner [] ∷ []) ≡ Some (new_session k peer owner [])
+    by true is ih = absurd (let e : Some s ≡ None = rw is at new in cc e)
+    by false is ih = let rest : session_of k ss ≡ None = rw is at new in rw is (ih rest)
+
+-- as many were opened where a session takes the place of one of its key
+opened_head : (me : Party) (s t : Session) (ss ts : List Session) → t.key ≡ s.key → opened_by me ts ≡ opened_by me ss → opened_by me (t ∷ ts) ≡ opened_by me (s ∷ ss)
+opened_head me s t ss ts same rest = inner (is_opened_by me s.key) refl
+  where
+    inner : (b : Bool) → is_opened_by me s.key ≡ b → opened_by me (t ∷ ts) ≡ opened_by me (s ∷ ss)
+    inner true is = let other : is_opened_by me t.key ≡ true = ap (is_opened_by me) same ∙ is in rw is (rw other (omega (arith, rest)))
+    inner false is = let other : is_opened_by me t.key ≡ false = ap (is_opened_by me) same ∙ is in rw is (rw other rest)
+
+-- a change of one session changes no key
+pub opened_same : (me : Party) (k : Key) (change : Session → Session) → ((s : Session) → (change s).key ≡ s.key) → (list : List Session) → opened_by me (changed_at k change list) ≡ opened_by me list
+opened_same me k change keeps [] = refl
+opened_same me k change keeps (s ∷ ss) = opened_head me s (cond (key_eq k s.key) (change s) s) ss (changed_at k change ss) (by (key_eq k s.key)) (opened_same me k change keeps ss)
+  where
+    by : (b : Bool) → (cond b (change s) s).key ≡ s.key
+    by true = keeps s
+    by false = refl
+
+-- nor does a session that another party opened count
+pub opened_other : (me : Party) (list : List Session) (s : Session) → is_opened_by me s.key ≡ false → opened_by me (list ++ s ∷ []) ≡ opened_by me list
+opened_other me [] s other = rw other refl
+opened_other me (t ∷ ts) s other = by (is_opened_by me t.key) (opened_other me ts s other)
+  where
+    by : (b : Bool) → opened_by me (ts ++ s ∷ []) ≡ opened_by me ts → length (cond b (t ∷ filter (λ s. is_opened_by me s.key) (ts ++ s ∷ [])) (filter (λ s. is_opened_by me s.key) (ts ++ s ∷ []))) ≡ length (cond b (t ∷ filter (λ s. is_opened_by me s.key) ts) (filter (λ s. is_opened_by me s.key) ts))
+    by true rest = omega (arith, rest)
+    by false rest = rest
+
+-- an accepted item opens no session of the node's own
+pub opened_came : (me : Party) (change : SessionChange) (came_key : Option Key) (came : Option Body) (owner : Option ℕ) (list : List Session) → FitsCame me list change came_key came → opened_by me (came_on came_key came owner list) ≡ opened_by me list
+opened_came me change None None owner list fits = refl
+opened_came me change None (Some body) owner list fits = absurd fits
+opened_came me change (Some key) None owner list fits = absurd fits
+opened_came me change (Some key) (Some body) owner list fits = by (is_init body) refl
+  where
+    by : (b : Bool) → is_init body ≡ b → opened_by me (came_on (Some key) (Some body) owner list) ≡ opened_by me list
+    by true is = let a = fits.begins is in rw is (opened_other me list (new_session key key.initiator owner (body ∷ [])) a.other)
+    by false is = rw is (opened_same me key (with_came (body ∷ [])) (λ s. refl) list)
+
+-- where no session is opened that is to be, none is taken for that
+pub opens_next : (me : Party) (list after : List Session) (sent : List SentItem) (opened : Option (Key × Party)) → opened_by me after ≡ opened_by me list → FitsOpened me list sent opened → FitsOpened me after sent opened
+opens_next me list after sent None same fits = tt
+opens_next me list after sent (Some opened) same fits = record { own = fits.own; next = fits.next ∙ sym same; other = fits.other; init = fits.init }
+
+pub nil_end : {V : Type 0} (xs : List V) → xs ++ [] ≡ xs
+nil_end [] = refl
+nil_end (x ∷ xs) = ap (λ l. x ∷ l) (nil_end xs)
+
+-- a change of sessions that keeps their keys loses none
+stands_head : (q : Key) (s t : Session) (ss ts : List Session) → t.key ≡ s.key → is_some (session_of q ts) ≡ is_some (session_of q ss) → is_some (session_of q (t ∷ ts)) ≡ is_some (session_of q (s ∷ ss))
+stands_head q s t ss ts same rest = by (key_eq q s.key) refl
+  where
+    by : (b : Bool) → key_eq q s.key ≡ b → is_some (session_of q (t ∷ ts)) ≡ is_some (session_of q (s ∷ ss))
+    by true is = let other : key_eq q t.key ≡ true = ap (key_eq q) same ∙ is in rw is (rw other refl)
+    by false is = let other : key_eq q t.key ≡ false = ap (key_eq q) same ∙ is in rw is (rw other rest)
+
+stands_changed : (q k : Key) (change : Session → Session) → ((s : Session) → (change s).key ≡ s.key) → (list : List Session) → is_some (session_of q (changed_at k change list)) ≡ is_some (session_of q list)
+stands_changed q k change keeps [] = refl
+stands_changed q k change keeps (s ∷ ss) = stands_head q s (cond (key_eq k s.key) (change s) s) ss (changed_at k change ss) (by (key_eq k s.key)) (stands_changed q k change keeps ss)
+  where
+    by : (b : Bool) → (cond b (change s) s).key ≡ s.key
+    by true = keeps s
+    by false = refl
+
+pub stands_sent : (q : Key) (stamp : ℕ) (items : List SentItem) (list : List Session) → is_some (session_of q (sent_on stamp items list)) ≡ is_some (session_of q list)
+stands_sent q stamp [] list = refl
+stands_sent q stamp (x ∷ xs) list = stands_sent q stamp xs (sent_on stamp (x ∷ []) list) ∙ stands_changed q x.key (with_sent (record { body = x.body; stamp = stamp })) (λ s. refl) list
+
+pub none_came : (k : Option Key) (owner : Option ℕ) (list : List Session) → came_on k None owner list ≡ list
+none_came None owner list = refl
+none_came (Some k) owner list = refl
+
+pub none_acked : (k : Option Key) → acks_of_came k None ≡ []
+none_acked None = refl
+none_acked (Some k) = refl
+
+pub few_acks : (k : Option Key) (o : Option Body) → length (acks_of_came k o) ≤ 1
+few_acks None None = omega arith
+few_acks None (Some b) = omega arith
+few_acks (Some k) None = omega arith
+few_acks (Some k) (Some b) = by (is_init b)
+  where
+    by : (t : Bool) → length (cond t (0 ∷ []) []) ≤ 1
+    by true = omega arith
+    by false = omega arith
+
+pub few_opened : (o : Option (Key × Party)) → length (acks_of_opened o) ≤ 1
+few_opened None = omega arith
+few_opened (Some o) = omega arith

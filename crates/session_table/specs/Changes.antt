@@ -167,4 +167,4 @@ arrived_in (Some key) sessions = option_map_or (λ s. length s.came) (session_of
 
 -- how much room a change may take: two sessions are made and one item is accepted at most
 abbrev pub room_for : SessionChange → ℕ
-room_for change = length change.sent + 2
+room_for change = length change.sent + 3

@@ -4,7 +4,10 @@ ghost use Rattle.std.specs.Prelude.{◌≡◌, ◌<◌, ◌≤◌, ◌+◌, ◌-
 ghost use Rattle.std.specs.List.{list_all};
 ghost use Rattle.std.specs.Option.{option_and_then};
 ghost use Rattle.session_wire.specs.Sessions.{Session, session_of, changed_at, new_session, with_came, with_sent, with_taken, opened_on, sent_on, taken_on, next_item, first_item, ending_at};
-ghost use Rattle.session_table.specs.Changes.{is_opened_by, opened_by, direction_out, direction_in, is_init, IsFitting, Continues, FitsSent, FitsTaken, AcceptsItem, answered_for, came_on, changed_by, acks_of_came, acks_of_opened, acks_after, arrived_in, room_for};
+ghost use Rattle.session_table.specs.Changes.{is_opened_by, opened_by, direction_out, direction_in, is_init, IsFitting, Continues, FitsCame, FitsOpened, FitsSent, FitsTaken, AcceptsItem, answered_for, came_on, changed_by, acks_of_came, acks_of_opened, acks_after, arrived_in, room_for};
+ghost use Rattle.session_wire.specs.declared.change.SessionChange.{SessionChange as Change};
+ghost use Rattle.net_base.specs.declared.names.Key.{Key as SessionKey};
+ghost use Rattle.session_wire.specs.declared.change.SentItem.{SentItem as Sending};
 ghost use Rattle.session_table.specs.Tables.{numbered, arrived_at, item_there, keys_of_flow, raised, items_from, unacked_in, unacked_items};
 
 use crate::item::{Item, ItemList};
@@ -189,11 +192,114 @@ impl Sessions {
         ensures room { OnOk result (room_for change.now ≤ self.new.room) }
         ensures keeps { self.old.room ≤ self.new.room }
     {
-        let items = change.sent.len() + 2;
+        let items = change.sent.len() + 3;
         self.lines.reserve(items)?;
         self.sent.reserve(items)?;
         self.came.reserve(items)?;
         Ok(())
+    }
+
+    /// Makes a change, for which there is room: it takes no memory. First the item is accepted, then the session opened,
+    /// then items are sent, each with the stamp of the change's cause, and last the number of taken items is set.
+    pub fn apply(&mut self, change: SessionChange, stamp: u64)
+        requires fits { IsFitting self.old.party stamp self.old.list change }
+        requires room { room_for change ≤ self.old.room }
+        requires few_sessions { length self.old.list + 2 < 2 ^ 32 }
+        requires few_came { arrived_in change.came_key self.old.list + 1 < 2 ^ 32 }
+        requires few_sent { list_all (λ item. nat_lt (item.seq + 1) (2 ^ 32)) change.sent ≡ true }
+        ensures party { self.new.party ≡ self.old.party }
+        ensures list { self.new.list ≡ changed_by stamp change self.old.list }
+        ensures acked { self.new.acked ≡ acks_after change self.old.acked }
+        ensures room { self.old.room ≤ self.new.room + room_for change }
+    {
+        let owner = owner_of_answer(change.sent.as_slice(), change.owner);
+        self.accept(change.came_key, change.came, owner);
+        self.open(change.opened, change.owner);
+        self.send(change.sent, stamp);
+        self.take(change.taken);
+    }
+
+    /// Accepts an item, if there is one. An `Init` makes its session, any other item joins those of its session.
+    #[tactic(auto)]
+    fn accept(&mut self, came_key: Option<Key>, came: Option<Body>, owner: Option<u32>)
+        requires fits { (change : Change) × FitsCame self.old.party self.old.list change came_key came }
+        requires room { 2 ≤ self.old.room }
+        requires few { length self.old.list + 1 < 2 ^ 32 }
+        requires few_came { arrived_in came_key self.old.list + 1 < 2 ^ 32 }
+        ensures party { self.new.party ≡ self.old.party }
+        ensures list { self.new.list ≡ came_on came_key came owner self.old.list }
+        ensures acked { self.new.acked ≡ self.old.acked ++ acks_of_came came_key came }
+        ensures room { self.old.room ≤ self.new.room + (1 + length (acks_of_came came_key came)) }
+        ensures few { length self.new.list ≤ length self.old.list + 1 }
+    {
+        if let Some(body) = came {
+            self.accept_item(came_key.unwrap(), body, owner);
+        }
+    }
+
+    #[tactic(auto)]
+    fn accept_item(&mut self, key: Key, body: Body, owner: Option<u32>)
+        requires fits { (change : Change) × AcceptsItem self.old.party self.old.list change key body }
+        requires room { 2 ≤ self.old.room }
+        requires few { length self.old.list + 1 < 2 ^ 32 }
+        requires few_came { arrived_in (Some key) self.old.list + 1 < 2 ^ 32 }
+        ensures party { self.new.party ≡ self.old.party }
+        ensures list { self.new.list ≡ came_on (Some key) (Some body) owner self.old.list }
+        ensures acked { self.new.acked ≡ self.old.acked ++ acks_of_came (Some key) (Some body) }
+        ensures room { self.old.room ≤ self.new.room + (1 + length (acks_of_came (Some key) (Some body))) }
+        ensures few { length self.new.list ≤ length self.old.list + 1 }
+    {
+        if is_init(&body) {
+            self.begin(key, key.initiator, owner);
+            self.add_came(key, body);
+            return;
+        }
+        self.add_came(key, body);
+    }
+
+    /// Opens a session, if there is one to be opened.
+    #[tactic(auto)]
+    fn open(&mut self, opened: Option<(Key, Party)>, owner: u32)
+        requires fits { (sent : List Sending) × FitsOpened self.old.party self.old.list sent opened }
+        requires room { 0 < self.old.room }
+        requires few { length self.old.list + 1 < 2 ^ 32 }
+        ensures party { self.new.party ≡ self.old.party }
+        ensures list { self.new.list ≡ opened_on opened (Some owner) self.old.list }
+        ensures acked { self.new.acked ≡ self.old.acked ++ acks_of_opened opened }
+        ensures room { self.old.room ≤ self.new.room + length (acks_of_opened opened) }
+    {
+        if let Some((key, peer)) = opened {
+            self.begin(key, peer, Some(owner));
+        }
+    }
+
+    /// Sends items, one after the other.
+    fn send(&mut self, items: SentList, stamp: u64)
+        requires fits { FitsSent self.old.party stamp self.old.list items }
+        requires room { length items ≤ self.old.room }
+        requires few { list_all (λ item. nat_lt (item.seq + 1) (2 ^ 32)) items ≡ true }
+        ensures party { self.new.party ≡ self.old.party }
+        ensures list { self.new.list ≡ sent_on stamp items self.old.list }
+        ensures acked { self.new.acked ≡ self.old.acked }
+        ensures room { self.old.room ≤ self.new.room + length items }
+    {
+        for item in items.into_vec() {
+            self.add_sent(item, stamp);
+        }
+    }
+
+    /// Takes items, if some are to be taken.
+    #[tactic(auto)]
+    fn take(&mut self, taken: Option<(Key, u32)>)
+        requires { (key : SessionKey) (n : ℕ) → taken ≡ Some (key, n) → is_some (session_of key self.old.list) ≡ true }
+        ensures party { self.new.party ≡ self.old.party }
+        ensures list { self.new.list ≡ taken_on taken self.old.list }
+        ensures acked { self.new.acked ≡ self.old.acked }
+        ensures room { self.old.room ≤ self.new.room }
+    {
+        if let Some((key, number)) = taken {
+            self.set_taken(key, number);
+        }
     }
 
     /// Makes a session without items. Its number is the next one where this node opens it, else its key is new.
@@ -292,6 +398,17 @@ impl Sessions {
             return;
         }
         raise_acked(&mut self.lines, key, upto);
+    }
+}
+
+/// The flow that owns an answered session: the one that is named where the first item says `Confirm`, else none.
+#[tactic(auto)]
+fn owner_of_answer(sent: &[SentItem], owner: u32) -> Option<u32>
+    ensures { result ≡ answered_for owner sent.now }
+{
+    match sent.first() {
+        Some(item) if is_confirm(&item.body) => Some(owner),
+        _ => None,
     }
 }
 
