@@ -2,4 +2,5 @@ pub mod Found
 pub mod Items
 pub mod Keeping
 pub mod Stepping
+pub mod Taking
 pub mod Written

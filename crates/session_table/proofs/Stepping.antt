@@ -273,10 +273,14 @@ few_acks None (Some b) = omega arith
 few_acks (Some k) None = omega arith
 few_acks (Some k) (Some b) = by (is_init b)
   where
-    by : (t : Bool) → length (cond t (0 ∷ []) []) ≤ 1
+    by : (t : Bool) → length {A = ℕ} (cond t (0 ∷ []) []) ≤ 1
     by true = omega arith
     by false = omega arith
 
 pub few_opened : (o : Option (Key × Party)) → length (acks_of_opened o) ≤ 1
 few_opened None = omega arith
 few_opened (Some o) = omega arith
+
+pub no_items : (stamp : ℕ) (items : List SentItem) (list : List Session) → length items ≡ 0 → sent_on stamp items list ≡ list
+no_items stamp [] list e = refl
+no_items stamp (x ∷ xs) list e = absurd (omega (arith, e))

@@ -10,7 +10,7 @@ use Rattle.session_wire.specs.declared.change.SessionChange.{SessionChange}
 use Rattle.session_wire.specs.declared.change.SentItem.{SentItem}
 use Rattle.session_wire.specs.Sessions.{Session, session_of, with_came, with_sent, with_taken, new_session, changed_at, key_eq, opened_on, sent_on, taken_on}
 use Rattle.session_table.specs.Changes.{is_opened_by, opened_by, is_init, came_on, acks_of_came, acks_of_opened, FitsCame, FitsOpened, FitsSent, FitsTaken, AcceptsItem, begun_on, room_for, answered_for, acks_after, arrived_in}
-use Rattle.session_table.proofs.Stepping.{came_begun, stands_begun, opened_came, opens_next, nil_end, none_came, none_acked, few_acks, few_opened, stands_sent}
+use Rattle.session_table.proofs.Stepping.{came_begun, stands_begun, opened_came, opens_next, nil_end, none_came, none_acked, few_acks, few_opened, stands_sent, no_items}
 use Rattle.session_table.proofs.sessions.Sessions.send.Goals as goal
 
 pub loop-item-init : goal.loop-item-init
@@ -32,7 +32,7 @@ add_sent-requires-clause-continues c =
     let steps = c.in-Some.ensures.steps.0 in
     let v = c.loop-item.invariant in
     let fits = subst (λ (l : List SentItem). FitsSent c.loop-item.self.party c.args.stamp c.loop-item.self.list l) steps v.fits in
-    let few = and_parts _ _ (sym (ap (list_all (λ i. nat_lt (i.seq + 1) (2 ^ 32))) steps) ∙ v.few) in
+    let few = and_parts (nat_lt (c.in-Some.item.seq + 1) (2 ^ 32)) (list_all (λ i. nat_lt (i.seq + 1) (2 ^ 32)) c.next.new.self.rest.items) (sym (ap (list_all (λ i. nat_lt (i.seq + 1) (2 ^ 32))) steps) ∙ v.few) in
     let one = ap length steps in
     fits.0
 
@@ -41,7 +41,7 @@ add_sent-requires-clause-room c =
     let steps = c.in-Some.ensures.steps.0 in
     let v = c.loop-item.invariant in
     let fits = subst (λ (l : List SentItem). FitsSent c.loop-item.self.party c.args.stamp c.loop-item.self.list l) steps v.fits in
-    let few = and_parts _ _ (sym (ap (list_all (λ i. nat_lt (i.seq + 1) (2 ^ 32))) steps) ∙ v.few) in
+    let few = and_parts (nat_lt (c.in-Some.item.seq + 1) (2 ^ 32)) (list_all (λ i. nat_lt (i.seq + 1) (2 ^ 32)) c.next.new.self.rest.items) (sym (ap (list_all (λ i. nat_lt (i.seq + 1) (2 ^ 32))) steps) ∙ v.few) in
     let one = ap length steps in
     omega (arith, one, v.enough)
 
@@ -50,7 +50,7 @@ add_sent-requires-clause-few c =
     let steps = c.in-Some.ensures.steps.0 in
     let v = c.loop-item.invariant in
     let fits = subst (λ (l : List SentItem). FitsSent c.loop-item.self.party c.args.stamp c.loop-item.self.list l) steps v.fits in
-    let few = and_parts _ _ (sym (ap (list_all (λ i. nat_lt (i.seq + 1) (2 ^ 32))) steps) ∙ v.few) in
+    let few = and_parts (nat_lt (c.in-Some.item.seq + 1) (2 ^ 32)) (list_all (λ i. nat_lt (i.seq + 1) (2 ^ 32)) c.next.new.self.rest.items) (sym (ap (list_all (λ i. nat_lt (i.seq + 1) (2 ^ 32))) steps) ∙ v.few) in
     let one = ap length steps in
     ltb-true _ _ few.0
 
@@ -59,7 +59,7 @@ loop-item-preserved c =
     let steps = c.in-Some.ensures.steps.0 in
     let v = c.loop-item.invariant in
     let fits = subst (λ (l : List SentItem). FitsSent c.loop-item.self.party c.args.stamp c.loop-item.self.list l) steps v.fits in
-    let few = and_parts _ _ (sym (ap (list_all (λ i. nat_lt (i.seq + 1) (2 ^ 32))) steps) ∙ v.few) in
+    let few = and_parts (nat_lt (c.in-Some.item.seq + 1) (2 ^ 32)) (list_all (λ i. nat_lt (i.seq + 1) (2 ^ 32)) c.next.new.self.rest.items) (sym (ap (list_all (λ i. nat_lt (i.seq + 1) (2 ^ 32))) steps) ∙ v.few) in
     let one = ap length steps in
     record {
       party = c.add_sent.ensures.party ∙ v.party;
@@ -75,7 +75,7 @@ pub returns-clause-party : goal.returns-clause-party
 returns-clause-party c = c.loop-item.invariant.party
 
 pub returns-clause-list : goal.returns-clause-list
-returns-clause-list c = let h = c.in-None.ensures in let r = c.loop-item.item-iterator.rest in ?
+returns-clause-list c = sym (no_items c.args.stamp c.loop-item.item-iterator.rest.items c.loop-item.self.list (sym c.loop-item.item-iterator.rest.ok.0 ∙ c.in-None.ensures.steps.0)) ∙ c.loop-item.invariant.list
 
 pub returns-clause-acked : goal.returns-clause-acked
 returns-clause-acked c = c.loop-item.invariant.acked
