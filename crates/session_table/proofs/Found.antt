@@ -58,7 +58,7 @@ own_new me n k (e ∷ es) all own at = by (key_eq k e.0) refl (own_new me n k es
     both = and_parts (is_below me n e.0) (list_all (is_below me n) (keys_of es)) all
 
     by : (b : Bool) → key_eq k e.0 ≡ b → lookup (key_eq k) es ≡ None → cond b (Some e.1) (lookup (key_eq k) es) ≡ None
-    by true is rest = 
+    by true is rest =
         let at_k : is_below me n k ≡ true = subst (λ (q : Key). is_below me n q ≡ true) (sym (key_exact k e.0 is)) both.0 in
         let less : nat_lt k.number n ≡ true = subst (λ (b : Bool). (not b || nat_lt k.number n) ≡ true) own at_k in
         absurd (omega (arith, ltb-true _ _ less, at))

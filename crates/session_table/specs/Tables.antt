@@ -4,9 +4,8 @@ use Rattle.std.specs.Borrow.{Bor}
 use Rattle.std.specs.Option.{option_and_then}
 use Rattle.net_base.specs.declared.names.Key.{Key}
 use Rattle.net_base.specs.declared.values.Party.{Party}
-use Rattle.session_wire.specs.Sessions.{Session, Sent, key_eq, session_of, next_item}
+use Rattle.session_wire.specs.Sessions.{Session, key_eq, session_of, next_item}
 use Rattle.session_wire.specs.declared.body.Body.{Body}
-use Rattle.session_table.specs.declared.item.Item.{Item}
 use Rattle.session_table.specs.Changes.{direction_out, direction_in}
 
 -- what contracts see of a node's sessions
@@ -28,35 +27,11 @@ arrived_at me key direction sessions = if direction == direction_in me key then 
 abbrev pub item_there : Key → List Session → Option (Option ℕ × Body)
 item_there key sessions = option_and_then (λ s. next_item s s.ending) (session_of key sessions)
 
--- whether there is an owner and it is this flow
-abbrev pub is_owner : ℕ → Option ℕ → Bool
-is_owner flow None = false
-is_owner flow (Some owner) = owner == flow
-
--- the keys of the sessions of a flow in order of making
-abbrev pub keys_of_flow : ℕ → List Session → List Key
-keys_of_flow flow sessions = map (λ s. s.key) (filter (λ s. is_owner flow s.owner) sessions)
-
 -- the acknowledged numbers once the first `upto` items of the key's session were acknowledged in its outgoing direction; none falls
 abbrev pub raised : Party → Key → ℕ → ℕ → List Session → List ℕ → List ℕ
 raised me key direction upto [] ns = []
 raised me key direction upto (s ∷ ss) [] = []
 raised me key direction upto (s ∷ ss) (n ∷ ns) = (if key_eq key s.key && (direction == direction_out me key) then max n upto else n) ∷ raised me key direction upto ss ns
-
--- items of a session, as they are sent; n is the number of the first of them
-abbrev pub items_from : Party → Session → ℕ → List Sent → List Item
-items_from me s n [] = []
-items_from me s n (x ∷ xs) = record { peer = s.peer; key = s.key; direction = direction_out me s.key; number = n; stamp = x.stamp; body = x.body } ∷ items_from me s (n + 1) xs
-
--- the items of a session of which the first n are acknowledged, without those
-abbrev pub unacked_in : Party → Session → ℕ → List Item
-unacked_in me s n = items_from me s n (drop n s.sent)
-
--- the items that aren't acknowledged, by session in order of making and then by number
-abbrev pub unacked_items : Party → List Session → List ℕ → List Item
-unacked_items me [] ns = []
-unacked_items me (s ∷ ss) [] = []
-unacked_items me (s ∷ ss) (n ∷ ns) = unacked_in me s n ++ unacked_items me ss ns
 
 -- a number and what is referred to
 abbrev pub numbered : ℕ × Bor Body → ℕ × Body

@@ -13,7 +13,6 @@ use net_base::Key;
 use session_wire::Body;
 
 /// Puts an item into its place, which is free. There is room, so it takes no memory.
-#[tactic(auto)]
 pub(crate) fn put_item<V: Drop>(items: &mut IndexMap<Place, V>, place: Place, item: V)
     requires room { 0 < spare items.old }
     requires free { lookup (place_eq place) items.old.entries ≡ None }
@@ -24,7 +23,6 @@ pub(crate) fn put_item<V: Drop>(items: &mut IndexMap<Place, V>, place: Place, it
 }
 
 /// Adds a session behind all others. Its key is new and there is room, so it takes no memory.
-#[tactic(auto)]
 pub(crate) fn put_line(lines: &mut IndexMap<Key, Standing>, key: Key, standing: Standing)
     requires room { 0 < spare lines.old }
     requires free { lookup (key_eq key) lines.old.entries ≡ None }
@@ -35,7 +33,6 @@ pub(crate) fn put_line(lines: &mut IndexMap<Key, Standing>, key: Key, standing: 
 }
 
 /// Counts one more item that arrived in a session that stands, and gives its number.
-#[tactic(auto)]
 pub(crate) fn count_came(lines: &mut IndexMap<Key, Standing>, key: &Key) -> u32
     requires { (v : State) → Some v ≡ lookup (key_eq key.now) lines.old.entries → v.came + 1 < 2 ^ 32 }
     ensures number { (v : State) → Some v ≡ lookup (key_eq key.now) lines.old.entries → result ≡ v.came }
@@ -53,7 +50,6 @@ pub(crate) fn count_came(lines: &mut IndexMap<Key, Standing>, key: &Key) -> u32
 }
 
 /// Counts one more item that was sent in a session that stands.
-#[tactic(auto)]
 pub(crate) fn count_sent(lines: &mut IndexMap<Key, Standing>, key: &Key)
     requires { (v : State) → Some v ≡ lookup (key_eq key.now) lines.old.entries → v.sent + 1 < 2 ^ 32 }
     ensures lines { Rewrites key.now one_sent lines.old.entries lines.new.entries }
@@ -65,7 +61,6 @@ pub(crate) fn count_sent(lines: &mut IndexMap<Key, Standing>, key: &Key)
 }
 
 /// Sets how many items of a session are taken, and the ending that was taken, if none was before.
-#[tactic(auto)]
 pub(crate) fn set_taken(
     lines: &mut IndexMap<Key, Standing>,
     key: &Key,
@@ -84,7 +79,6 @@ pub(crate) fn set_taken(
 }
 
 /// Raises how many of the items that were sent in a session are acknowledged.
-#[tactic(auto)]
 pub(crate) fn raise_acked(lines: &mut IndexMap<Key, Standing>, key: &Key, upto: u32)
     ensures lines { Rewrites key.now (acked_to upto) lines.old.entries lines.new.entries }
     ensures room { spare lines.new ≡ spare lines.old }

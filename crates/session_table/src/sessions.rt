@@ -8,13 +8,12 @@ ghost use Rattle.session_table.specs.Changes.{is_opened_by, opened_by, direction
 ghost use Rattle.session_wire.specs.declared.change.SessionChange.{SessionChange as Change};
 ghost use Rattle.net_base.specs.declared.names.Key.{Key as SessionKey};
 ghost use Rattle.session_wire.specs.declared.change.SentItem.{SentItem as Sending};
-ghost use Rattle.session_table.specs.Tables.{numbered, arrived_at, item_there, keys_of_flow, raised, items_from, unacked_in, unacked_items};
+ghost use Rattle.session_table.specs.Tables.{numbered, arrived_at, item_there, raised};
 
-use crate::item::{Item, ItemList};
 use crate::lines::{count_came, count_sent, put_item, put_line, raise_acked, set_taken};
 use crate::standing::{Place, Posted, Standing, ending_of, is_confirm, is_init};
 use indexmap::IndexMap;
-use net_base::{Key, ListOf, Party};
+use net_base::{Key, Party};
 use session_wire::{Body, SentItem, SentList, SessionChange};
 use std::alloc::{AllocError, Global};
 use std::marker::Model;
@@ -107,7 +106,6 @@ impl Sessions {
     }
 
     /// The direction of what this node sends in the session.
-    #[tactic(auto)]
     fn outgoing(&self, key: &Key) -> u8
         ensures { result ≡ direction_out self.now.party key.now }
     {
@@ -119,7 +117,6 @@ impl Sessions {
     }
 
     /// The direction of what arrives in the session.
-    #[tactic(auto)]
     fn incoming(&self, key: &Key) -> u8
         ensures { result ≡ direction_in self.now.party key.now }
     {
@@ -166,25 +163,7 @@ impl Sessions {
         None
     }
 
-    /// The flow's session at place `k` in order of making, counted from 0. Goes through all sessions.
-    pub fn of_flow(&self, flow: u32, k: u32) -> Option<Key>
-        ensures { result ≡ slice_get (keys_of_flow flow self.now.list) k }
-    {
-        let mut before = 0;
-        for place in 0..self.lines.len() {
-            let (key, standing) = self.lines.get_index(place)?;
-            if standing.owner == Some(flow) {
-                if before == k {
-                    return Some(*key);
-                }
-                before += 1;
-            }
-        }
-        None
-    }
-
     /// Makes room for a change. Want of memory leaves the sessions as they were.
-    #[tactic(auto)]
     pub fn make_room(&mut self, _alloc: Global, change: &SessionChange) -> Result<(), AllocError>
         ensures party { self.new.party ≡ self.old.party }
         ensures list { self.new.list ≡ self.old.list }
@@ -220,7 +199,6 @@ impl Sessions {
     }
 
     /// Accepts an item, if there is one. An `Init` makes its session, any other item joins those of its session.
-    #[tactic(auto)]
     fn accept(&mut self, came_key: Option<Key>, came: Option<Body>, owner: Option<u32>)
         requires fits { (change : Change) × FitsCame self.old.party self.old.list change came_key came }
         requires room { 2 ≤ self.old.room }
@@ -237,7 +215,6 @@ impl Sessions {
         }
     }
 
-    #[tactic(auto)]
     fn accept_item(&mut self, key: Key, body: Body, owner: Option<u32>)
         requires fits { (change : Change) × AcceptsItem self.old.party self.old.list change key body }
         requires room { 2 ≤ self.old.room }
@@ -258,7 +235,6 @@ impl Sessions {
     }
 
     /// Opens a session, if there is one to be opened.
-    #[tactic(auto)]
     fn open(&mut self, opened: Option<(Key, Party)>, owner: u32)
         requires fits { (sent : List Sending) × FitsOpened self.old.party self.old.list sent opened }
         requires room { 0 < self.old.room }
@@ -289,7 +265,6 @@ impl Sessions {
     }
 
     /// Takes items, if some are to be taken.
-    #[tactic(auto)]
     fn take(&mut self, taken: Option<(Key, u32)>)
         requires { (key : SessionKey) (n : ℕ) → taken ≡ Some (key, n) → is_some (session_of key self.old.list) ≡ true }
         ensures party { self.new.party ≡ self.old.party }
@@ -402,7 +377,6 @@ impl Sessions {
 }
 
 /// The flow that owns an answered session: the one that is named where the first item says `Confirm`, else none.
-#[tactic(auto)]
 fn owner_of_answer(sent: &[SentItem], owner: u32) -> Option<u32>
     ensures { result ≡ answered_for owner sent.now }
 {
@@ -413,13 +387,8 @@ fn owner_of_answer(sent: &[SentItem], owner: u32) -> Option<u32>
 }
 
 /// 1 where the party opened the session of this key, else 0.
-#[tactic(auto)]
 fn one_if_own(party: Party, key: &Key) -> u32
     ensures { result ≡ (if is_opened_by party key.now then 1 else 0) }
 {
-    if key.initiator.0 == party.0 {
-        1
-    } else {
-        0
-    }
+    if key.initiator.0 == party.0 { 1 } else { 0 }
 }

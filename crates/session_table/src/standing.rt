@@ -40,7 +40,6 @@ pub(crate) struct Posted {
 }
 
 /// The item again, where it ends its session. It takes no memory, since endings carry codes alone.
-#[tactic(auto)]
 pub(crate) fn ending_of(body: &Body) -> Option<Body>
     ensures { result ≡ ending_of body.now }
 {
@@ -53,7 +52,6 @@ pub(crate) fn ending_of(body: &Body) -> Option<Body>
 }
 
 /// Whether the item asks for a flow.
-#[tactic(auto)]
 pub(crate) fn is_init(body: &Body) -> bool
     ensures { result ≡ is_init body.now }
 {
@@ -61,7 +59,6 @@ pub(crate) fn is_init(body: &Body) -> bool
 }
 
 /// Whether the item says that the flow was begun.
-#[tactic(auto)]
 pub(crate) fn is_confirm(body: &Body) -> bool
     ensures { result ≡ is_confirm body.now }
 {
