@@ -171,7 +171,7 @@ impl Sessions {
         ensures room { OnOk result (room_for change.now ≤ self.new.room) }
         ensures keeps { self.old.room ≤ self.new.room }
     {
-        let items = change.sent.len() + 3;
+        let items = change.sent.len().checked_add(3).ok_or(AllocError)?;
         self.lines.reserve(items)?;
         self.sent.reserve(items)?;
         self.came.reserve(items)?;
