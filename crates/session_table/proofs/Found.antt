@@ -1,5 +1,5 @@
 -- Finding a session.
-use Rattle.std.proofs.Common.{◌≡◌, ℕ, Bool, true, false, ◌&&◌, List, [], ◌∷◌, ◌++◌, Option, Some, None, refl, sym, ◌∙◌, ap, rules, cond, true≢false, map, filter, length, option_map, nat_eq, nat_lt, not, ◌||◌, arith, is_some, subst, drop, Result, Ok, OnOk}
+use Rattle.std.proofs.Common.{◌≡◌, ℕ, Bool, true, false, List, [], ◌∷◌, Some, None, refl, sym, ◌∙◌, ap, rules, cond, map, filter, length, option_map, nat_eq, nat_lt, not, ◌||◌, arith, subst, drop, Result, Ok, OnOk}
 use Rattle.std.proofs.lemmas.Bool.{eqb-true, and_parts, and_from}
 use Rattle.std.specs.List.{list_all}
 use Rattle.std.specs.Option.{option_map_or, option_and_then}

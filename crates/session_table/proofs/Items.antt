@@ -1,14 +1,14 @@
 -- The items of a session among those of all.
-use Rattle.std.proofs.Common.{◌≡◌, ℕ, zero, suc, ◌+◌, ◌<◌, ◌==◌, Bool, true, false, ◌&&◌, List, [], ◌∷◌, ◌++◌, Option, Some, None, refl, sym, ◌∙◌, ap, cond, length, slice_get, arith, nat_eq, eq-eqb, length-append, true≢false, if◌then◌else◌}
+use Rattle.std.proofs.Common.{◌≡◌, ℕ, zero, suc, ◌+◌, Bool, true, false, ◌&&◌, List, [], ◌∷◌, ◌++◌, Option, Some, None, refl, sym, ◌∙◌, ap, cond, length, slice_get, arith, nat_eq, eq-eqb, length-append, true≢false}
 use Rattle.std.proofs.lemmas.Bool.{eqb-true, ne_eqb}
-use Rattle.std.specs.Map.{lookup, set_value, keys_of}
+use Rattle.std.specs.Map.{lookup, set_value}
 use Rattle.std.specs.Option.{option_map_or, option_or}
 use Rattle.net_base.specs.declared.names.Key.{Key}
 use Rattle.session_wire.specs.Sessions.{key_eq}
 use Rattle.session_table.specs.Kept.{items_of, place_eq, place_of, IsNumbered, IsCounted}
 use Rattle.session_table.specs.declared.standing.Standing.{Standing}
 use Rattle.session_table.specs.declared.standing.Place.{Place}
-use Rattle.session_table.proofs.Found.{key_exact, key_same}
+use Rattle.session_table.proofs.Found.{key_exact}
 
 -- one more item joins those of its session
 pub items_more : {V : Type 0} (k : Key) (es : List (Place × V)) (p : Place) (x : V) → items_of k (es ++ (p, x) ∷ []) ≡ items_of k es ++ cond (key_eq k p.key) (x ∷ []) []

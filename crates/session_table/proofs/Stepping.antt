@@ -1,17 +1,17 @@
 -- What a step of the table makes of the sessions that contracts see.
-use Rattle.std.proofs.Common.{◌≡◌, ℕ, ◌+◌, Bool, true, false, List, [], ◌∷◌, ◌++◌, Option, Some, None, refl, sym, ◌∙◌, ap, subst, cond, map, length, slice_get, arith, is_some, option_map, true≢false, filter, ◌≤◌, ◌-◌, zero, suc}
+use Rattle.std.proofs.Common.{◌≡◌, ℕ, Bool, true, false, List, [], ◌∷◌, ◌++◌, Option, Some, None, refl, sym, ◌∙◌, ap, cond, map, length, slice_get, arith, is_some, option_map, true≢false, filter, ◌≤◌, ◌-◌, zero, suc}
 use Rattle.std.specs.Option.{option_and_then}
 use Rattle.std.proofs.lemmas.List.{length-map}
-use Rattle.std.specs.List.{IsDistinct, list_all}
-use Rattle.std.specs.Map.{lookup, set_value, keys_of}
+use Rattle.std.specs.List.{list_all}
+use Rattle.std.specs.Map.{lookup, keys_of}
 use Rattle.net_base.specs.declared.names.Key.{Key}
 use Rattle.net_base.specs.declared.values.Party.{Party}
 use Rattle.session_wire.specs.declared.body.Body.{Body}
-use Rattle.session_wire.specs.Sessions.{Session, key_eq, session_of, changed_at, new_session, with_came, with_sent, with_taken, ending_at, ending_of, sent_on}
+use Rattle.session_wire.specs.Sessions.{Session, key_eq, session_of, changed_at, new_session, with_came, with_sent, ending_at, ending_of, sent_on}
 use Rattle.session_table.specs.Changes.{is_opened_by, opened_by, is_init, came_on, FitsCame, FitsOpened, acks_of_came, acks_of_opened}
 use Rattle.session_wire.specs.declared.change.SessionChange.{SessionChange}
 use Rattle.session_wire.specs.declared.change.SentItem.{SentItem}
-use Rattle.session_table.specs.Kept.{is_below, items_of, place_of, sent_of, session_at, IsKept, IsCounted, Rewrites, one_came, one_sent, taken_to, acked_to}
+use Rattle.session_table.specs.Kept.{is_below, items_of, place_of, sent_of, session_at, IsCounted, Rewrites, one_came, one_sent}
 use Rattle.session_table.specs.declared.standing.Standing.{Standing}
 use Rattle.session_table.specs.declared.standing.Place.{Place}
 use Rattle.session_table.specs.declared.standing.Posted.{Posted}

@@ -1,5 +1,5 @@
 -- The first item that may be taken.
-use Rattle.std.proofs.Common.{◌≡◌, ℕ, zero, suc, ◌+◌, ◌<◌, ◌≤◌, Bool, true, false, List, [], ◌∷◌, Option, Some, None, refl, sym, ◌∙◌, ap, cond, length, drop, slice_get, arith}
+use Rattle.std.proofs.Common.{◌≡◌, ℕ, zero, suc, ◌+◌, ◌<◌, ◌≤◌, true, false, List, [], ◌∷◌, Some, None, refl, ◌∙◌, ap, length, drop, slice_get, arith}
 use Rattle.session_wire.specs.declared.body.Body.{Body}
 use Rattle.session_wire.specs.Sessions.{first_item, is_confirm}
 

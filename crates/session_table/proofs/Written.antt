@@ -1,15 +1,11 @@
 -- Changing how a session stands.
-use Rattle.std.proofs.Common.{◌≡◌, ℕ, ◌+◌, Bool, true, false, List, [], ◌∷◌, ◌++◌, Option, Some, None, refl, sym, ◌∙◌, ap, subst, cond, map, length, option_map, arith, is_some, if◌then◌else◌}
+use Rattle.std.proofs.Common.{◌≡◌, Bool, true, false, List, [], ◌∷◌, Option, Some, None, refl, sym, ◌∙◌, ap, subst, cond, map, if◌then◌else◌}
 use Rattle.std.specs.List.{IsDistinct, AllByRecursion}
-use Rattle.std.specs.Option.{option_map_or}
 use Rattle.std.specs.Map.{lookup, keys_of, set_value}
 use Rattle.net_base.specs.declared.names.Key.{Key}
 use Rattle.session_wire.specs.Sessions.{Session, key_eq, changed_at}
-use Rattle.session_wire.specs.declared.body.Body.{Body}
-use Rattle.session_table.specs.Kept.{session_at, Rewrites}
+use Rattle.session_table.specs.Kept.{Rewrites}
 use Rattle.session_table.specs.declared.standing.Standing.{Standing}
-use Rattle.session_table.specs.declared.standing.Place.{Place}
-use Rattle.session_table.specs.declared.standing.Posted.{Posted}
 use Rattle.session_table.proofs.Found.{key_exact}
 
 abbrev Lines : Type 0

@@ -1,5 +1,5 @@
 -- What contracts see of a node's sessions, and what is asked of them.
-use Rattle.std.specs.Prelude.{ℕ, ◌+◌, ◌==◌, ◌&&◌, List, [], ◌∷◌, ◌++◌, Option, Some, None, Bool, true, false, if◌then◌else◌, map, filter, drop, max, option_map, length}
+use Rattle.std.specs.Prelude.{ℕ, ◌==◌, ◌&&◌, List, [], ◌∷◌, Option, None, if◌then◌else◌, max, option_map, length}
 use Rattle.std.specs.Borrow.{Bor}
 use Rattle.std.specs.Option.{option_and_then}
 use Rattle.net_base.specs.declared.names.Key.{Key}

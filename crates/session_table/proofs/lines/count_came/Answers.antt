@@ -1,4 +1,4 @@
-use Rattle.std.proofs.Common.{◌≡◌, sym, ◌∙◌, ap, Some, None, arith}
+use Rattle.std.proofs.Common.{ap, arith}
 use Rattle.session_table.proofs.Written.{rewrites_some, rewrites_none, same_value}
 use Rattle.session_table.proofs.lines.count_came.Goals as goal
 

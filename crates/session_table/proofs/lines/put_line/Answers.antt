@@ -1,7 +1,6 @@
-use Rattle.std.proofs.Common.{◌≡◌, sym, ◌∙◌, ap, Some, None, arith}
+use Rattle.std.proofs.Common.{◌∙◌}
 use Rattle.indexmap.proofs.CallerLemmas.{insert_entry-new}
 use Rattle.session_wire.specs.Sessions.{key_eq}
-use Rattle.session_table.specs.Kept.{place_eq}
 use Rattle.session_table.proofs.Found.{on_ok}
 use Rattle.session_table.proofs.lines.put_line.Goals as goal
 

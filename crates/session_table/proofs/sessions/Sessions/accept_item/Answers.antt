@@ -1,14 +1,9 @@
-use Rattle.std.proofs.Common.{◌≡◌, ℕ, ◌+◌, ◌<◌, sym, ◌∙◌, ap, subst, rules, arith, refl, Some, None, Option, List, [], ◌∷◌, ◌++◌, cond, map, length, option_map, true, false, is_some, true≢false, length-append}
+use Rattle.std.proofs.Common.{◌≡◌, ℕ, ◌+◌, ◌<◌, sym, ◌∙◌, ap, arith, Some, Option, List, [], ◌∷◌, length, true, false, is_some, true≢false, length-append}
 use Rattle.std.proofs.lemmas.List.{length-map}
 use Rattle.std.specs.Option.{option_map_or}
-use Rattle.net_base.specs.declared.names.Key.{Key}
-use Rattle.net_base.specs.declared.values.Party.{Party}
-use Rattle.session_wire.specs.declared.body.Body.{Body}
-use Rattle.session_wire.specs.declared.change.SessionChange.{SessionChange}
-use Rattle.session_wire.specs.declared.change.SentItem.{SentItem}
-use Rattle.session_wire.specs.Sessions.{Session, session_of, with_came, with_sent, with_taken, new_session, changed_at, key_eq, opened_on, sent_on, taken_on}
-use Rattle.session_table.specs.Changes.{is_opened_by, opened_by, is_init, came_on, acks_of_came, acks_of_opened, FitsCame, FitsOpened, FitsSent, FitsTaken, AcceptsItem, begun_on, room_for}
-use Rattle.session_table.proofs.Stepping.{came_begun, stands_begun, opened_came, opens_next, nil_end}
+use Rattle.session_wire.specs.Sessions.{Session, session_of, with_came, new_session, changed_at}
+use Rattle.session_table.specs.Changes.{is_init}
+use Rattle.session_table.proofs.Stepping.{came_begun, stands_begun, nil_end}
 use Rattle.session_table.proofs.sessions.Sessions.accept_item.Goals as goal
 
 few_of : (m n : ℕ) → m ≡ n → m + 1 < 4294967296 → n + 1 < 4294967296

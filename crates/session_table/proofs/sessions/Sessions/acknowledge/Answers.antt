@@ -1,12 +1,8 @@
-use Rattle.std.proofs.Common.{◌≡◌, ℕ, ◌==◌, sym, ◌∙◌, ap, refl, Some, None, Option, List, map, true, false, eq-eqb, arith}
+use Rattle.std.proofs.Common.{◌≡◌, ◌==◌, sym, ◌∙◌, ap, refl, true, false, eq-eqb}
 use Rattle.std.proofs.lemmas.Bool.{ne_eqb}
-use Rattle.std.specs.Map.{lookup}
-use Rattle.session_wire.specs.Sessions.{Session, key_eq}
 use Rattle.session_table.specs.Changes.{direction_out}
-use Rattle.session_table.specs.Kept.{session_at, acked_to}
+use Rattle.session_table.specs.Kept.{acked_to}
 use Rattle.session_table.specs.Tables.{raised}
-use Rattle.session_table.specs.declared.standing.Standing.{Standing}
-use Rattle.session_table.proofs.Written.{map_set}
 use Rattle.session_table.proofs.Keeping.{kept_same}
 use Rattle.session_table.proofs.Raising.{raised_apart, raised_after, listed_after}
 use Rattle.session_table.proofs.sessions.Sessions.acknowledge.Goals as goal

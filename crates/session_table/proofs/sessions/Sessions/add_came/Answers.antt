@@ -1,18 +1,12 @@
-use Rattle.std.proofs.Common.{◌≡◌, ℕ, ◌+◌, ◌<◌, sym, ◌∙◌, ap, subst, rules, arith, refl, Some, None, Option, List, [], ◌∷◌, ◌++◌, cond, map, length, option_map, true, false}
-use Rattle.std.proofs.lemmas.List.{length-map}
-use Rattle.std.specs.Map.{keys_of}
-use Rattle.net_base.specs.declared.names.Key.{Key}
+use Rattle.std.proofs.Common.{◌≡◌, ℕ, sym, ◌∙◌, ap, subst, arith, refl, List, [], ◌∷◌, ◌++◌, map}
 use Rattle.session_wire.specs.declared.body.Body.{Body}
-use Rattle.session_wire.specs.Sessions.{Session, session_of, with_came, with_sent, with_taken, new_session, changed_at}
-use Rattle.session_table.specs.Changes.{is_opened_by, opened_by}
-use Rattle.session_table.specs.Kept.{session_at, items_of, place_of, sent_of, one_came, one_sent, taken_to, acked_to, IsKept}
-use Rattle.session_table.specs.declared.standing.Standing.{Standing}
+use Rattle.session_wire.specs.Sessions.{Session, with_came, changed_at}
+use Rattle.session_table.specs.Kept.{session_at, place_of, one_came, IsKept}
 use Rattle.session_table.specs.declared.standing.Place.{Place}
-use Rattle.session_table.specs.declared.standing.Posted.{Posted}
-use Rattle.session_table.proofs.Found.{absent, present, count_is, session_found, opened_keys, own_new}
+use Rattle.session_table.proofs.Found.{present, count_is}
 use Rattle.session_table.proofs.Items.{place_free}
-use Rattle.session_table.proofs.Keeping.{kept_came, kept_sent, kept_same, kept_begun}
-use Rattle.session_table.proofs.Stepping.{list_came, list_sent, list_set, list_begun, acks_set, stands_at, found_line, sent_count, came_count, new_line, filter_le}
+use Rattle.session_table.proofs.Keeping.{kept_came}
+use Rattle.session_table.proofs.Stepping.{list_came, acks_set, stands_at}
 use Rattle.session_table.proofs.sessions.Sessions.add_came.Goals as goal
 
 pub count_came-number-requires : goal.count_came-number-requires

@@ -1,11 +1,8 @@
-use Rattle.std.proofs.Common.{◌≡◌, sym, ◌∙◌, ap, rules, Some, None, option_map, length, drop}
-use Rattle.std.specs.Option.{option_and_then}
-use Rattle.session_wire.specs.Sessions.{first_item}
-use Rattle.session_table.specs.Kept.{session_at}
+use Rattle.std.proofs.Common.{◌≡◌, sym, ◌∙◌, ap, Some, option_map, length}
 use Rattle.std.proofs.Common.{◌==◌, true, false, eq-eqb, refl}
 use Rattle.std.proofs.lemmas.Bool.{ne_eqb}
 use Rattle.session_table.specs.Changes.{direction_in}
-use Rattle.session_table.proofs.Found.{absent, present, count_is, there_ended, there_next}
+use Rattle.session_table.proofs.Found.{absent, present, count_is}
 use Rattle.session_table.proofs.sessions.Sessions.expected.Goals as goal
 
 pub returns-then-direction-incoming : goal.returns-then-direction-incoming

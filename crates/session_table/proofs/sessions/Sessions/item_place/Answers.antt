@@ -1,6 +1,6 @@
 use Rattle.std.proofs.Common.{◌≡◌, sym, ◌∙◌, ap, refl, Some, None, option_map, drop}
 use Rattle.std.specs.Option.{option_and_then}
-use Rattle.session_wire.specs.Sessions.{first_item, next_item}
+use Rattle.session_wire.specs.Sessions.{first_item}
 use Rattle.session_table.specs.Kept.{session_at}
 use Rattle.session_table.proofs.Found.{absent, present, there_ended, there_next}
 use Rattle.session_table.proofs.sessions.Sessions.item_place.Goals as goal

@@ -1,5 +1,5 @@
-use Rattle.std.proofs.Common.{◌≡◌, ap, sym, ◌∙◌, refl, map}
-use Rattle.session_table.specs.Kept.{session_at, IsKept}
+use Rattle.std.proofs.Common.{ap, refl, map}
+use Rattle.session_table.specs.Kept.{session_at}
 use Rattle.session_table.proofs.sessions.Sessions.new.Goals as goal
 
 pub invariant_of-result : goal.invariant_of-result

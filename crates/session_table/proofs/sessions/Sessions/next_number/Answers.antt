@@ -1,8 +1,6 @@
-use Rattle.std.proofs.Common.{◌≡◌, sym, ◌∙◌, ap}
+use Rattle.std.proofs.Common.{sym, ◌∙◌, ap}
 use Rattle.session_table.specs.Changes.{opened_by}
 use Rattle.session_table.proofs.Found.{opened_keys}
-use Rattle.session_table.proofs.Written.{written}
-use Rattle.session_table.proofs.Items.{items_more}
 use Rattle.session_table.proofs.sessions.Sessions.next_number.Goals as goal
 
 pub returns : goal.returns

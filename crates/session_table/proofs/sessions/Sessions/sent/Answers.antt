@@ -1,8 +1,5 @@
-use Rattle.std.proofs.Common.{◌≡◌, sym, ◌∙◌, ap, rules, Some, None, option_map, length, drop}
-use Rattle.std.specs.Option.{option_and_then}
-use Rattle.session_wire.specs.Sessions.{first_item}
-use Rattle.session_table.specs.Kept.{session_at}
-use Rattle.session_table.proofs.Found.{absent, present, count_is, there_ended, there_next}
+use Rattle.std.proofs.Common.{sym, ◌∙◌, ap, Some, option_map, length}
+use Rattle.session_table.proofs.Found.{absent, present, count_is}
 use Rattle.std.proofs.lemmas.List.{length-map}
 use Rattle.session_table.proofs.sessions.Sessions.sent.Goals as goal
 

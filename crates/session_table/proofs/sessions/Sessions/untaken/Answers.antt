@@ -1,7 +1,6 @@
-use Rattle.std.proofs.Common.{◌≡◌, ℕ, ◌+◌, ◌<◌, ◌≤◌, sym, ◌∙◌, ap, subst, rules, arith, refl, Some, None, Option, List, [], ◌∷◌, map, length, option_map, drop, slice_get, true, false}
+use Rattle.std.proofs.Common.{◌≡◌, ℕ, sym, ◌∙◌, ap, arith, refl, Some, drop, slice_get}
 use Rattle.std.specs.Option.{option_and_then}
-use Rattle.session_wire.specs.declared.body.Body.{Body}
-use Rattle.session_wire.specs.Sessions.{Session, session_of, first_item, is_confirm}
+use Rattle.session_wire.specs.Sessions.{Session, first_item}
 use Rattle.session_table.specs.Kept.{session_at, items_of}
 use Rattle.session_table.proofs.Found.{absent, present, count_is}
 use Rattle.session_table.proofs.Taking.{at_item, at_confirm, past_all, not_past}
