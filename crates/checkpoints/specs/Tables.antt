@@ -1,6 +1,5 @@
 -- The flows of a node, by number.
-use Rattle.std.specs.Prelude.{◌≡◌, ◌≤◌, ◌<◌, ℕ, suc, ◌+◌, length, get_or, List, [], ◌∷◌, ◌++◌, Bool, true, false, take, drop}
-use Rattle.flow_machine.specs.declared.flows.Checkpoint.{Checkpoint}
+use Rattle.std.specs.Prelude.{◌≡◌, ◌≤◌, ◌<◌, ℕ, suc, length, get_or, List, [], ◌∷◌, ◌++◌, Bool, true, false, take, drop}
 use Rattle.flow_machine.specs.declared.flows.FlowState.{FlowState}
 use Rattle.flow_machine.specs.declared.flows.FlowState.TheVariants as state
 

@@ -9,18 +9,18 @@ use Rattle.flow_machine.specs.declared.flows.FlowState.{FlowState}
 use Rattle.flow_machine.specs.declared.flows.FlowState.TheVariants as state
 use Rattle.net_model.specs.Environment.{Environment}
 use Rattle.net_model.specs.State.{NodeState, FlowPart, now_live, now_ended, now_failed, Effect}
-use Rattle.net_model.specs.Steps.{effect_of, performed, lapsed, lapses, checkpoint_of}
+use Rattle.net_model.specs.Steps.{effect_of, performed, lapsed, lapses, checkpoint_of, is_flow_built}
 
--- the event that performs an act of flow f at a moment, where it is enabled
-abbrev pub performing : {F : Type 0} → ℕ → ℕ → Act F → Option Event
-performing f now (act.Sleep until) = if nat_le until now then Some (event.Lapse f) else None
-performing f now (act.Sub frame) = None
-performing f now (act.Return value) = Some (event.Move f)
-performing f now (act.Fail code) = Some (event.Move f)
+-- the event that performs an act of flow f at a moment, over these frames below, where it is enabled; only what nodes perform so far is
+abbrev pub performing : {F : Type 0} → ℕ → ℕ → List F → Act F → Option Event
+performing f now below (act.Sleep until) = if nat_le until now then Some (event.Lapse f) else None
+performing f now below (act.Fail code) = Some (event.Move f)
+performing f now [] (act.Return value) = Some (event.Move f)
+performing f now below _ = None
 
 -- the event by which flow f goes on at a moment, where it is live on an act that is enabled
 abbrev pub event_of : {F : Type 0} → ℕ → ℕ → FlowState F → Option Event
-event_of f now (state.Live at) = performing f now at.waiting
+event_of f now (state.Live at) = performing f now at.stack.below at.waiting
 event_of f now (state.Ended step class value) = None
 event_of f now (state.Failed step class code) = None
 
@@ -37,8 +37,8 @@ part_of f (state.Failed step class code) = now_failed f step class code
 
 -- the effect of a Move or a Lapse of a flow that is this
 abbrev pub effect_on : {F : Type 0} → Environment F → ℕ → NodeState F → ℕ → FlowState F → Event → Option (Effect F)
-effect_on w me s now flow (event.Move f) = option_and_then (λ at. performed w me s now at at.waiting) (checkpoint_of flow)
-effect_on w me s now flow (event.Lapse f) = option_and_then (λ at. lapsed w me now at (lapses s now at.flow at.waiting)) (checkpoint_of flow)
+effect_on w me s now flow (event.Move f) = if is_flow_built (checkpoint_of flow) then option_and_then (λ at. performed w me s now at at.waiting) (checkpoint_of flow) else None
+effect_on w me s now flow (event.Lapse f) = if is_flow_built (checkpoint_of flow) then option_and_then (λ at. lapsed w me now at (lapses s now at.flow at.waiting)) (checkpoint_of flow) else None
 effect_on w me s now flow (event.Start f class args) = None
 effect_on w me s now flow (event.Answer key) = None
 effect_on w me s now flow (event.Arrive key direction number) = None

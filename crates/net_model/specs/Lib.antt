@@ -1,7 +1,13 @@
+pub mod Names
 pub mod Environment
 pub mod State
 pub mod Steps
 pub mod Enabled
 pub mod Sound
 pub mod Runs
+pub mod Fits
+pub mod Left
+pub mod Tags
+pub mod Stores
+pub mod Books
 pub mod Print

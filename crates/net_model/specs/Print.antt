@@ -18,8 +18,19 @@ pub data Query : Type 0 where
 
 -- the name of an act
 abbrev pub act_name : {F : Type 0} → Act F → List ℕ
+act_name (act.Open to class first) = codes "open"
+act_name (act.Send key value) = codes "send"
+act_name (act.Receive key) = codes "receive"
+act_name (act.ReceiveBy key until) = codes "receiveby"
 act_name (act.Sleep until) = codes "sleep"
 act_name (act.Sub frame) = codes "sub"
+act_name (act.Verify tx) = codes "verify"
+act_name (act.Reserve token amount) = codes "reserve"
+act_name (act.Lookup id) = codes "lookup"
+act_name (act.Missing tx) = codes "missing"
+act_name (act.Sign id) = codes "sign"
+act_name (act.Notarise request) = codes "notarise"
+act_name (act.Record stx) = codes "record"
 act_name (act.Return value) = codes "return"
 act_name (act.Fail code) = codes "fail"
 

@@ -1,17 +1,34 @@
--- Runs of the whole network.
-use Rattle.std.specs.Prelude.{◌≡◌, ℕ, ◌+◌, ◌<◌, ◌==◌, ◌&&◌, ◌||◌, List, [], ◌∷◌, Option, Some, None, Bool, true, false, IsSome, map, option_map, option_and_then, nat_lt, replicate, slice_get, slice_set, ⊤}
+-- Runs of the whole network, and which journals are those of a run.
+use Rattle.std.specs.Prelude.{◌≡◌, ℕ, ◌+◌, ◌<◌, ◌==◌, ◌&&◌, ◌||◌, List, [], ◌∷◌, ◌++◌, Option, Some, None, Bool, true, false, if◌then◌else◌, IsSome, length, map, max, option_map, option_and_then, nat_lt, replicate, slice_get, slice_set, ⊤, ◌↔◌}
 use Rattle.std.specs.List.{AllByRecursion}
+use Rattle.net_base.specs.declared.names.Key.{Key}
 use Rattle.net_base.specs.declared.causes.Cause.{Cause}
 use Rattle.net_base.specs.declared.causes.Event.{Event}
+use Rattle.net_base.specs.declared.causes.Event.TheVariants as event
+use Rattle.session_wire.specs.declared.body.Body.{Body}
+use Rattle.session_wire.specs.Sessions.{Sent, Session, session_of}
 use Rattle.net_model.specs.Environment.{Environment}
-use Rattle.net_model.specs.State.{Item, NodeState, Effect, fresh}
+use Rattle.net_model.specs.State.{NodeState, Effect, Record, apply_effect, fresh, replay}
 use Rattle.net_model.specs.Steps.{node_step}
 
 -- ---- one step of the network
 
--- the item that an event accepts: no node has a session yet, so none was sent
-abbrev pub item_for : {F : Type 0} → List (NodeState F) → ℕ → NodeState F → Event → Option Item
-item_for net me s event = None
+-- the item of that number, where the session is with the node
+abbrev pub sent_to : ℕ → ℕ → Option Session → Option Sent
+sent_to me number None = None
+sent_to me number (Some session) = if session.peer.0 == me then slice_get session.sent number else None
+
+-- the item of that number that a sender has for the node in the session of the key
+unfoldable pub item_from : {F : Type 0} → List (NodeState F) → ℕ → ℕ → Key → ℕ → Option Sent
+item_from net me sender key number = option_and_then (λ s. sent_to me number (session_of key s.sessions)) (slice_get net sender)
+
+-- the item that an event accepts: the first one of the initiator, or the one of that number of the session's peer
+abbrev pub item_for : {F : Type 0} → List (NodeState F) → ℕ → NodeState F → Event → Option Sent
+item_for net me s (event.Answer key) = item_from net me key.initiator.0 key 0
+item_for net me s (event.Arrive key direction number) = option_and_then (λ session. item_from net me session.peer.0 key number) (session_of key s.sessions)
+item_for net me s (event.Start flow class args) = None
+item_for net me s (event.Move flow) = None
+item_for net me s (event.Lapse flow) = None
 
 -- the network once the state of node p has changed, with the effect
 abbrev pub net_step_at : {F : Type 0} → Environment F → List (NodeState F) → ℕ → Cause → NodeState F → Option (List (NodeState F) × Effect F)
@@ -73,9 +90,73 @@ stamp_of cause = cause.stamp
 abbrev pub merged : List (List Cause) → List (ℕ × Cause)
 merged journals = merge stamp_of journals
 
+-- each of a list with its node
+abbrev pub at_node : {X : Type 0} → ℕ → List X → List (ℕ × X)
+at_node p xs = map (λ x. (p, x)) xs
+
+-- the causes of a node and those of the nodes behind it as one list
+abbrev pub merged_with : ℕ → List Cause → List (ℕ × Cause) → List (ℕ × Cause)
+merged_with p causes later = merge_two (is_before stamp_of) (at_node p causes) later
+
 -- the network after the causes of all journals, where they are a run
 unfoldable pub network_of : {F : Type 0} → Environment F → List (List Cause) → Option (List (NodeState F))
 network_of w journals = run_of w (merged journals)
+
+-- ---- journals of records
+
+-- the stamp of a record
+abbrev pub record_stamp : {F : Type 0} → Record F → ℕ
+record_stamp r = r.cause.stamp
+
+-- the network goes on by these records, each effect the one that its cause has there
+abbrev pub Follows : {F : Type 0} → Environment F → List (NodeState F) → List (ℕ × Record F) → Type 0
+Follows w net [] = ⊤
+Follows {F} w net (x ∷ xs) = (next : List (NodeState F)) × (net_step w net x.0 x.1.cause ≡ Some (next, x.1.effect)) × Follows w next xs
+
+-- the merged journals are a run, with the effects that they hold
+abbrev pub IsFaithful : {F : Type 0} → Environment F → List (List (Record F)) → Type 0
+IsFaithful w journals = Follows w (fresh_net w) (merge record_stamp journals)
+
+-- a body as an item with a stamp
+abbrev pub stamped : ℕ → Option Body → Option Sent
+stamped stamp body = option_map (λ b. record { body = b; stamp = stamp }) body
+
+-- each record is a step of its node alone, with its own item under some stamp
+abbrev pub IsLocalFrom : {F : Type 0} → Environment F → ℕ → NodeState F → List (Record F) → Type 0
+IsLocalFrom w p s [] = ⊤
+IsLocalFrom {F} w p s (r ∷ rs) = (stamp : ℕ) × (next : NodeState F) × (node_step w p s r.cause (stamped stamp r.effect.change.came) ≡ Some (next, r.effect)) × IsLocalFrom w p next rs
+
+-- a journal is one that its node alone may have
+abbrev pub IsLocal : {F : Type 0} → Environment F → ℕ → List (Record F) → Type 0
+IsLocal w p records = IsLocalFrom w p fresh records
+
+-- the accepted item is the one that its sender has, and its stamp is kept to
+pub record IsItem {F : Type 0} (net : List (NodeState F)) (p : ℕ) (s : NodeState F) (r : Record F) : Type 0 where
+  pub item : Sent
+  pub is_sent : item_for net p s r.cause.event ≡ Some item
+  pub is_body : r.effect.change.came ≡ Some item.body
+  pub in_turn : r.cause.stamp ≡ max s.stamp item.stamp + 1
+
+-- whether an event accepts an item
+abbrev pub accepts : Event → Bool
+accepts (event.Answer key) = true
+accepts (event.Arrive key direction number) = true
+accepts (event.Start flow class args) = false
+accepts (event.Move flow) = false
+accepts (event.Lapse flow) = false
+
+-- each accepted item of these records is its sender's in the network
+abbrev pub IsMatchedFrom : {F : Type 0} → List (NodeState F) → ℕ → NodeState F → List (Record F) → Type 0
+IsMatchedFrom net p s [] = ⊤
+IsMatchedFrom net p s (r ∷ rs) = (accepts r.cause.event ≡ true → IsItem net p s r) × IsMatchedFrom net p (apply_effect s r.cause r.effect) rs
+
+-- each accepted item is its sender's, by the whole journals
+abbrev pub IsMatched : {F : Type 0} → List (List (Record F)) → Type 0
+IsMatched {F} journals = (p : ℕ) (records : List (Record F)) → slice_get journals p ≡ Some records → IsMatchedFrom (map replay journals) p fresh records
+
+-- each journal is one that its node alone may have
+abbrev pub AreLocal : {F : Type 0} → Environment F → List (List (Record F)) → Type 0
+AreLocal {F} w journals = (p : ℕ) (records : List (Record F)) → slice_get journals p ≡ Some records → IsLocal w p records
 
 -- ---- laws
 
@@ -101,3 +182,35 @@ causes_at p (x ∷ xs) = elim (x.0 == p) [ true ↦ x.1 ∷ causes_at p xs | fal
 -- along a run the stamps of each node rise
 abbrev pub StampsRise : (F : Type 0) → Type 0
 StampsRise F = (w : Environment F) (causes : List (ℕ × Cause)) → IsLegal w causes → (p : ℕ) → AreRising stamp_of 0 (causes_at p causes)
+
+-- the state after a step is what its effect makes of the state before
+abbrev pub StepIsItsEffect : (F : Type 0) → Type 0
+StepIsItsEffect F = (w : Environment F) (p : ℕ) (s next : NodeState F) (cause : Cause) (item : Option Sent) (e : Effect F) → node_step w p s cause item ≡ Some (next, e) → next ≡ apply_effect s cause e
+
+-- a step loses and changes no item that was sent
+abbrev pub ItemsStay : (F : Type 0) → Type 0
+ItemsStay F = (w : Environment F) (net next : List (NodeState F)) (p : ℕ) (cause : Cause) (e : Effect F) → net_step w net p cause ≡ Some (next, e)
+    → (q me n : ℕ) (key : Key) (item : Sent) → item_from net me q key n ≡ Some item → item_from next me q key n ≡ Some item
+
+-- an item with a stamp below that of a step was sent before it
+abbrev pub ItemsAreStamped : (F : Type 0) → Type 0
+ItemsAreStamped F = (w : Environment F) (net next : List (NodeState F)) (p : ℕ) (cause : Cause) (e : Effect F) → net_step w net p cause ≡ Some (next, e)
+    → (q me n : ℕ) (key : Key) (item : Sent) → item_from next me q key n ≡ Some item → item.stamp < cause.stamp → item_from net me q key n ≡ Some item
+
+-- journals, one of each node, are those of a run exactly where each record is a step of its node alone and each accepted item is its sender's
+abbrev pub FaithfulExactly : (F : Type 0) → Type 0
+FaithfulExactly F = (w : Environment F) (journals : List (List (Record F))) → length journals ≡ w.nodes → (IsFaithful w journals ↔ (AreLocal w journals × IsMatched journals))
+
+-- the merged causes of such journals are a legal run, and the network after it is what each journal makes
+abbrev pub FaithfulRun : (F : Type 0) → Type 0
+FaithfulRun F = (w : Environment F) (journals : List (List (Record F))) → length journals ≡ w.nodes → IsFaithful w journals → network_of w (map (map (λ r. r.cause)) journals) ≡ Some (map replay journals)
+
+-- one more record that is a step of its node over some item keeps journals local
+abbrev pub CommitsKeepLocal : (F : Type 0) → Type 0
+CommitsKeepLocal F = (w : Environment F) (journals : List (List (Record F))) (p n : ℕ) (records : List (Record F)) (r : Record F) (next : NodeState F) → slice_get journals p ≡ Some records → AreLocal w journals
+    → node_step w p (replay records) r.cause (stamped n r.effect.change.came) ≡ Some (next, r.effect) → AreLocal w (slice_set journals p (records ++ r ∷ []))
+
+-- one more record whose accepted item, if it has one, is its sender's keeps journals matched
+abbrev pub CommitsKeepMatched : (F : Type 0) → Type 0
+CommitsKeepMatched F = (journals : List (List (Record F))) (p : ℕ) (records : List (Record F)) (r : Record F) → slice_get journals p ≡ Some records → IsMatched journals
+    → (accepts r.cause.event ≡ true → IsItem (map replay journals) p (replay records) r) → IsMatched (slice_set journals p (records ++ r ∷ []))

@@ -1,61 +1,241 @@
 -- One step of a node: the effect of a cause, where it is defined.
-use Rattle.std.specs.Prelude.{ℕ, ◌+◌, ◌^◌, ◌==◌, ◌&&◌, Option, Some, None, Result, Ok, Err, Bool, true, false, if◌then◌else◌, option_map, option_and_then, nat_le, nat_lt, max, length, slice_get}
+use Rattle.std.specs.Prelude.{ℕ, ◌+◌, ◌-◌, ◌^◌, ◌==◌, ◌&&◌, ◌||◌, not, List, [], ◌∷◌, Option, Some, None, Result, Ok, Err, Bool, true, false, if◌then◌else◌, map, filter, option_map, option_and_then, nat_le, nat_lt, max, length, drop, is_none, slice_get}
+use Rattle.net_base.specs.declared.values.Hash32.{Hash32}
+use Rattle.net_base.specs.declared.values.Party.{Party}
+use Rattle.net_base.specs.declared.names.Key.{Key}
 use Rattle.net_base.specs.declared.causes.Cause.{Cause}
 use Rattle.net_base.specs.declared.causes.Event.{Event}
 use Rattle.net_base.specs.declared.causes.Event.TheVariants as event
+use Rattle.ledger_types.specs.declared.tx.Tx.{Tx}
+use Rattle.ledger_types.specs.declared.tx.SignedTx.{SignedTx}
+use Rattle.ledger_types.specs.declared.tx.Resolved.{Resolved}
+use Rattle.ledger_types.specs.declared.notary.Request.{Request}
+use Rattle.ledger_types.specs.declared.notary.Entry.{Entry}
+use Rattle.ledger_types.specs.declared.held.Held.{Held}
+use Rattle.ledger_types.specs.declared.value.Value.{Value}
+use Rattle.ledger_types.specs.declared.verdict.Verdict.{Verdict}
+use Rattle.ledger_types.specs.declared.verdict.Verdict.TheVariants as verdict
+use Rattle.ledger_types.specs.Rules.{is_other_notary}
+use Rattle.ledger_types.specs.Signatures.{tx_id, is_signed}
+use Rattle.ledger_types.specs.Stores.{stored_of, is_stored, resolved_of, missing_ids, untagged}
+use Rattle.ledger_types.specs.Vaults.{vault_of, reserved, reservable}
+use Rattle.ledger_types.specs.Notary.{Reply, reply, entry_of, tag_by}
+use Rattle.session_wire.specs.declared.body.Body.{Body}
+use Rattle.session_wire.specs.declared.body.Body.TheVariants as body_of
+use Rattle.session_wire.specs.declared.change.SentItem.{SentItem}
 use Rattle.flow_machine.specs.declared.acts.Act.{Act}
 use Rattle.flow_machine.specs.declared.acts.Act.TheVariants as act
 use Rattle.flow_machine.specs.declared.acts.Place.{Place}
 use Rattle.flow_machine.specs.declared.acts.Resumed.{Resumed}
 use Rattle.flow_machine.specs.declared.acts.Resumed.TheVariants as resumed
-use Rattle.ledger_types.specs.declared.value.Value.{Value}
 use Rattle.flow_machine.specs.declared.flow_set.MakeFault.{MakeFault}
 use Rattle.flow_machine.specs.declared.flows.Checkpoint.{Checkpoint}
 use Rattle.flow_machine.specs.declared.flows.FlowState.{FlowState}
 use Rattle.flow_machine.specs.declared.flows.FlowState.TheVariants as state
-use Rattle.net_model.specs.Environment.{Environment, party}
-use Rattle.net_model.specs.State.{Item, NodeState, FlowPart, now_live, now_ended, now_failed, Effect, apply_effect}
+use Rattle.session_wire.specs.Sessions.{Sent, Session, next_item, session_of}
+use Rattle.net_model.specs.Names.{number_is}
+use Rattle.net_model.specs.Environment.{Environment, party, identity}
+use Rattle.net_model.specs.State.{NodeState, FlowPart, no_flow, now_live, now_ended, now_failed, Change, Effect, nothing, with_ids, apply_effect}
+
+-- ---- names at a node
 
 -- where and when a node's flow is made or resumed
 abbrev pub place : {F : Type 0} → Environment F → ℕ → ℕ → ℕ → ℕ → Place
 place w me f step now = record { me = party me; notary = w.notary; nodes = w.nodes; flow = f; step = step; now = record { 0 = now } }
 
+-- the direction of what a node sends in a session
+abbrev pub direction_out : ℕ → Key → ℕ
+direction_out me key = if key.initiator.0 == me then 0 else 1
+
+-- the next session that a node opens
+abbrev pub next_key : {F : Type 0} → ℕ → NodeState F → Key
+next_key me s = record { initiator = party me; number = length (filter (λ session. session.key.initiator.0 == me) s.sessions) }
+
+-- the sessions that a flow owns, in order of making
+abbrev pub sessions_of : {F : Type 0} → NodeState F → ℕ → List Session
+sessions_of s f = filter (λ session. number_is f session.owner) s.sessions
+
+-- a session, where the flow owns it
+abbrev pub owned_by : ℕ → Option Session → Option Session
+owned_by f None = None
+owned_by f (Some session) = if number_is f session.owner then Some session else None
+
+-- the session of the key, where the flow owns it
+abbrev pub owned : {F : Type 0} → NodeState F → ℕ → Key → Option Session
+owned s f key = owned_by f (session_of key s.sessions)
+
+-- the next item that a node sends in a session
+abbrev pub item_on : ℕ → Session → Body → SentItem
+item_on me session body = record { key = session.key; direction = direction_out me session.key; seq = length session.sent; body = body }
+
+-- ---- what an act does, and what the frame is resumed with
+
+-- what the frame is resumed with, and what changes besides
+abbrev pub Done : Type 0
+Done = Resumed × Change
+
+-- the next session is opened, and its Init is sent
+abbrev pub opening : {F : Type 0} → ℕ → NodeState F → Party → ℕ → Value → Done
+opening me s to class first =
+    let key = next_key me s in
+    (resumed.Opened key, record nothing { opened = Some (key, to); sent = record { key = key; direction = 0; seq = 0; body = body_of.Init class first } ∷ [] })
+
+-- whether a party is no other node of the network
+abbrev pub is_no_peer : {F : Type 0} → Environment F → ℕ → Party → Bool
+is_no_peer w me to = (to.0 == me) || nat_le w.nodes to.0
+
+-- whether a flow has as many sessions as it may have
+abbrev pub has_many : {F : Type 0} → NodeState F → ℕ → Bool
+has_many s f = nat_le 64 (length (sessions_of s f))
+
+-- Open: the session, or that the party is no other node, or that the flow has 64 sessions
+abbrev pub opens : {F : Type 0} → Environment F → ℕ → NodeState F → ℕ → Party → ℕ → Value → Done
+opens w me s f to class first =
+    if is_no_peer w me to then (resumed.Refused 48, nothing)
+    else if has_many s f then (resumed.Refused 57, nothing)
+    else opening me s to class first
+
+-- Send: Data in a session that the flow owns
+abbrev pub sends : ℕ → Value → Option Session → Done
+sends me value None = (resumed.Refused 58, nothing)
+sends me value (Some session) = (resumed.Sent, record nothing { sent = item_on me session (body_of.Data value) ∷ [] })
+
+-- what a frame is resumed with once an item is taken
+abbrev pub handed : Body → Resumed
+handed (body_of.Init class first) = resumed.Got first
+handed body_of.Confirm = resumed.Ended
+handed (body_of.Reject code) = resumed.Rejected code
+handed (body_of.Data value) = resumed.Got value
+handed (body_of.Error code) = resumed.Failed code
+handed body_of.End = resumed.Ended
+
+-- an item is taken: those before it are passed over; a repeated ending changes nothing
+abbrev pub takes : Session → Option ℕ × Body → Done
+takes session next = (handed next.1, record nothing { taken = option_map (λ n. (session.key, n + 1)) next.0 })
+
+-- Receive: the next item of a session that the flow owns, where one is there
+abbrev pub receives : Option Session → Option Done
+receives None = Some (resumed.Refused 58, nothing)
+receives (Some session) = option_map (takes session) (next_item session session.ending)
+
+-- Verify: the verdict, where each state that is named can be had
+abbrev pub verifies : {F : Type 0} → Environment F → Tx → Option Resolved → Done
+verifies w tx None = (resumed.Refused 35, nothing)
+verifies w tx (Some states) = (resumed.Verdict (w.judge tx states), nothing)
+
+-- the vault of a node
+abbrev pub vault_at : {F : Type 0} → ℕ → NodeState F → List Held
+vault_at me s = vault_of (party me) (untagged (with_ids s.stored)) s.locked
+
+-- Reserve: the coins, which are locked, or the sum that there is
+abbrev pub reserves : ℕ → Option (List Held) → Done
+reserves have None = (resumed.Short have, nothing)
+reserves have (Some list) = (resumed.Coins list, record nothing { locked = map (λ h. h.reference) list })
+
+-- Lookup: the recorded transaction, if there is one
+abbrev pub finds : Option SignedTx → Done
+finds None = (resumed.Absent, nothing)
+finds (Some stx) = (resumed.Found stx, nothing)
+
+-- Sign: the tag of the node's party, but never that of the notary
+abbrev pub signs_id : {F : Type 0} → Environment F → ℕ → Hash32 → Done
+signs_id w me id = if w.notary.0 == me then (resumed.Refused 46, nothing) else (resumed.Tagged (tag_by w.mark (party me) id), nothing)
+
+-- the entry that a reply adds to the book
+abbrev pub booked_by : Request → Reply → Option Entry
+booked_by q r = if r.fresh then Some (entry_of q r.answer) else None
+
+-- Notarise: what the notary replies, and the entry that is added
+abbrev pub notarises : {F : Type 0} → Environment F → ℕ → NodeState F → ℕ → Request → Done
+notarises w me s now q =
+    let r = reply w.mark s.entries q (identity w me) (record { 0 = now }) in
+    (resumed.Answer r.answer, record nothing { booked = booked_by q r })
+
+-- a transaction is recorded where it was accepted and has the tags that it needs
+abbrev pub records_by : {F : Type 0} → Environment F → SignedTx → Verdict → Done
+records_by w stx verdict.Accepted = if is_signed w.mark stx then (resumed.Recorded, record nothing { recorded = Some stx }) else (resumed.Refused 34, nothing)
+records_by w stx (verdict.Broken rule) = (resumed.Refused 31, nothing)
+records_by w stx (verdict.Refused contract clause) = (resumed.Refused 32, nothing)
+records_by w stx (verdict.NoContract id) = (resumed.Refused 33, nothing)
+
+-- a transaction is judged where each state that it names can be had
+abbrev pub records_in : {F : Type 0} → Environment F → SignedTx → Option Resolved → Done
+records_in w stx None = (resumed.Refused 35, nothing)
+records_in w stx (Some states) = records_by w stx (w.judge stx.tx states)
+
+-- Record: nothing changes where the id is recorded, and a transaction that names another notary is refused
+abbrev pub records : {F : Type 0} → Environment F → NodeState F → SignedTx → Done
+records w s stx =
+    if is_stored (with_ids s.stored) (tx_id stx.tx) then (resumed.Recorded, nothing)
+    else if is_other_notary stx.tx.notary w.notary then (resumed.Refused 41, nothing)
+    else records_in w stx (resolved_of (with_ids s.stored) stx.tx)
+
 -- ---- how a flow goes on
 
 -- a flow that waits on an act
-abbrev pub live : {F : Type 0} → ℕ → ℕ → ℕ → F × Act F → FlowPart F
-live f step class made = now_live (record { flow = f; step = step; class = class; waiting = made.1; top = made.0 })
+abbrev pub live : {F : Type 0} → ℕ → ℕ → ℕ → List F → F × Act F → FlowPart F
+live f step class below made = now_live (record { flow = f; step = step; class = class; waiting = made.1; stack = record { top = made.0; below = below } })
 
--- the frame is resumed with the result
-abbrev pub resumes : {F : Type 0} → Environment F → ℕ → ℕ → Checkpoint F → Resumed → Effect F
-resumes w me now at with = record { flow = live at.flow (at.step + 1) at.class (w.machine.next at.top with (place w me at.flow at.step now)) }
+-- the frame goes on over those below, with the result
+abbrev pub onwards : {F : Type 0} → Environment F → ℕ → ℕ → Checkpoint F → F → List F → Resumed → FlowPart F
+onwards w me now at frame below with = live at.flow (at.step + 1) at.class below (w.machine.next frame with (place w me at.flow at.step now))
 
--- the flow is over, with the value
-abbrev pub returns : {F : Type 0} → Checkpoint F → Value → Effect F
-returns at value = record { flow = now_ended at.flow (at.step + 1) at.class value }
+-- the top frame goes on with the result
+abbrev pub goes_on : {F : Type 0} → Environment F → ℕ → ℕ → Checkpoint F → Done → Effect F
+goes_on w me now at done = record { flow = onwards w me now at at.stack.top at.stack.below done.0; change = done.1 }
 
--- the flow is over, with the code
-abbrev pub fails : {F : Type 0} → Checkpoint F → ℕ → Effect F
-fails at code = record { flow = now_failed at.flow (at.step + 1) at.class code }
+-- the last item to each session of a flow
+abbrev pub last_items : {F : Type 0} → ℕ → NodeState F → ℕ → Body → Change
+last_items me s f body = record nothing { sent = map (λ session. item_on me session body) (sessions_of s f) }
+
+-- Sub: the frame begins above the others, of which there are 8 at most
+abbrev pub pushes : {F : Type 0} → Environment F → ℕ → ℕ → Checkpoint F → F → Effect F
+pushes w me now at frame =
+    if nat_lt (length at.stack.below) 7 then record { flow = onwards w me now at frame (at.stack.top ∷ at.stack.below) resumed.Started; change = nothing }
+    else goes_on w me now at (resumed.Refused 49, nothing)
+
+-- Return: the frame below goes on with the value; at the bottom the flow has ended, which each of its sessions is told
+abbrev pub returns : {F : Type 0} → Environment F → ℕ → NodeState F → ℕ → Checkpoint F → Value → List F → Effect F
+returns w me s now at value [] = record { flow = now_ended at.flow (at.step + 1) at.class value; change = last_items me s at.flow body_of.End }
+returns w me s now at value (frame ∷ below) = record { flow = onwards w me now at frame below (resumed.Returned value); change = nothing }
+
+-- Fail: the flow has failed, which each of its sessions is told
+abbrev pub fails : {F : Type 0} → ℕ → NodeState F → Checkpoint F → ℕ → Effect F
+fails me s at code = record { flow = now_failed at.flow (at.step + 1) at.class code; change = last_items me s at.flow (body_of.Error code) }
 
 -- the act that a flow waits on is performed, where it is enabled other than by a lapse
 abbrev pub performed : {F : Type 0} → Environment F → ℕ → NodeState F → ℕ → Checkpoint F → Act F → Option (Effect F)
+performed w me s now at (act.Open to class first) = Some (goes_on w me now at (opens w me s at.flow to class first))
+performed w me s now at (act.Send key value) = Some (goes_on w me now at (sends me value (owned s at.flow key)))
+performed w me s now at (act.Receive key) = option_map (goes_on w me now at) (receives (owned s at.flow key))
+performed w me s now at (act.ReceiveBy key until) = option_map (goes_on w me now at) (receives (owned s at.flow key))
 performed w me s now at (act.Sleep until) = None
-performed w me s now at (act.Sub frame) = None
-performed w me s now at (act.Return value) = Some (returns at value)
-performed w me s now at (act.Fail code) = Some (fails at code)
+performed w me s now at (act.Sub frame) = Some (pushes w me now at frame)
+performed w me s now at (act.Verify tx) = Some (goes_on w me now at (verifies w tx (resolved_of (with_ids s.stored) tx)))
+performed w me s now at (act.Reserve token amount) = Some (goes_on w me now at (reserves (reservable token (vault_at me s)) (reserved token amount (vault_at me s))))
+performed w me s now at (act.Lookup id) = Some (goes_on w me now at (finds (stored_of (with_ids s.stored) id)))
+performed w me s now at (act.Missing tx) = Some (goes_on w me now at (resumed.Ids (missing_ids (with_ids s.stored) tx), nothing))
+performed w me s now at (act.Sign id) = Some (goes_on w me now at (signs_id w me id))
+performed w me s now at (act.Notarise request) = Some (goes_on w me now at (notarises w me s now request))
+performed w me s now at (act.Record stx) = Some (goes_on w me now at (records w s stx))
+performed w me s now at (act.Return value) = Some (returns w me s now at value at.stack.below)
+performed w me s now at (act.Fail code) = Some (fails me s at code)
+
+-- whether a session is there, and no item of it is
+abbrev pub waits_for : Option Session → Bool
+waits_for None = false
+waits_for (Some session) = is_none (next_item session session.ending)
+
+-- a flow goes on where its act lapses
+abbrev pub lapsed : {F : Type 0} → Environment F → ℕ → ℕ → Checkpoint F → Bool → Option (Effect F)
+lapsed w me now at true = Some (goes_on w me now at (resumed.Lapsed, nothing))
+lapsed w me now at false = None
 
 -- whether the act that a flow waits on lapses now
 abbrev pub lapses : {F : Type 0} → NodeState F → ℕ → ℕ → Act F → Bool
 lapses s now f (act.Sleep until) = nat_le until now
-lapses s now f (act.Sub frame) = false
-lapses s now f (act.Return value) = false
-lapses s now f (act.Fail code) = false
-
--- a flow goes on where its act lapses
-abbrev pub lapsed : {F : Type 0} → Environment F → ℕ → ℕ → Checkpoint F → Bool → Option (Effect F)
-lapsed w me now at true = Some (resumes w me now at resumed.Lapsed)
-lapsed w me now at false = None
+lapses s now f (act.ReceiveBy key until) = nat_le until now && waits_for (owned s f key)
+lapses s now f _ = false
 
 -- the checkpoint of a flow that is live
 abbrev pub checkpoint_of : {F : Type 0} → FlowState F → Option (Checkpoint F)
@@ -67,35 +247,114 @@ checkpoint_of (state.Failed step class code) = None
 abbrev pub live_at : {F : Type 0} → NodeState F → ℕ → Option (Checkpoint F)
 live_at s f = option_and_then checkpoint_of (slice_get s.flows f)
 
+-- ---- what is accepted
+
 -- a new flow is live at step 0
 abbrev pub started : {F : Type 0} → ℕ → ℕ → Result (F × Act F) MakeFault → Option (Effect F)
-started f class (Ok made) = Some (record { flow = live f 0 class made })
+started f class (Ok made) = Some (record { flow = live f 0 class [] made; change = nothing })
 started f class (Err fault) = None
+
+-- the effect of an Init that is accepted: the flow that answers it, or none where its class is unknown
+abbrev pub answering : {F : Type 0} → Key → ℕ → ℕ → Body → Option (F × Act F) → Effect F
+answering key f class init (Some made) = record {
+  flow = live f 0 class [] made;
+  change = record nothing { came = Some init; sent = record { key = key; direction = 1; seq = 0; body = body_of.Confirm } ∷ [] };
+}
+answering key f class init None = record {
+  flow = no_flow;
+  change = record nothing { came = Some init; sent = record { key = key; direction = 1; seq = 0; body = body_of.Reject 5 } ∷ [] };
+}
+
+-- an Init is answered
+abbrev pub answered_with : {F : Type 0} → Environment F → ℕ → NodeState F → ℕ → Key → Body → Option (Effect F)
+answered_with w me s now key (body_of.Init class first) = Some (answering key (length s.flows) class (body_of.Init class first) (w.machine.begun class key (place w me (length s.flows) 0 now)))
+answered_with w me s now key _ = None
+
+-- whether a key is new here, and its initiator is another node
+abbrev pub is_new_key : {F : Type 0} → Environment F → ℕ → NodeState F → Key → Bool
+is_new_key w me s key = is_none (session_of key s.sessions) && (not (key.initiator.0 == me) && nat_lt key.initiator.0 w.nodes)
+
+-- the first item of a new session is answered
+abbrev pub answered : {F : Type 0} → Environment F → ℕ → NodeState F → ℕ → Key → Body → Option (Effect F)
+answered w me s now key body = if is_new_key w me s key then answered_with w me s now key body else None
+
+-- whether a body is an Init
+abbrev pub is_init : Body → Bool
+is_init (body_of.Init class first) = true
+is_init _ = false
+
+-- whether a body may stand at that number of that direction: Init at the first of all, Confirm or Reject at the first of the answers, all else behind them
+abbrev pub is_lawful : ℕ → ℕ → Body → Bool
+is_lawful direction number (body_of.Init class first) = (direction == 0) && (number == 0)
+is_lawful direction number body_of.Confirm = (direction == 1) && (number == 0)
+is_lawful direction number (body_of.Reject code) = (direction == 1) && (number == 0)
+is_lawful direction number (body_of.Data value) = not (number == 0)
+is_lawful direction number (body_of.Error code) = not (number == 0)
+is_lawful direction number body_of.End = not (number == 0)
+
+-- whether an item is the next one that comes, lawful there, and no Init
+abbrev pub is_next : ℕ → Key → ℕ → ℕ → Body → Session → Bool
+is_next me key direction number body session = (direction == 1 - direction_out me key) && ((number == length session.came) && (is_lawful direction number body && not (is_init body)))
+
+-- the next item of a session arrives
+abbrev pub arrived : {F : Type 0} → ℕ → Key → ℕ → ℕ → Body → Session → Option (Effect F)
+arrived me key direction number body session =
+    if is_next me key direction number body session
+    then Some (record { flow = no_flow; change = record nothing { came = Some body } })
+    else None
 
 -- ---- the step
 
--- the effect of an event, where it is defined
-unfoldable pub effect_of : {F : Type 0} → Environment F → ℕ → NodeState F → ℕ → Event → Option Item → Option (Effect F)
-effect_of w me s now (event.Start f class args) item = if f == length s.flows then started f class (w.machine.made class args (place w me f 0 now)) else None
-effect_of w me s now (event.Answer key) item = None
-effect_of w me s now (event.Arrive key direction number) item = None
-effect_of w me s now (event.Move f) item = option_and_then (λ at. performed w me s now at at.waiting) (live_at s f)
-effect_of w me s now (event.Lapse f) item = option_and_then (λ at. lapsed w me now at (lapses s now at.flow at.waiting)) (live_at s f)
+-- the effect that an event has, where it is defined; the body is that of the accepted item
+abbrev pub meant_of : {F : Type 0} → Environment F → ℕ → NodeState F → ℕ → Event → Option Body → Option (Effect F)
+meant_of w me s now (event.Start f class args) body = if f == length s.flows then started f class (w.machine.made class args (place w me f 0 now)) else None
+meant_of w me s now (event.Answer key) body = option_and_then (answered w me s now key) body
+meant_of w me s now (event.Arrive key direction number) body = option_and_then (λ session. option_and_then (λ b. arrived me key direction number b session) body) (session_of key s.sessions)
+meant_of w me s now (event.Move f) body = option_and_then (λ at. performed w me s now at at.waiting) (live_at s f)
+meant_of w me s now (event.Lapse f) body = option_and_then (λ at. lapsed w me now at (lapses s now at.flow at.waiting)) (live_at s f)
+
+-- whether nodes perform an act so far, over these frames below: they sleep, they fail, and they return from a flow's only frame
+abbrev pub is_act_built : {F : Type 0} → Act F → List F → Bool
+is_act_built (act.Sleep until) below = true
+is_act_built (act.Fail code) below = true
+is_act_built (act.Return value) [] = true
+is_act_built _ below = false
+
+-- whether nodes perform the act that a flow waits on so far
+abbrev pub is_flow_built : {F : Type 0} → Option (Checkpoint F) → Bool
+is_flow_built None = false
+is_flow_built (Some at) = is_act_built at.waiting at.stack.below
+
+-- whether nodes do so far what an event says; what they don't yet is never enabled. Here alone the machine is less than its definitions say
+abbrev pub is_built : {F : Type 0} → NodeState F → Event → Bool
+is_built s (event.Start f class args) = true
+is_built s (event.Answer key) = false
+is_built s (event.Arrive key direction number) = false
+is_built s (event.Move f) = is_flow_built (live_at s f)
+is_built s (event.Lapse f) = is_flow_built (live_at s f)
+
+-- the effect of an event that nodes perform, where it is defined
+unfoldable pub effect_of : {F : Type 0} → Environment F → ℕ → NodeState F → ℕ → Event → Option Body → Option (Effect F)
+effect_of w me s now event body = if is_built s event then meant_of w me s now event body else None
+
+-- the body of an item
+abbrev pub body_in : Option Sent → Option Body
+body_in item = option_map (λ sent. sent.body) item
 
 -- the stamp of an item, 0 without one
-abbrev pub stamp_in : Option Item → ℕ
+abbrev pub stamp_in : Option Sent → ℕ
 stamp_in None = 0
-stamp_in (Some item) = item.stamp
+stamp_in (Some sent) = sent.stamp
 
 -- the stamp is the next one after the node's and the item's, and the moment doesn't fall
 abbrev pub in_order : {F : Type 0} → NodeState F → Cause → ℕ → Bool
 in_order s cause stamp = (cause.stamp == max s.stamp stamp + 1) && (nat_lt cause.stamp (2 ^ 63) && nat_le s.moment cause.moment.0)
 
 -- the state after a cause and its effect, where they are defined; the item is the one that is accepted
-unfoldable pub node_step : {F : Type 0} → Environment F → ℕ → NodeState F → Cause → Option Item → Option (NodeState F × Effect F)
+unfoldable pub node_step : {F : Type 0} → Environment F → ℕ → NodeState F → Cause → Option Sent → Option (NodeState F × Effect F)
 node_step w me s cause item =
     if in_order s cause (stamp_in item)
-    then option_map (λ e. (apply_effect s cause e, e)) (effect_of w me s cause.moment.0 cause.event item)
+    then option_map (λ e. (apply_effect s cause e, e)) (effect_of w me s cause.moment.0 cause.event (body_in item))
     else None
 
 -- the cause of an event that accepts no item

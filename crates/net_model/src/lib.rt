@@ -1,23 +1,19 @@
 //! The network machine: what a cause does to a node, which causes are a run of the network, and what is printed of it.
 //!
-//! The definitions stand in `specs/`, in this order: `Environment`, `State`, `Steps`, `Enabled`, `Runs`, `Print`.
-//! The functions here have no body: each is a law of these definitions, which is its contract.
+//! The definitions stand in `specs/`, in this order: `Names`, `Environment`, `State`, `Steps`, `Enabled`, `Runs`, `Fits`, `Left`,
+//! `Tags`, `Stores`, `Books`, `Print`. Each function here without a body is a law of these definitions, which is its contract; `merge`
+//! puts the causes of all nodes into the order of their run.
 #![tactic(auto)]
 
 mod laws;
+mod ordering;
 
-pub use laws::{enabled_is_defined, merges_in_order, stamps_rise};
+pub use laws::{
+    books_hold, commits_keep, enabled_is_defined, faithful_exactly, faithful_run, items_stay,
+    left_falls, merges_in_order, notary_tags_hold, stamps_rise, step_is_its_effect, steps_fit,
+    stored_is_signed, stores_hold,
+};
+pub use ordering::merge;
 
 #[cfg(test)]
-mod tests {
-    use super::*;
-    use flow_machine::Counter;
-    use net_base::Cause;
-
-    #[test]
-    fn the_laws_hold_of_the_counting_flow() {
-        enabled_is_defined::<Counter>();
-        stamps_rise::<Counter>();
-        merges_in_order::<Cause>();
-    }
-}
+mod tests;

@@ -4,7 +4,7 @@ use Rattle.std.specs.Bool.{◌==◌}
 use Rattle.std.proofs.lemmas.Bool.{eq-eqb}
 use Rattle.net_base.specs.declared.causes.Cause.{Cause}
 use Rattle.net_base.specs.declared.causes.Event.{Event}
-use Rattle.flow_machine.specs.Flows.{Machine}
+use Rattle.flow_machine.specs.Machine.{Machine}
 use Rattle.flow_machine.specs.declared.flows.FlowState.{FlowState}
 use Rattle.net_model.specs.Environment.{Environment, one_node}
 use Rattle.net_model.specs.State.{NodeState, fresh}

@@ -11,7 +11,7 @@ use Rattle.flow_machine.specs.declared.flows.Checkpoint.{Checkpoint}
 use Rattle.flow_machine.specs.declared.flows.FlowState.{FlowState}
 use Rattle.flow_machine.specs.declared.flows.FlowState.TheVariants.{Live}
 use Rattle.net_model.specs.Environment.{Environment}
-use Rattle.net_model.specs.State.{NodeState}
+use Rattle.net_model.specs.State.{NodeState, nothing}
 use Rattle.net_model.specs.Steps.{place, next_cause}
 use Rattle.net_model.specs.Enabled.{event_of, first_event, effect_on, part_of}
 use Rattle.net_model.specs.Sound.{IsNumbered, steps_of}
@@ -20,13 +20,13 @@ use Rattle.node_shell.specs.declared.node.StartFault.TheVariants.{UnknownClass, 
 use Rattle.node_shell.specs.declared.node.Turned.{Turned}
 use Rattle.node_shell.specs.declared.node.Turned.TheVariants as turned
 use Rattle.node_shell.specs.declared.ready.Ready.{Ready}
-use Rattle.node_shell.specs.Worlds.{World, alone, journal_at, with_cause, node_at}
+use Rattle.node_shell.specs.Worlds.{World, alone, journal_at, with_cause, node_at, HasOneFrame}
 
 -- ---- starts
 
 -- a flow that begins is live at step 0
 abbrev pub begun : {F : Type 0} → ℕ → ℕ → F × Act F → FlowState F
-begun f class made = Live (record { flow = f; step = 0; class = class; waiting = made.1; top = made.0 })
+begun f class made = Live (record { flow = f; step = 0; class = class; waiting = made.1; stack = record { top = made.0; below = [] } })
 
 -- the flow of this number is the one that the flow set makes
 abbrev pub MakesFlow : {F : Type 0} → Result (FlowState F) StartFault → ℕ → ℕ → Result (F × Act F) MakeFault → Type 0
@@ -73,15 +73,16 @@ StartsAs old (Err Full) new meant = (meant ≡ Err Full) × (new ≡ old)
 -- a flow that slept, after its frame was resumed
 abbrev pub woken : {F : Type 0} → Environment F → ℕ → ℕ → Checkpoint F → FlowState F
 woken w p now at =
-    let made = w.machine.next at.top Lapsed (place w p at.flow at.step now) in
-    Live (record { flow = at.flow; step = at.step + 1; class = at.class; waiting = made.1; top = made.0 })
+    let made = w.machine.next at.stack.top Lapsed (place w p at.flow at.step now) in
+    Live (record { flow = at.flow; step = at.step + 1; class = at.class; waiting = made.1; stack = record { top = made.0; below = at.stack.below } })
 
--- a flow of this number goes on by the event, and is this after it
+-- a flow of this number with one frame goes on by the event, at a node without sessions, and is this after it
 pub record GoesOn {F : Type 0} (w : Environment F) (p number now : ℕ) (old : FlowState F) (event : Event) (new : FlowState F) : Type 0 where
   pub by : event_of number now old ≡ Some event
   pub numbered : IsNumbered number new
+  pub single : HasOneFrame new
   pub step : steps_of new ≡ steps_of old + 1
-  pub to : (s : NodeState F) → effect_on w p s now old event ≡ Some (record { flow = part_of number new })
+  pub to : (s : NodeState F) → s.sessions ≡ [] → effect_on w p s now old event ≡ Some (record { flow = part_of number new; change = nothing })
 
 -- what a scan of the flows found: the first that can go on, by which event, and to what
 abbrev pub IsFirst : {F : Type 0} → Environment F → ℕ → ℕ → List (FlowState F) → Option (Ready F) → Type 0

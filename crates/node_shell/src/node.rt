@@ -1,4 +1,4 @@
-ghost use Rattle.std.specs.Prelude.{◌≡◌, ◌++◌, ◌∷◌, ◌<◌, ◌+◌, ◌-◌, ◌^◌, [], length, IfOk, IfSome, Some, OnOk, OnErr, string_bytes};
+ghost use Rattle.std.specs.Prelude.{◌≡◌, slice_set, ◌++◌, ◌∷◌, ◌<◌, ◌+◌, ◌-◌, ◌^◌, [], length, IfOk, IfSome, Some, OnOk, OnErr, string_bytes};
 ghost use Rattle.net_model.specs.Environment.{one_node};
 ghost use Rattle.net_model.specs.Steps.{place, next_cause};
 ghost use Rattle.net_model.specs.Print.{printed, of_flows};
@@ -7,7 +7,7 @@ ghost use Rattle.node_shell.specs.Turns.{start_of, start_cause, StartsAs, TurnsA
 
 use super::ready::{Ready, first_ready, place};
 use super::report::flows_text;
-use flow_machine::{Checkpoint, FlowSet, FlowState, MakeFault};
+use flow_machine::{Checkpoint, FlowSet, FlowState, MakeFault, Stack};
 use net_base::{ByteList, Cause, CauseList, Event, Moment};
 use std::alloc::{AllocError, Global};
 use std::marker::Model;
@@ -189,9 +189,13 @@ impl<F: FlowSet> Node<F> {
         ensures err { OnErr result (self.new ≡ self.old) }
         ensures by { IsBy (one_node F.machine) (alone now.0 self.new) 0 }
     {
-        let number = next.number as usize;
-        self.causes.push(cause_after(self.stamp, now, next.event))?;
-        self.flows[number] = next.flow;
+        let Ready {
+            number,
+            event,
+            flow,
+        } = next;
+        self.causes.push(cause_after(self.stamp, now, event))?;
+        set_flow(&mut self.flows, number as usize, flow);
         self.stamp += 1;
         self.moment = now.0;
         Ok(())
@@ -210,6 +214,14 @@ fn cause_after(stamp: u64, now: Moment, event: Event) -> Cause
     }
 }
 
+// Another flow in the place of one of the table.
+fn set_flow<F: Drop>(flows: &mut Vec<FlowState<F>>, number: usize, flow: FlowState<F>)
+    requires { number < length flows.old.items }
+    ensures { flows.new.items ≡ slice_set flows.old.items number flow }
+{
+    flows[number] = flow;
+}
+
 // The flow with which a start begins.
 fn make_flow<F: FlowSet>(
     alloc: Global,
@@ -226,7 +238,7 @@ fn make_flow<F: FlowSet>(
             step: 0,
             class,
             waiting,
-            top,
+            stack: Stack::new(alloc, top),
         })),
         Err(MakeFault::UnknownClass) => Err(StartFault::UnknownClass),
         Err(MakeFault::BadArgs) => Err(StartFault::BadArgs),

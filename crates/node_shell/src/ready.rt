@@ -1,11 +1,12 @@
-ghost use Rattle.std.specs.Prelude.{◌≡◌, ◌<◌, ◌+◌, ◌-◌, ◌^◌, length, IfOk, MatchOption, None, Some};
+ghost use Rattle.std.specs.Prelude.{◌≡◌, ◌<◌, ◌+◌, ◌-◌, ◌^◌, [], length, IfOk, MatchOption, None, Some};
 ghost use Rattle.std.specs.List.{AllByRecursion};
 ghost use Rattle.net_model.specs.Environment.{one_node};
 ghost use Rattle.net_model.specs.Enabled.{event_of};
 ghost use Rattle.net_model.specs.Sound.{steps_of, IsNumbered, AreNumbered};
+ghost use Rattle.node_shell.specs.Worlds.{HasOneFrame};
 ghost use Rattle.node_shell.specs.Turns.{woken, GoesOn, IsFirst};
 
-use flow_machine::{Act, Checkpoint, FlowSet, FlowState, Place, Resumed};
+use flow_machine::{Act, Checkpoint, FlowSet, FlowState, Place, Resumed, Stack};
 use net_base::{Event, Moment, Party};
 use std::alloc::{AllocError, Global};
 
@@ -23,23 +24,24 @@ pub fn place(flow: u32, step: u32, now: Moment) -> Place
     }
 }
 
-// A flow that slept, after its frame was resumed.
+// A flow that slept, after its one frame was resumed.
 fn wake<F: FlowSet>(
     alloc: Global,
     now: Moment,
     at: &Checkpoint<F>,
 ) -> Result<FlowState<F>, AllocError>
-    requires { at.now.step < 2 ^ 32 - 1 }
+    requires step { at.now.step < 2 ^ 32 - 1 }
+    requires single { at.now.stack.below ≡ [] }
     ensures { IfOk result (λ flow. flow ≡ woken (one_node F.machine) 0 now.0 at.now) }
 {
     let here = place(at.flow, at.step, now);
-    let (top, waiting) = at.top.resume(alloc, &Resumed::Lapsed, &here)?;
+    let (top, waiting) = at.stack.top().resume(alloc, &Resumed::Lapsed, &here)?;
     Ok(FlowState::Live(Checkpoint {
         flow: at.flow,
         step: at.step + 1,
         class: at.class,
         waiting,
-        top,
+        stack: Stack::new(alloc, top),
     }))
 }
 
@@ -52,6 +54,7 @@ fn advance<F: FlowSet>(
 ) -> Result<Option<(Event, FlowState<F>)>, AllocError>
     requires steps { steps_of flow.now < 2 ^ 32 - 1 }
     requires numbered { IsNumbered number flow.now }
+    requires single { HasOneFrame flow.now }
     ensures { IfOk result (λ r. MatchOption r (event_of number now.0 flow.now ≡ None) (λ next. GoesOn (one_node F.machine) 0 number now.0 flow.now next.0 next.1)) }
 {
     let FlowState::Live(at) = flow else {
@@ -65,7 +68,6 @@ fn advance<F: FlowSet>(
             let woken = wake(alloc, now, at)?;
             Ok(Some((Event::Lapse { flow: number }, woken)))
         }
-        Act::Sub { .. } => Ok(None),
         Act::Return { value } => {
             let ended = FlowState::Ended {
                 step: at.step + 1,
@@ -82,6 +84,7 @@ fn advance<F: FlowSet>(
             };
             Ok(Some((Event::Move { flow: number }, failed)))
         }
+        _ => Ok(None),
     }
 }
 
@@ -102,6 +105,7 @@ pub fn first_ready<F: FlowSet>(
     requires few { length flows.now < 2 ^ 32 }
     requires steps { AllByRecursion (λ flow. steps_of flow < 2 ^ 32 - 1) flows.now }
     requires numbered { AreNumbered 0 flows.now }
+    requires single { AllByRecursion HasOneFrame flows.now }
     ensures { IfOk result (λ found. IsFirst (one_node F.machine) 0 now.0 flows.now found) }
 {
     for (i, flow) in flows.iter().enumerate() {

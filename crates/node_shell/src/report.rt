@@ -10,8 +10,19 @@ fn act_name<F>(act: &Act<F>) -> &'static str
     ensures { result.now ≡ act_name act.now }
 {
     match act {
+        Act::Open { .. } => "open",
+        Act::Send { .. } => "send",
+        Act::Receive { .. } => "receive",
+        Act::ReceiveBy { .. } => "receiveby",
         Act::Sleep { .. } => "sleep",
         Act::Sub { .. } => "sub",
+        Act::Verify { .. } => "verify",
+        Act::Reserve { .. } => "reserve",
+        Act::Lookup { .. } => "lookup",
+        Act::Missing { .. } => "missing",
+        Act::Sign { .. } => "sign",
+        Act::Notarise { .. } => "notarise",
+        Act::Record { .. } => "record",
         Act::Return { .. } => "return",
         Act::Fail { .. } => "fail",
     }

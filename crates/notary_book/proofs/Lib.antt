@@ -1,5 +1,5 @@
 pub mod Answering
-pub mod Finding
 pub mod Once
 pub mod Caused
+pub mod Places
 pub mod Refused

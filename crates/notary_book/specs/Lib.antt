@@ -1,3 +1,4 @@
 pub mod Agreement
 pub mod Booked
 pub mod Causes
+pub mod Indexed

@@ -1,15 +1,15 @@
-//! The book, and what the notary decides over it.
+//! The book.
 
-ghost use Rattle.std.specs.Prelude.{◌≡◌, ◌<◌, ◌≤◌, ◌+◌, ◌++◌, ◌∷◌, [], OnOk, OnErr, IfOk};
+ghost use Rattle.std.specs.Prelude.{◌≡◌, ◌<◌, ◌≤◌, ◌+◌, ◌++◌, ◌∷◌, [], false, find, slice_get, length, OnOk, IfSome};
 ghost use Rattle.std.specs.Option.{option_copied};
-ghost use Rattle.ledger_types.specs.Names.{is_party};
-ghost use Rattle.ledger_types.specs.Tears.{visible_of};
-ghost use Rattle.ledger_types.specs.Notary.{tag_by, has_good_tag, is_inside, conflicts, answer_unsigned, answer_shown, answer_new, is_notary, reply};
+ghost use Rattle.std.specs.List.{list_any};
+ghost use Rattle.ledger_types.specs.Notary.{signs, repeats, consumes};
+ghost use Rattle.ledger_types.specs.Requests.{IsNotaryAnswer};
 
-use crate::entries::{add_conflicts, find_repeated, is_signed};
-use ledger_types::{Entry, NotaryAnswer, RefKind, Request, Visible, Window};
-use net_base::{Hash32, Identity, ListOf, Moment, Party, Tag};
-use signing::Signer;
+use crate::index::{RequestKey, note, note_signed};
+use indexmap::IndexMap;
+use ledger_types::{Entry, Request};
+use net_base::{Hash32, StateRef};
 use std::alloc::{AllocError, Global};
 use std::marker::Model;
 
@@ -17,59 +17,23 @@ use std::marker::Model;
 #[derive(Drop)]
 pub struct Book {
     entries: Vec<Entry>,
+    by_request: IndexMap<RequestKey, usize>,
+    by_id: IndexMap<Hash32, usize>,
+    by_reference: IndexMap<StateRef, usize>,
 }
 
 impl Model for Book {
-    ghost use Rattle.std.specs.Prelude.{◌-◌, vec_len, vec_capacity};
+    ghost use Rattle.std.specs.Prelude.{◌-◌, ◌/◌, min, vec_len, vec_capacity};
+    ghost use Rattle.indexmap.specs.IndexMap.{spare};
     ghost use Rattle.notary_book.specs.Booked.{Booked};
+    ghost use Rattle.notary_book.specs.Indexed.{IsIndexed};
 
     ghost Value = { Booked };
 
-    ghost view = { λ b. record { entries = b.entries.items; room = vec_capacity b.entries - vec_len b.entries } };
-}
+    // An entry takes one place of the list, one of each of two indices, and one for each input of the third.
+    ghost view = { λ b. record { entries = b.entries.items; room = min (vec_capacity b.entries - vec_len b.entries) (min (spare b.by_request) (min (spare b.by_id) (spare b.by_reference / 64))) } };
 
-/// An answer, and whether it is fresh: an entry is added exactly for a fresh one.
-#[derive(Debug, Drop)]
-pub struct Decision {
-    pub answer: NotaryAnswer,
-    pub fresh: bool,
-}
-
-fn tag_by<S: Signer>(signer: &S, by: Party, id: &Hash32) -> Tag
-    ensures { result ≡ tag_by (S.mark_of signer.now) by id.now }
-{
-    Tag {
-        by,
-        of: *id,
-        mark: signer.mark(by, id),
-    }
-}
-
-/// Whether the request's tag is by the asking party, over the id, and checks.
-fn has_good_tag<S: Signer>(signer: &S, request: &Request) -> bool
-    ensures { result ≡ has_good_tag (S.mark_of signer.now) request.now }
-{
-    request.tag.by.0 == request.party.0
-        && request.tag.of == request.torn.id
-        && signer.checks(&request.tag)
-}
-
-fn is_inside(window: &Option<Window>, now: Moment) -> bool
-    ensures { result ≡ is_inside window.now now }
-{
-    match window {
-        None => true,
-        Some(window) => window.holds(now),
-    }
-}
-
-fn is_party(party: Party, option: &Option<Party>) -> bool
-    ensures { result ≡ is_party party option.now }
-{
-    match option {
-        None => false,
-        Some(other) => party == *other,
-    }
+    ghost invariant = { λ b. IsIndexed b.entries.items b.by_request.entries b.by_id.entries b.by_reference.entries };
 }
 
 impl Book {
@@ -79,6 +43,9 @@ impl Book {
     {
         Book {
             entries: Vec::new(alloc),
+            by_request: IndexMap::new(alloc),
+            by_id: IndexMap::new(alloc),
+            by_reference: IndexMap::new(alloc),
         }
     }
 
@@ -89,158 +56,62 @@ impl Book {
         self.entries.as_slice()
     }
 
-    /// Makes room for one more entry. Want of memory changes nothing.
+    /// Makes room for one more entry, of as many as 64 inputs. Want of memory changes nothing.
     pub fn make_room(&mut self, _alloc: Global) -> Result<(), AllocError>
         ensures entries { self.new.entries ≡ self.old.entries }
         ensures room { OnOk result (0 < self.new.room) }
         ensures keeps { self.old.room ≤ self.new.room }
     {
-        self.entries.reserve(1)
+        self.entries.reserve(1)?;
+        self.by_request.reserve(1)?;
+        self.by_id.reserve(1)?;
+        self.by_reference.reserve(64)
     }
 
-    /// Adds an entry at the end, in the room that was made.
+    /// Adds an entry at the end, in the room that was made. An entry within the limits of its spelling has at most 64
+    /// inputs and an answer within its own limits.
     pub fn add(&mut self, entry: Entry)
-        requires { 0 < self.old.room }
+        requires room { 0 < self.old.room }
+        requires inputs { length entry.inputs ≤ 64 }
+        requires answer { IsNotaryAnswer entry.answer }
         ensures entries { self.new.entries ≡ self.old.entries ++ entry ∷ [] }
         ensures room { self.old.room ≤ self.new.room + 1 }
     {
+        let place = self.entries.len();
+        note(&mut self.by_request, RequestKey::of(&entry.request), place);
+        note_signed(&mut self.by_id, &mut self.by_reference, &entry, place);
         self.entries.push(entry).unwrap();
     }
 
-    /// The answer about an id that was not signed before: a conflict, of which at most 80 items are named; or that the
-    /// moment is outside the window; else the notary's tag.
-    #[tactic(auto, using(crate::proofs::Answering::conflicting, crate::proofs::Answering::free))]
-    fn answer_unsigned<S: Signer>(
-        &self,
-        alloc: Global,
-        id: &Hash32,
-        seen: &Visible,
-        me: Party,
-        now: Moment,
-        signer: &S,
-    ) -> Result<NotaryAnswer, AllocError>
-        ensures { IfOk result (λ a. a ≡ answer_unsigned (S.mark_of signer.now) me id.now now seen.now.window (conflicts self.now.entries id.now seen.now)) }
+    /// Whether an entry signed the id.
+    pub(crate) fn is_signed(&self, id: &Hash32) -> bool
+        ensures { result ≡ list_any (signs id.now) self.now.entries }
     {
-        let entries = self.entries.as_slice();
-        let mut items = Vec::new(alloc);
-        add_conflicts(
-            entries,
-            id,
-            RefKind::Input,
-            seen.inputs.as_slice(),
-            &mut items,
-        )?;
-        add_conflicts(
-            entries,
-            id,
-            RefKind::Reference,
-            seen.references.as_slice(),
-            &mut items,
-        )?;
-        if items.len() > 0 {
-            items.truncate(80);
-            return Ok(NotaryAnswer::Conflict {
-                list: ListOf::from_vec(items),
-            });
-        }
-        if !is_inside(&seen.window, now) {
-            return Ok(NotaryAnswer::OutsideWindow { now });
-        }
-        Ok(NotaryAnswer::Signed {
-            tag: tag_by(signer, me, id),
-        })
+        self.by_id.contains_key(id)
     }
 
-    /// The answer to a good tear-off that names this notary.
-    fn answer_shown<S: Signer>(
-        &self,
-        alloc: Global,
-        request: &Request,
-        seen: &Visible,
-        me: Party,
-        now: Moment,
-        signer: &S,
-    ) -> Result<NotaryAnswer, AllocError>
-        ensures { IfOk result (λ a. a ≡ answer_shown (S.mark_of signer.now) me self.now.entries request.now now seen.now) }
+    fn entry_at(&self, place: usize) -> Option<&Entry>
+        ensures { option_copied result ≡ slice_get self.now.entries place }
     {
-        if !has_good_tag(signer, request) {
-            return Ok(NotaryAnswer::BadRequestTag);
-        }
-        let id = &request.torn.id;
-        if is_signed(self.entries.as_slice(), id) {
-            return Ok(NotaryAnswer::Signed {
-                tag: tag_by(signer, me, id),
-            });
-        }
-        self.answer_unsigned(alloc, id, seen, me, now, signer)
+        self.entries.get(place)
     }
 
-    /// The answer to a request that no entry repeats.
-    fn answer_new<S: Signer>(
-        &self,
-        alloc: Global,
-        request: &Request,
-        seen: Option<&Visible>,
-        me: &Identity,
-        now: Moment,
-        signer: &S,
-    ) -> Result<NotaryAnswer, AllocError>
-        requires { option_copied seen ≡ visible_of request.now.torn }
-        ensures { IfOk result (λ a. a ≡ answer_new (S.mark_of signer.now) me.now self.now.entries request.now now) }
+    /// The first entry that answers the same request.
+    pub(crate) fn find_repeated(&self, request: &Request) -> Option<&Entry>
+        ensures entry { option_copied result ≡ find (repeats request.now) self.now.entries }
+        ensures limits { IfSome result (λ e. IsNotaryAnswer e.now.answer) }
     {
-        if me.party != me.notary {
-            return Ok(NotaryAnswer::WrongNotary);
-        }
-        match seen {
-            None => Ok(NotaryAnswer::BadTear),
-            Some(seen) => {
-                if is_party(me.party, &seen.notary) {
-                    self.answer_shown(alloc, request, seen, me.party, now, signer)
-                } else {
-                    Ok(NotaryAnswer::WrongNotary)
-                }
-            }
-        }
+        let place = self.by_request.get(&RequestKey::of(request))?;
+        self.entry_at(*place)
     }
 
-    /// What the notary replies to a request, of whose tear-off `seen` is what it shows, `None` where it is bad. The
-    /// first of these that applies:
-    ///
-    /// 1. An entry of the same party, flow and id has its answer repeated, which is not fresh.
-    /// 2. `WrongNotary` where this node is not its network's notary (which is not fresh), or the transaction names
-    ///    another one.
-    /// 3. `BadTear` where the tear-off is bad.
-    /// 4. `BadRequestTag` where the request's tag isn't the asking party's over the id, or doesn't check.
-    /// 5. `Signed` where an entry signed this id already.
-    /// 6. `Conflict` where an input or a reference is an input of a signed entry of another id: each such one, inputs
-    ///    first, at most 80.
-    /// 7. `OutsideWindow` where there is a time window that doesn't hold the moment.
-    /// 8. `Signed` with the notary's tag.
-    ///
-    /// It goes through all entries of the book.
-    #[tactic(auto, unfolding(ledger_types::specs::Notary::reply))]
-    pub fn decide<S: Signer>(
-        &self,
-        alloc: Global,
-        request: &Request,
-        seen: Option<&Visible>,
-        me: &Identity,
-        now: Moment,
-        signer: &S,
-    ) -> Result<Decision, AllocError>
-        requires { option_copied seen ≡ visible_of request.now.torn }
-        ensures answer { IfOk result (λ d. d.answer ≡ (reply (S.mark_of signer.now) self.now.entries request.now me.now now).answer) }
-        ensures fresh { IfOk result (λ d. d.fresh ≡ (reply (S.mark_of signer.now) self.now.entries request.now me.now now).fresh) }
+    /// The first entry that signed another id and has the reference among its inputs. Where no entry signed this id,
+    /// it is the first that signed any.
+    pub(crate) fn find_consumer(&self, id: &Hash32, reference: &StateRef) -> Option<&Entry>
+        requires { list_any (signs id.now) self.now.entries ≡ false }
+        ensures { option_copied result ≡ find (consumes id.now reference.now) self.now.entries }
     {
-        match find_repeated(self.entries.as_slice(), request) {
-            Some(entry) => Ok(Decision {
-                answer: entry.answer.copy(alloc)?,
-                fresh: false,
-            }),
-            None => Ok(Decision {
-                answer: self.answer_new(alloc, request, seen, me, now, signer)?,
-                fresh: me.party == me.notary,
-            }),
-        }
+        let place = self.by_reference.get(reference)?;
+        self.entry_at(*place)
     }
 }

@@ -3,12 +3,14 @@
 #![tactic(auto)]
 
 mod book;
-mod entries;
+mod deciding;
+mod index;
 mod laws;
 #[cfg(test)]
 mod tests;
 
-pub use book::{Book, Decision};
+pub use book::Book;
+pub use deciding::Decision;
 pub use laws::{
     conflicts_name_consumers, one_consumer, refused_is_never_signed, signed_is_never_refused,
 };

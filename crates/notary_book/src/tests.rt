@@ -1,9 +1,15 @@
 //! The decisions of a notary, worked out by hand from the order of its cases. The tear-offs were computed by another
 //! implementation.
 
+ghost use Rattle.std.specs.Prelude.{IfOk};
+ghost use Rattle.net_base.specs.Values.{IsParty};
+ghost use Rattle.ledger_types.specs.Requests.{IsNotaryAnswer};
+
+mod plain;
+
 use super::*;
-use ledger_types::{Entry, NotaryAnswer, RefKind, Request, TornTx, consumer_hash};
-use net_base::{Identity, ListOf, Moment, Party, Reader, Tag};
+use ledger_types::{Entry, NotaryAnswer, RefKind, RefList, Request, TornTx, consumer_hash};
+use net_base::{Hash32, Identity, ListOf, Moment, Party, Reader, Tag};
 use signing::{KeyedDigest, Signer};
 use std::alloc::Global;
 use std::test::Fail;
@@ -33,7 +39,54 @@ const ELSEWHERE: &str =
 const BAD: &str =
     "09090909090909090909090909090909090909090909090909090909090909090501011010101010101010101010101010101010101010101010101010101010101010002401010101010101010101010101010101010101010101010101010101010101010000000000ffffffffffffffffffffffffffffffffffffffffffffffffffffffffffffffff00ffffffffffffffffffffffffffffffffffffffffffffffffffffffffffffffff00ffffffffffffffffffffffffffffffffffffffffffffffffffffffffffffffff01012020202020202020202020202020202020202020202020202020202020202020000100";
 
-/// What the notary replies; an entry of a fresh answer is added.
+/// A request for a tear-off, with the tag of the party `signer`.
+fn request_of(
+    alloc: Global,
+    torn: &str,
+    party: u8,
+    flow: u32,
+    signer: u8,
+) -> Result<Request, Fail> {
+    let bytes = hex::decode(alloc, torn)?;
+    let torn = TornTx::decode(alloc, &mut Reader::new(&bytes))?;
+    let by = Party(signer);
+    let tag = Tag {
+        by,
+        of: torn.id,
+        mark: KeyedDigest.mark(by, &torn.id),
+    };
+    Ok(Request {
+        party: Party(party),
+        flow,
+        torn,
+        tag,
+    })
+}
+
+/// What the notary replies, and the inputs that it saw.
+fn decide(
+    alloc: Global,
+    book: &Book,
+    request: &Request,
+    me: &Identity,
+    now: Moment,
+) -> Result<(RefList, Decision), TearFault>
+    ensures { IsParty me.now.party → IfOk result (λ p. IsNotaryAnswer p.1.answer) }
+{
+    match visible(alloc, &request.torn) {
+        Ok(seen) => {
+            let decision = book.decide(alloc, request, Some(&seen), me, now, &KeyedDigest)?;
+            Ok((seen.inputs, decision))
+        }
+        Err(TearFault::BadTear) => {
+            let decision = book.decide(alloc, request, None, me, now, &KeyedDigest)?;
+            Ok((ListOf::new(alloc), decision))
+        }
+        Err(fault) => Err(fault),
+    }
+}
+
+/// What the notary replies, as its code; an entry of a fresh answer is added.
 fn answer(
     alloc: Global,
     book: &mut Book,
@@ -41,19 +94,12 @@ fn answer(
     me: &Identity,
     now: Moment,
 ) -> Result<(u8, bool), TearFault> {
-    let (inputs, decision) = match visible(alloc, &request.torn) {
-        Ok(seen) => {
-            let decision = book.decide(alloc, &request, Some(&seen), me, now, &KeyedDigest)?;
-            (seen.inputs, decision)
-        }
-        Err(TearFault::BadTear) => {
-            let decision = book.decide(alloc, &request, None, me, now, &KeyedDigest)?;
-            (ListOf::new(alloc), decision)
-        }
-        Err(fault) => return Err(fault),
-    };
+    let (inputs, decision) = decide(alloc, book, &request, me, now)?;
     let Decision { answer, fresh } = decision;
     let code = answer.code();
+    if inputs.len() > 64 || me.party.0 > 15 {
+        return Err(TearFault::BadTear);
+    }
     if fresh {
         book.make_room(alloc)?;
         book.add(Entry {
@@ -63,6 +109,25 @@ fn answer(
         });
     }
     Ok((code, fresh))
+}
+
+/// What the node `node` replies to a party's flow with the tag of a signer.
+fn reply_to(
+    alloc: Global,
+    book: &mut Book,
+    torn: &str,
+    asked: (u8, u32, u8),
+    node: u8,
+    now: Moment,
+) -> Result<(u8, bool), Fail> {
+    let (party, flow, signer) = asked;
+    let request = request_of(alloc, torn, party, flow, signer)?;
+    let me = Identity {
+        party: Party(node),
+        nodes: 3,
+        notary: Party(0),
+    };
+    Ok(answer(alloc, book, request, &me, now)?)
 }
 
 /// The only item of a conflict, its kind as the number 0 for an input and 1 for a reference.
@@ -87,12 +152,30 @@ fn only_conflict(answer: &NotaryAnswer) -> Option<(u8, u32, [u8; 32], u8)> {
     }
 }
 
+/// Whether there are 11 entries, and the conflicts of the third and the fourth are over state 1, as an input and as a
+/// reference, and name the transaction of the first.
+fn names_the_consumers(entries: &[Entry]) -> bool {
+    match entries {
+        [pay, _, again, refer, ..] => {
+            let hash = consumer_hash(&pay.request.torn.id).0;
+            entries.len() == 11
+                && only_conflict(&again.answer) == Some((1, 0, hash, 0))
+                && only_conflict(&refer.answer) == Some((1, 0, hash, 1))
+        }
+        _ => false,
+    }
+}
+
 #[test]
-fn the_eight_cases(rt: HostRuntime) -> Result<(), Fail> {
+fn the_laws(_rt: HostRuntime) {
     one_consumer();
     conflicts_name_consumers();
     signed_is_never_refused();
     refused_is_never_signed();
+}
+
+#[test]
+fn the_eight_cases(rt: HostRuntime) -> Result<(), Fail> {
     let table = [
         ("signed", 1, 0, PAY, 1, 0, 0, (0, true)),
         ("asked again", 1, 0, PAY, 1, 7, 0, (0, false)),
@@ -147,34 +230,86 @@ fn the_eight_cases(rt: HostRuntime) -> Result<(), Fail> {
     ];
     let mut book = Book::new(rt.alloc());
     for (name, party, flow, torn, signer, now, node, wanted) in table {
-        let bytes = hex::decode(rt.alloc(), torn)?;
-        let torn = TornTx::decode(rt.alloc(), &mut Reader::new(&bytes))?;
-        let by = Party(signer);
-        let tag = Tag {
-            by,
-            of: torn.id,
-            mark: KeyedDigest.mark(by, &torn.id),
-        };
-        let request = Request {
-            party: Party(party),
-            flow,
-            torn,
-            tag,
-        };
-        let me = Identity {
-            party: Party(node),
-            nodes: 3,
-            notary: Party(0),
-        };
-        let given = answer(rt.alloc(), &mut book, request, &me, Moment(now))?;
+        let asked = (party, flow, signer);
+        let given = reply_to(rt.alloc(), &mut book, torn, asked, node, Moment(now))?;
         assert_eq!(rt; given, wanted, "{name}");
     }
-    let entries = book.entries();
-    assert_eq!(rt; entries.len(), 11);
-    if let [pay, _, again, refer, ..] = entries {
-        let hash = consumer_hash(&pay.request.torn.id).0;
-        assert_eq!(rt; only_conflict(&again.answer), Some((1, 0, hash, 0)));
-        assert_eq!(rt; only_conflict(&refer.answer), Some((1, 0, hash, 1)));
+    assert_eq!(rt; names_the_consumers(book.entries()), true);
+    Ok(())
+}
+
+/// Whether the book and a scan of its entries reply the same. Then adds an entry that signs the request, whatever was
+/// replied, so that states get many consumers.
+fn agrees_and_signs(
+    alloc: Global,
+    book: &mut Book,
+    request: Request,
+    now: Moment,
+) -> Result<bool, TearFault> {
+    let me = Identity {
+        party: Party(0),
+        nodes: 3,
+        notary: Party(0),
+    };
+    let seen = visible(alloc, &request.torn)?;
+    let found = book.decide(alloc, &request, Some(&seen), &me, now, &KeyedDigest)?;
+    let scanned = plain::decide(alloc, book.entries(), &request, &seen, me.party, now)?;
+    let same = plain::is_same(&found.answer, &scanned.answer) && found.fresh == scanned.fresh;
+    if seen.inputs.len() <= 64 {
+        let answer = signed_by(me.party, request.torn.id);
+        book.make_room(alloc)?;
+        book.add(Entry {
+            request,
+            inputs: seen.inputs,
+            answer,
+        });
+    }
+    Ok(same)
+}
+
+fn signed_by(by: Party, id: Hash32) -> NotaryAnswer
+    ensures { IsParty by → IsNotaryAnswer result }
+{
+    NotaryAnswer::Signed {
+        tag: Tag {
+            by,
+            of: id,
+            mark: KeyedDigest.mark(by, &id),
+        },
+    }
+}
+
+fn agrees_on(
+    alloc: Global,
+    book: &mut Book,
+    torn: &str,
+    asked: (u8, u32, u8),
+    now: Moment,
+) -> Result<bool, Fail> {
+    let (party, flow, signer) = asked;
+    let request = request_of(alloc, torn, party, flow, signer)?;
+    Ok(agrees_and_signs(alloc, book, request, now)?)
+}
+
+#[test]
+fn a_scan_replies_the_same(rt: HostRuntime) -> Result<(), Fail> {
+    let requests = [
+        ("refers to state 1", REFER, 1, 0, 1, 0),
+        ("takes state 1", PAY, 1, 1, 1, 0),
+        ("takes states 2 and 1", PAY_AGAIN, 1, 2, 1, 0),
+        ("refers again", REFER, 2, 0, 2, 0),
+        ("takes state 1 again", PAY, 2, 1, 2, 0),
+        ("repeats an earlier request", PAY_AGAIN, 1, 2, 1, 5),
+        ("with the tag of another", PAY, 1, 3, 2, 0),
+        ("past its window", IN_TIME, 1, 4, 1, 9),
+        ("past its window, signed already", IN_TIME, 1, 5, 1, 9),
+        ("names another notary", ELSEWHERE, 1, 6, 1, 0),
+    ];
+    let mut book = Book::new(rt.alloc());
+    for (name, torn, party, flow, signer, now) in requests {
+        let asked = (party, flow, signer);
+        let same = agrees_on(rt.alloc(), &mut book, torn, asked, Moment(now))?;
+        assert_eq!(rt; same, true, "{name}");
     }
     Ok(())
 }

@@ -1,4 +1,5 @@
 pub mod Bodies
 pub mod Frames
 pub mod Routes
+pub mod Sessions
 pub mod Sizes

@@ -29,16 +29,16 @@ shown_at {V} {within} {spelling} {reading} laws tx k vs shown are h =
     ∙ ap (λ (bs : List (List ℕ)). spelt_by reading (parts_from tx.salt.0 k 0 bs)) (present_at (groups tx) k ∙ are)
     ∙ spelt_all laws tx.salt.0 k 0 vs h
 
-one_of : {V : Type 0} (o : Option V) → at_most_one (option_to_list o) ≡ Some o
+pub one_of : {V : Type 0} (o : Option V) → at_most_one (option_to_list o) ≡ Some o
 one_of None = refl
 one_of (Some v) = refl
 
-all_of : {V : Type 0} (within : V → Type 0) (o : Option V) → IfSome o within → AllByRecursion within (option_to_list o)
+pub all_of : {V : Type 0} (within : V → Type 0) (o : Option V) → IfSome o within → AllByRecursion within (option_to_list o)
 all_of within None h = tt
 all_of within (Some v) h = (h, tt)
 
 -- what the four groups show together
-abbrev together : Hash32 → Option (List StateRef) → Option (Option Party) → Option (Option Window) → Option (List StateRef) → Option Visible
+abbrev pub together : Hash32 → Option (List StateRef) → Option (Option Party) → Option (Option Window) → Option (List StateRef) → Option Visible
 together id inputs notary window references =
     option_and_then (λ i.
     option_and_then (λ n.
@@ -46,7 +46,7 @@ together id inputs notary window references =
     option_map (λ r. record { id = id; inputs = i; references = r; notary = n; window = w })
     references) window) notary) inputs
 
-shown_together : (torn : TornTx) (inputs references : List StateRef) (notary : Option Party) (window : Option Window) → shown_refs torn 0 ≡ Some inputs → shown_notary torn ≡ Some notary → shown_window torn ≡ Some window → shown_refs torn 7 ≡ Some references
+pub shown_together : (torn : TornTx) (inputs references : List StateRef) (notary : Option Party) (window : Option Window) → shown_refs torn 0 ≡ Some inputs → shown_notary torn ≡ Some notary → shown_window torn ≡ Some window → shown_refs torn 7 ≡ Some references
     → shown_by torn ≡ Some (record { id = torn.id; inputs = inputs; references = references; notary = notary; window = window })
 shown_together torn inputs references notary window i n w r =
     ap (λ (o : Option (List StateRef)). together torn.id o (shown_notary torn) (shown_window torn) (shown_refs torn 7)) i

@@ -53,3 +53,15 @@ spelt_all {V} {within} {spelling} {reading} laws salt group place (v ∷ vs) h =
 pub fails : {V W : Type 0} (e : TearFault) (a : Option V) (b : Option W) → (a ≡ None → b ≡ None) → Tells {V = V} (Err e) a → Tells {V = W} (Err e) b
 fails BadTear a b f h = f h
 fails Memory a b f h = tt
+
+-- parts with the bytes of values spell these values
+pub spelt_of : {V : Type 0} {within : V → Type 0} {spelling : V → List ℕ} {reading : List ℕ → Result (V × List ℕ) ℕ} (laws : Laws within spelling reading) (parts : List TornPart) (vs : List V) → AllByRecursion within vs → map (λ (p : TornPart). p.bytes) parts ≡ map spelling vs
+    → spelt_by reading parts ≡ Some vs
+spelt_of laws [] [] h e = refl
+spelt_of laws [] (v ∷ vs) h e = absurd cc
+spelt_of laws (p ∷ parts) [] h e = absurd cc
+spelt_of {V} {within} {spelling} {reading} laws (p ∷ parts) (v ∷ vs) h e =
+    let bytes : p.bytes ≡ spelling v = cc in
+    let rest : map (λ (q : TornPart). q.bytes) parts ≡ map spelling vs = cc in
+    let one : reading p.bytes ≡ Ok (v, []) = ap reading (bytes ∙ sym (append-nil (spelling v))) ∙ laws.again v [] h.0 in
+    ap (λ (r : Result (V × List ℕ) ℕ). joined (whole r) (spelt_by reading parts)) one ∙ ap (λ (o : Option (List V)). joined (Some v) o) (spelt_of laws parts vs h.1 rest)

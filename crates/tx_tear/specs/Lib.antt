@@ -1,2 +1,4 @@
 pub mod Tearing
 pub mod Telling
+pub mod Hashed
+pub mod Agreement

@@ -2,11 +2,16 @@
 //! tear-offs"; technical white paper, section 5.8).
 #![tactic(auto)]
 
+mod laws;
 mod making;
 mod reading;
 #[cfg(test)]
 mod tests;
 mod values;
 
+pub use laws::{
+    each_is_included, equal_roots_have_equal_leaves, good_tear_off_shows_transaction,
+    good_tear_offs_agree,
+};
 pub use making::{tear, tear_off_shows};
 pub use reading::{TearFault, visible};

@@ -7,6 +7,7 @@ ghost use Rattle.net_base.specs.Parties.{party_set, IsPartySet};
 ghost use Rattle.ledger_types.specs.Ids.{groups, present};
 ghost use Rattle.ledger_types.specs.Txs.{deed, IsDeed, IsTx};
 ghost use Rattle.ledger_types.specs.Tears.{visible_of};
+ghost use Rattle.ledger_types.specs.Torn.{IsTornTx};
 ghost use Rattle.ledger_types.specs.declared.tx.Tx.{Tx};
 ghost use Rattle.tx_tear.specs.Tearing.{part_of, shown_group, hidden_group, torn_from, tear_of, seen_of};
 
@@ -191,11 +192,13 @@ fn torn_groups(alloc: Global, tx: &Tx) -> Result<Vec<TornGroup>, AllocError>
 }
 
 /// The tear-off of a transaction: its id, and its component groups up to the last that has a component. It shows the
-/// groups of inputs (0), notary (4), time window (5) and references (7), and hides the others.
+/// groups of inputs (0), notary (4), time window (5) and references (7), and hides the others. It is within the limits
+/// of a tear-off: at most 9 groups, with at most 96 shown components of at most 64 bytes each.
 #[tactic(auto, unfolding(crate::specs::Tearing::tear_of), using(crate::proofs::Groups::truncated))]
 pub fn tear(alloc: Global, tx: &Tx) -> Result<TornTx, AllocError>
     requires { IsTx tx.now }
-    ensures { IfOk result (λ t. t ≡ tear_of tx.now) }
+    ensures torn { IfOk result (λ t. t ≡ tear_of tx.now) }
+    ensures within { IfOk result IsTornTx }
 {
     let mut groups = torn_groups(alloc, tx)?;
     groups.truncate(count_groups(tx));

@@ -167,9 +167,18 @@ fn is_seen_of(seen: &Visible, tx: &Tx) -> bool {
         && seen.window == tx.window
 }
 
+/// The laws can be called.
+#[test]
+fn laws() {
+    tear_off_shows();
+    equal_roots_have_equal_leaves();
+    good_tear_off_shows_transaction();
+    good_tear_offs_agree();
+    each_is_included();
+}
+
 #[test]
 fn tear_offs_of_transactions(rt: HostRuntime) -> Result<(), Fail> {
-    tear_off_shows();
     for (tx, torn) in transactions() {
         let bytes = hex::decode(rt.alloc(), tx)?;
         let tx = Tx::decode(rt.alloc(), &mut Reader::new(&bytes))?;

@@ -1,5 +1,4 @@
 use Rattle.std.proofs.Common.{arith, subst, sym}
-use Rattle.flow_machine.specs.declared.flows.FlowState.{FlowState}
 use Rattle.checkpoints.specs.Tables.{IsNumbered, AreNumberedFrom}
 use Rattle.checkpoints.proofs.Live.{numbered_at}
 use Rattle.checkpoints.proofs.table.Flows.get.Goals as goal

@@ -1,6 +1,6 @@
-use Rattle.std.proofs.Common.{arith, ◌≡◌, ◌≤◌, ◌<◌, ◌+◌, ◌∷◌, ◌++◌, ◌^◌, ℕ, List, Bool, length, subst, sym, ap, ◌∙◌}
+use Rattle.std.proofs.Common.{arith, ◌≡◌, ◌≤◌, ◌<◌, ◌+◌, ◌++◌, ◌^◌, List, Bool, length, subst, sym, ap, ◌∙◌}
 use Rattle.flow_machine.specs.declared.flows.FlowState.{FlowState}
-use Rattle.checkpoints.specs.Tables.{Table, is_live, live_numbers, where_true, IsRising, AreNumberedFrom, with_flow}
+use Rattle.checkpoints.specs.Tables.{Table, live_numbers, where_true, IsRising, AreNumberedFrom}
 use Rattle.checkpoints.proofs.Live.{live_rises, marked, numbered_with}
 use Rattle.checkpoints.proofs.Items.{length_parts}
 use Rattle.checkpoints.proofs.table.Flows.set.Goals as goal

@@ -1,0 +1,69 @@
+-- What contracts see of a node's ledger, and what one change makes of it.
+use Rattle.std.specs.Prelude.{ℕ, ◌<◌, ◌≤◌, Bool, true, not, ◌&&◌, List, [], ◌∷◌, ◌++◌, Option, Some, None, IfSome, length, map, if◌then◌else◌}
+use Rattle.net_base.specs.declared.values.Hash32.{Hash32}
+use Rattle.net_base.specs.declared.values.Party.{Party}
+use Rattle.ledger_types.specs.declared.tx.Tx.{Tx}
+use Rattle.ledger_types.specs.declared.tx.SignedTx.{SignedTx}
+use Rattle.ledger_types.specs.declared.held.Held.{Held}
+use Rattle.ledger_types.specs.declared.notary.Entry.{Entry}
+use Rattle.ledger_types.specs.declared.change.LedgerChange.{LedgerChange}
+use Rattle.ledger_types.specs.Signatures.{tx_id}
+use Rattle.ledger_types.specs.Stores.{is_stored}
+use Rattle.ledger_types.specs.Vaults.{Lock}
+use Rattle.tx_store.specs.Stored.{Stored, has_dependencies}
+use Rattle.vault.specs.Holdings.{Holding, held_after, locked_in, freed_of, locks_of, released, IsVault}
+use Rattle.notary_book.specs.Booked.{Booked}
+
+-- what contracts see of a node's ledger: the recorded transactions, the vault over them, and the notary's book
+pub record Ledger : Type 0 where
+  pub store : Stored
+  pub vault : Holding
+  pub book : Booked
+
+-- these states are the party's vault over the recorded transactions, by some soft locks
+pub record HasVault (me : Party) (recorded : List (Hash32 × Tx)) (held : List Held) : Type 0 where
+  pub locks : List Lock
+  pub is : IsVault me recorded locks held
+
+-- ---- what a change asks
+
+-- whether a transaction may be recorded next: its id is new, and all that it depends on is recorded
+abbrev pub may_record : List (Hash32 × SignedTx) → Option SignedTx → Bool
+may_record store None = true
+may_record store (Some stx) = not (is_stored store (tx_id stx.tx)) && has_dependencies store stx.tx
+
+-- room for the transaction of a change, in the store and in the vault
+abbrev pub HasRecordRoom : Option SignedTx → Stored → Holding → Type 0
+HasRecordRoom recorded store vault = IfSome recorded (λ stx. (0 < store.room) × (length stx.tx.outputs ≤ vault.room))
+
+-- room for the entry of a change in the book
+abbrev pub HasEntryRoom : Option Entry → Booked → Type 0
+HasEntryRoom booked book = IfSome booked (λ _. 0 < book.room)
+
+-- ---- what a change makes
+
+-- the transaction of a change, under its id
+abbrev pub recorded_in : Option SignedTx → List (Hash32 × SignedTx)
+recorded_in None = []
+recorded_in (Some stx) = (tx_id stx.tx, stx) ∷ []
+
+-- the states of a vault behind the transaction of a change
+abbrev pub held_with : Party → Option SignedTx → List Held → List Held
+held_with me None states = states
+held_with me (Some stx) states = held_after me (tx_id stx.tx) stx.tx states
+
+-- the states without a flow's locks, where it ends
+abbrev pub freed_at_end : ℕ → Bool → List Held → List Held
+freed_at_end flow ended states = if ended then map (freed_of flow) states else states
+
+-- the locks without a flow's, where it ends
+abbrev pub released_at_end : ℕ → Bool → List Lock → List Lock
+released_at_end flow ended locks = if ended then released flow locks else locks
+
+-- the states behind a change: its transaction is recorded, its states are locked, and then the locks of a flow that ends are released
+abbrev pub held_by : Party → LedgerChange → List Held → List Held
+held_by me change states = freed_at_end change.owner change.ended (map (locked_in change.owner change.locked) (held_with me change.recorded states))
+
+-- the soft locks behind a change
+abbrev pub locks_by : LedgerChange → List Lock → List Lock
+locks_by change locks = released_at_end change.owner change.ended (locks ++ locks_of change.owner change.locked)

@@ -1,0 +1,10 @@
+//! A node's ledger: the recorded transactions, the vault over them, and the notary's book, changed together (Corda 4
+//! documentation, "Vault", "Notaries").
+#![tactic(auto)]
+
+mod parts;
+mod tables;
+#[cfg(test)]
+mod tests;
+
+pub use tables::Tables;

@@ -1,0 +1,100 @@
+//! The parts of one change, each in the table that it concerns.
+
+ghost use Rattle.std.specs.Prelude.{◌≡◌, ◌≤◌, ◌<◌, ◌+◌, ◌++◌, ◌^◌, true, not, List, length, option_to_list, IfSome, OnOk};
+ghost use Rattle.net_base.specs.declared.values.Hash32.{Hash32 as Id};
+ghost use Rattle.ledger_types.specs.declared.tx.Tx.{Tx as Recorded};
+ghost use Rattle.ledger_types.specs.Txs.{IsTx};
+ghost use Rattle.ledger_types.specs.Requests.{IsEntry};
+ghost use Rattle.ledger_types.specs.Stores.{untagged, is_stored};
+ghost use Rattle.ledger_types.specs.Vaults.{Lock};
+ghost use Rattle.vault.specs.Holdings.{IsVault};
+ghost use Rattle.ledger_tables.specs.Ledgers.{may_record, recorded_in, held_with, freed_at_end, released_at_end, HasRecordRoom, HasEntryRoom};
+
+use ledger_types::{Entry, SignedTx};
+use net_base::Hash32;
+use notary_book::Book;
+use std::alloc::{AllocError, Global};
+use tx_store::Store;
+use vault::Vault;
+
+/// Whether no transaction of this id is stored.
+pub fn is_new(store: &Store, id: &Hash32) -> bool
+    ensures { result ≡ not (is_stored store.now.list id.now) }
+{
+    store.get(id).is_none()
+}
+
+/// Makes room for a transaction, in the store and in the vault.
+pub fn make_record_room(
+    alloc: Global,
+    store: &mut Store,
+    vault: &mut Vault,
+    recorded: &Option<SignedTx>,
+) -> Result<(), AllocError>
+    ensures store { store.new.list ≡ store.old.list }
+    ensures party { vault.new.party ≡ vault.old.party }
+    ensures held { vault.new.held ≡ vault.old.held }
+    ensures room { OnOk result (HasRecordRoom recorded.now store.new vault.new) }
+    ensures keeps { (store.old.room ≤ store.new.room) × (vault.old.room ≤ vault.new.room) }
+{
+    if let Some(stx) = recorded {
+        store.make_room(alloc)?;
+        vault.make_room(alloc, &stx.tx)?;
+    }
+    Ok(())
+}
+
+/// Makes room for an entry in the book.
+pub fn make_entry_room(
+    alloc: Global,
+    book: &mut Book,
+    booked: &Option<Entry>,
+) -> Result<(), AllocError>
+    ensures entries { book.new.entries ≡ book.old.entries }
+    ensures room { OnOk result (HasEntryRoom booked.now book.new) }
+    ensures keeps { book.old.room ≤ book.new.room }
+{
+    if booked.is_some() {
+        book.make_room(alloc)?;
+    }
+    Ok(())
+}
+
+/// Stores a transaction, and notes it in the vault.
+pub fn record_next(store: &mut Store, vault: &mut Vault, recorded: Option<SignedTx>)
+    requires limits { IfSome recorded (λ stx. IsTx stx.tx) }
+    requires next { may_record store.old.list recorded ≡ true }
+    requires few { length store.old.list + 1 < 2 ^ 32 }
+    requires room { HasRecordRoom recorded store.old vault.old }
+    ensures store { store.new.list ≡ store.old.list ++ recorded_in recorded }
+    ensures party { vault.new.party ≡ vault.old.party }
+    ensures held { vault.new.held ≡ held_with vault.old.party recorded vault.old.held }
+    ensures vault { (locks : List Lock) → IsVault vault.old.party (untagged store.old.list) locks vault.old.held → IsVault vault.old.party (untagged store.new.list) locks vault.new.held }
+{
+    if let Some(stx) = recorded {
+        vault.note(&stx.tx.id(), &stx.tx);
+        store.put(stx);
+    }
+}
+
+/// Adds an entry to the book.
+pub fn add_entry(book: &mut Book, booked: Option<Entry>)
+    requires limits { IfSome booked IsEntry }
+    requires room { HasEntryRoom booked book.old }
+    ensures { book.new.entries ≡ book.old.entries ++ option_to_list booked }
+{
+    if let Some(entry) = booked {
+        book.add(entry);
+    }
+}
+
+/// Releases the locks of a flow that ends.
+pub fn release_ended(vault: &mut Vault, flow: u32, ended: bool)
+    ensures party { vault.new.party ≡ vault.old.party }
+    ensures held { vault.new.held ≡ freed_at_end flow ended vault.old.held }
+    ensures vault { (recorded : List (Id × Recorded)) (locks : List Lock) → IsVault vault.old.party recorded locks vault.old.held → IsVault vault.old.party recorded (released_at_end flow ended locks) vault.new.held }
+{
+    if ended {
+        vault.release(flow);
+    }
+}

@@ -1,0 +1,133 @@
+//! The tables of a node's ledger.
+
+ghost use Rattle.std.specs.Prelude.{◌≡◌, ◌≤◌, ◌<◌, ◌+◌, ◌++◌, ◌^◌, [], true, false, List, length, option_to_list, IfSome, OnOk};
+ghost use Rattle.std.specs.List.{list_all};
+ghost use Rattle.ledger_types.specs.Txs.{IsTx};
+ghost use Rattle.ledger_types.specs.Requests.{IsEntry};
+ghost use Rattle.ledger_types.specs.Names.{ref_eq, has_repeat};
+ghost use Rattle.ledger_types.specs.Stores.{untagged};
+ghost use Rattle.ledger_types.specs.Vaults.{Lock};
+ghost use Rattle.vault.specs.Holdings.{has_coin, IsVault};
+ghost use Rattle.ledger_tables.specs.Ledgers.{HasVault, may_record, recorded_in, held_with, held_by, locks_by, HasRecordRoom, HasEntryRoom};
+
+use crate::parts::{
+    add_entry, is_new, make_entry_room, make_record_room, record_next, release_ended,
+};
+use ledger_types::{LedgerChange, SignedTx};
+use net_base::Party;
+use notary_book::Book;
+use std::alloc::{AllocError, Global};
+use std::marker::Model;
+use tx_store::Store;
+use vault::Vault;
+
+/// The recorded transactions, the vault over them and the notary's book. At every moment the vault holds exactly what the
+/// recorded transactions leave its party.
+#[derive(Drop)]
+pub struct Tables {
+    store: Store,
+    vault: Vault,
+    book: Book,
+}
+
+impl Model for Tables {
+    ghost use Rattle.ledger_types.specs.Stores.{untagged};
+    ghost use Rattle.ledger_tables.specs.Ledgers.{Ledger, HasVault};
+
+    ghost Value = { Ledger };
+
+    ghost view = { λ t. record { store = t.store; vault = t.vault; book = t.book } };
+
+    ghost invariant = { λ t. HasVault t.vault.party (untagged t.store.list) t.vault.held };
+}
+
+impl Tables {
+    /// The tables of a party, all without contents. Takes no memory.
+    pub fn new(alloc: Global, party: Party) -> Tables
+        ensures store { result.store.list ≡ [] }
+        ensures party { result.vault.party ≡ party }
+        ensures held { result.vault.held ≡ [] }
+        ensures book { result.book.entries ≡ [] }
+    {
+        Tables {
+            store: Store::new(alloc),
+            vault: Vault::new(alloc, party),
+            book: Book::new(alloc),
+        }
+    }
+
+    /// The recorded transactions.
+    pub fn store(&self) -> &Store
+        ensures { result.now ≡ self.now.store }
+    {
+        &self.store
+    }
+
+    /// The vault, which is the party's over the recorded transactions, by some soft locks: those that the changes made.
+    pub fn vault(&self) -> &Vault
+        ensures lent { result.now ≡ self.now.vault }
+        ensures over_store { HasVault self.now.vault.party (untagged self.now.store.list) self.now.vault.held }
+    {
+        &self.vault
+    }
+
+    /// The notary's book.
+    pub fn book(&self) -> &Book
+        ensures { result.now ≡ self.now.book }
+    {
+        &self.book
+    }
+
+    /// Whether a transaction, where there is one, may be recorded next: its id is new, and all that it depends on is recorded. It
+    /// is a condition of `apply`.
+    pub fn may_record(&self, recorded: &Option<SignedTx>) -> bool
+        requires { IfSome recorded.now (λ stx. IsTx stx.tx) }
+        ensures { result ≡ may_record self.now.store.list recorded.now }
+    {
+        match recorded {
+            None => true,
+            Some(stx) => is_new(&self.store, &stx.tx.id()) && self.store.has_dependencies(&stx.tx),
+        }
+    }
+
+    /// Makes room for a change in all tables. Want of memory leaves their contents as they were.
+    pub fn make_room(&mut self, alloc: Global, change: &LedgerChange) -> Result<(), AllocError>
+        ensures store { self.new.store.list ≡ self.old.store.list }
+        ensures party { self.new.vault.party ≡ self.old.vault.party }
+        ensures held { self.new.vault.held ≡ self.old.vault.held }
+        ensures book { self.new.book.entries ≡ self.old.book.entries }
+        ensures record_room { OnOk result (HasRecordRoom change.now.recorded self.new.store self.new.vault) }
+        ensures entry_room { OnOk result (HasEntryRoom change.now.booked self.new.book) }
+        ensures keeps { (self.old.store.room ≤ self.new.store.room) × (self.old.vault.room ≤ self.new.vault.room) × (self.old.book.room ≤ self.new.book.room) }
+    {
+        make_record_room(alloc, &mut self.store, &mut self.vault, &change.recorded)?;
+        make_entry_room(alloc, &mut self.book, &change.booked)
+    }
+
+    /// Applies a change in the room that was made for it, and refuses nothing: its transaction is recorded and noted in the
+    /// vault, its states are locked for its flow, its entry is booked, and where the flow ends its locks are released, those of
+    /// this change too. It takes no memory.
+    ///
+    /// `may_record` tells whether its transaction may be recorded, and `Vault::is_coin` which states are coins: those that it locks
+    /// are coins behind its transaction.
+    pub fn apply(&mut self, change: LedgerChange)
+        requires transaction { IfSome change.recorded (λ stx. IsTx stx.tx) }
+        requires entry { IfSome change.booked IsEntry }
+        requires next { may_record self.old.store.list change.recorded ≡ true }
+        requires few { length self.old.store.list + 1 < 2 ^ 32 }
+        requires coins { list_all (has_coin (held_with self.old.vault.party change.recorded self.old.vault.held)) change.locked ≡ true }
+        requires once { has_repeat ref_eq change.locked ≡ false }
+        requires record_room { HasRecordRoom change.recorded self.old.store self.old.vault }
+        requires entry_room { HasEntryRoom change.booked self.old.book }
+        ensures store { self.new.store.list ≡ self.old.store.list ++ recorded_in change.recorded }
+        ensures party { self.new.vault.party ≡ self.old.vault.party }
+        ensures held { self.new.vault.held ≡ held_by self.old.vault.party change self.old.vault.held }
+        ensures book { self.new.book.entries ≡ self.old.book.entries ++ option_to_list change.booked }
+        ensures vault { (locks : List Lock) → IsVault self.old.vault.party (untagged self.old.store.list) locks self.old.vault.held → IsVault self.old.vault.party (untagged self.new.store.list) (locks_by change locks) self.new.vault.held }
+    {
+        record_next(&mut self.store, &mut self.vault, change.recorded);
+        self.vault.lock(change.owner, &change.locked);
+        add_entry(&mut self.book, change.booked);
+        release_ended(&mut self.vault, change.owner, change.ended);
+    }
+}

@@ -1,0 +1,8 @@
+-- Tests of equality for what sessions are named by.
+use Rattle.std.specs.Prelude.{ℕ, Bool, false, ◌==◌, ◌&&◌, Option, Some, None}
+use Rattle.net_base.specs.declared.names.Key.{Key}
+
+-- whether there is a number and it is this one
+abbrev pub number_is : ℕ → Option ℕ → Bool
+number_is n None = false
+number_is n (Some m) = n == m

@@ -1,0 +1,34 @@
+-- The first item that may be taken.
+use Rattle.std.proofs.Common.{◌≡◌, ℕ, zero, suc, ◌+◌, ◌<◌, ◌≤◌, Bool, true, false, List, [], ◌∷◌, Option, Some, None, refl, sym, ◌∙◌, ap, cond, length, drop, slice_get, arith}
+use Rattle.session_wire.specs.declared.body.Body.{Body}
+use Rattle.session_wire.specs.Sessions.{first_item, is_confirm}
+
+-- what is left behind an item
+drop_at : (came : List Body) (n : ℕ) (x : Body) → slice_get came n ≡ Some x → drop n came ≡ x ∷ drop (suc n) came
+drop_at [] n x e = absurd (cc e)
+drop_at (y ∷ ys) zero x e = let one : Some y ≡ Some x = e in let same : y ≡ x = cc one in ap (λ (z : Body). z ∷ ys) same
+drop_at (y ∷ ys) (suc n) x e = drop_at ys n x e
+
+-- an item that is no Confirm is the first
+pub at_item : (came : List Body) (n : ℕ) (x : Body) → slice_get came n ≡ Some x → is_confirm x ≡ false → first_item n (drop n came) ≡ Some (n, x)
+at_item came n x e other = ap (first_item n) (drop_at came n x e) ∙ rw other refl
+
+-- a Confirm is passed over
+pub at_confirm : (came : List Body) (n : ℕ) (x : Body) → slice_get came n ≡ Some x → is_confirm x ≡ true → first_item n (drop n came) ≡ first_item (n + 1) (drop (n + 1) came)
+at_confirm came n x e confirm = ap (first_item n) (drop_at came n x e) ∙ rw confirm (ap (λ (m : ℕ). first_item (n + 1) (drop m came)) (let up : suc n ≡ n + 1 = omega arith in up))
+
+-- behind the last there is none
+pub past_all : (came : List Body) (n : ℕ) → length came ≤ n → first_item n (drop n came) ≡ None
+past_all came n h = ap (first_item n) (none came n h)
+  where
+    none : (xs : List Body) (n : ℕ) → length xs ≤ n → drop n xs ≡ []
+    none [] zero h = refl
+    none [] (suc n) h = refl
+    none (x ∷ xs) zero h = absurd (omega (arith, h))
+    none (x ∷ xs) (suc n) h = none xs n (omega (arith, h))
+
+-- an item below the length is there
+pub not_past : (came : List Body) (n : ℕ) → n < length came → None ≡ slice_get came n → ⊥
+not_past [] n h e = omega (arith, h)
+not_past (x ∷ xs) zero h e = cc e
+not_past (x ∷ xs) (suc n) h e = not_past xs n (omega (arith, h)) e

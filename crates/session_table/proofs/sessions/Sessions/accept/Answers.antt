@@ -1,0 +1,64 @@
+use Rattle.std.proofs.Common.{◌≡◌, ℕ, ◌+◌, ◌<◌, ◌≤◌, sym, ◌∙◌, ap, subst, rules, arith, refl, Some, None, Option, List, [], ◌∷◌, ◌++◌, cond, map, length, option_map, true, false, is_some, true≢false, length-append, nat_lt, ◌^◌}
+use Rattle.std.proofs.lemmas.List.{length-map}
+use Rattle.std.specs.Option.{option_map_or, IsSome}
+use Rattle.std.specs.List.{list_all}
+use Rattle.std.proofs.lemmas.Bool.{and_parts, ltb-true}
+use Rattle.net_base.specs.declared.names.Key.{Key}
+use Rattle.net_base.specs.declared.values.Party.{Party}
+use Rattle.session_wire.specs.declared.body.Body.{Body}
+use Rattle.session_wire.specs.declared.change.SessionChange.{SessionChange}
+use Rattle.session_wire.specs.declared.change.SentItem.{SentItem}
+use Rattle.session_wire.specs.Sessions.{Session, session_of, with_came, with_sent, with_taken, new_session, changed_at, key_eq, opened_on, sent_on, taken_on}
+use Rattle.session_table.specs.Changes.{is_opened_by, opened_by, is_init, came_on, acks_of_came, acks_of_opened, FitsCame, FitsOpened, FitsSent, FitsTaken, AcceptsItem, begun_on, room_for, answered_for, acks_after, arrived_in}
+use Rattle.session_table.proofs.Stepping.{came_begun, stands_begun, opened_came, opens_next, nil_end, none_came, none_acked, few_acks, few_opened, stands_sent}
+use Rattle.session_table.proofs.sessions.Sessions.accept.Goals as goal
+
+-- an item that is accepted has a session
+named : (me : Party) (list : List Session) (change : SessionChange) (k : Option Key) (o : Option Body) (b : Body) → o ≡ Some b → FitsCame me list change k o → (key : Key) × ((k ≡ Some key) × AcceptsItem me list change key b)
+named me list change None None b is fits = absurd (cc is)
+named me list change None (Some x) b is fits = absurd fits
+named me list change (Some k) None b is fits = absurd fits
+named me list change (Some k) (Some x) b is fits = let one : x ≡ b = cc is in (k, (refl, subst (AcceptsItem me list change k) one fits))
+
+some_is : (o : Option Key) (k : Key) → o ≡ Some k → IsSome o
+some_is None k e = absurd (cc e)
+some_is (Some x) k e = search rules
+
+few_of : (m n : ℕ) → m ≡ n → m + 1 < 4294967296 → n + 1 < 4294967296
+few_of m n e h = omega (arith, e, h)
+
+pub unwrap-requires : goal.unwrap-requires
+unwrap-requires c =
+    let n = named c.args.self.now.party c.args.self.now.list c.requires.fits.0 c.args.came_key c.args.came c.in-Some.body c.in-Some.is c.requires.fits.1 in
+    some_is c.args.came_key n.0 n.1.0
+
+pub accept_item-requires-clause-fits : goal.accept_item-requires-clause-fits
+accept_item-requires-clause-fits c =
+    let n = named c.args.self.now.party c.args.self.now.list c.requires.fits.0 c.args.came_key c.args.came c.in-Some.body c.in-Some.is c.requires.fits.1 in
+    let e : Some n.0 ≡ Some c.unwrap.result = sym n.1.0 ∙ c.unwrap.ensures in
+    let one : n.0 ≡ c.unwrap.result = cc e in
+    (c.requires.fits.0, subst (λ (q : Key). AcceptsItem c.args.self.now.party c.args.self.now.list c.requires.fits.0 q c.in-Some.body) one n.1.1)
+
+pub accept_item-requires-clause-few_came : goal.accept_item-requires-clause-few_came
+accept_item-requires-clause-few_came c = few_of _ _ (ap (λ k. arrived_in k c.args.self.now.list) c.unwrap.ensures) c.requires.few_came
+
+pub returns-in-Some-clause-list : goal.returns-in-Some-clause-list
+returns-in-Some-clause-list c = c.accept_item.ensures.list ∙ sym (λ i. came_on (c.unwrap.ensures i) (c.in-Some.is i) c.args.owner c.args.self.now.list)
+
+pub returns-in-Some-clause-acked : goal.returns-in-Some-clause-acked
+returns-in-Some-clause-acked c = c.accept_item.ensures.acked ∙ sym (λ i. c.args.self.now.acked ++ acks_of_came (c.unwrap.ensures i) (c.in-Some.is i))
+
+room_of : (old new m n : ℕ) → m ≡ n → old ≤ new + (1 + n) → old ≤ new + (1 + m)
+room_of old new m n e h = omega (arith, e, h)
+
+pub returns-in-Some-clause-room : goal.returns-in-Some-clause-room
+returns-in-Some-clause-room c = room_of _ _ _ _ (λ i. length (acks_of_came (c.unwrap.ensures i) (c.in-Some.is i))) c.accept_item.ensures.room
+
+pub returns-in_default-clause-list : goal.returns-in_default-clause-list
+returns-in_default-clause-list c = sym (ap (λ (o : Option Body). came_on c.args.came_key o c.args.owner c.args.self.now.list) c.in_default.is ∙ none_came c.args.came_key c.args.owner c.args.self.now.list)
+
+pub returns-in_default-clause-acked : goal.returns-in_default-clause-acked
+returns-in_default-clause-acked c = sym (ap (λ (o : Option Body). c.args.self.now.acked ++ acks_of_came c.args.came_key o) c.in_default.is ∙ ap (λ (l : List ℕ). c.args.self.now.acked ++ l) (none_acked c.args.came_key) ∙ nil_end c.args.self.now.acked)
+
+pub returns-in_default-clause-room : goal.returns-in_default-clause-room
+returns-in_default-clause-room c = omega arith

@@ -1,0 +1,11 @@
+//! The sessions of one node: what each flow's counterparties sent and got, by session (Corda 4 documentation, "Flow
+//! framework", "Flow sessions"). A session is found by its key, and sessions are kept in order of making.
+#![tactic(auto)]
+
+mod lines;
+mod sessions;
+mod standing;
+#[cfg(test)]
+mod tests;
+
+pub use sessions::Sessions;

@@ -1,0 +1,77 @@
+-- What contracts see of a vault, what each call makes of it, and how that goes with the list of recorded transactions.
+use Rattle.std.specs.Prelude.{◌≡◌, ℕ, Bool, true, false, not, ◌==◌, ◌&&◌, List, [], ◌++◌, Option, Some, None, map, filter, if◌then◌else◌}
+use Rattle.std.specs.List.{list_any, list_all}
+use Rattle.net_base.specs.declared.values.Hash32.{Hash32}
+use Rattle.net_base.specs.declared.values.Party.{Party}
+use Rattle.net_base.specs.declared.names.StateRef.{StateRef}
+use Rattle.ledger_types.specs.declared.tx.Tx.{Tx}
+use Rattle.ledger_types.specs.declared.held.Held.{Held}
+use Rattle.ledger_types.specs.Names.{hash_eq, ref_eq, has_ref, has_repeat}
+use Rattle.ledger_types.specs.Vaults.{Lock, is_relevant, outputs_from, vault_of, is_coin}
+
+-- what contracts see of a vault: whose it is, what it holds in order of recording, and for how many more states there is room
+pub record Holding : Type 0 where
+  pub party : Party
+  pub held : List Held
+  pub room : ℕ
+
+-- ---- what each call makes of the states
+
+-- the outputs of a transaction that are relevant to the party, none of them locked
+abbrev pub gained : Party → Hash32 → Tx → List Held
+gained me id tx = filter (λ h. is_relevant me h.state.body) (outputs_from [] id 0 tx.outputs)
+
+-- the states behind a transaction: without those that it consumes, and with its relevant outputs
+abbrev pub held_after : Party → Hash32 → Tx → List Held → List Held
+held_after me id tx states = filter (λ h. not (has_ref h.reference tx.inputs)) states ++ gained me id tx
+
+-- whether the reference names a coin of some token
+abbrev pub has_coin : List Held → StateRef → Bool
+has_coin states r = list_any (λ h. ref_eq h.reference r && is_coin h) states
+
+-- a state, soft-locked by the flow where it is one of the references
+abbrev pub locked_in : ℕ → List StateRef → Held → Held
+locked_in flow refs h = if has_ref h.reference refs then (record h { locked = Some flow }) else h
+
+-- whether this is the flow that has a state locked
+abbrev pub is_flow : ℕ → Option ℕ → Bool
+is_flow flow None = false
+is_flow flow (Some other) = other == flow
+
+-- a state without the lock of the flow
+abbrev pub freed_of : ℕ → Held → Held
+freed_of flow h = if is_flow flow h.locked then (record h { locked = None }) else h
+
+-- ---- the list of recorded transactions, and the list of soft locks
+
+-- whether a transaction of this id is recorded
+abbrev pub is_noted : List (Hash32 × Tx) → Hash32 → Bool
+is_noted recorded id = list_any (λ t. hash_eq id t.0) recorded
+
+-- whether each transaction whose output this one consumes is recorded
+abbrev pub has_sources : List (Hash32 × Tx) → Tx → Bool
+has_sources recorded tx = list_all (λ r. is_noted recorded r.id) tx.inputs
+
+-- whether a transaction may be recorded next: its id is new, and what it consumes was recorded
+abbrev pub may_note : List (Hash32 × Tx) → Hash32 → Tx → Bool
+may_note recorded id tx = not (is_noted recorded id) && has_sources recorded tx
+
+-- the locks of these states by a flow
+abbrev pub locks_of : ℕ → List StateRef → List Lock
+locks_of flow refs = map (λ r. record { reference = r; flow = flow }) refs
+
+-- the locks without those of a flow
+abbrev pub released : ℕ → List Lock → List Lock
+released flow locks = filter (λ l. not (l.flow == flow)) locks
+
+-- whether no reference is locked twice
+abbrev pub are_apart : List Lock → Bool
+are_apart locks = not (has_repeat ref_eq (map (λ l. l.reference) locks))
+
+-- these states are the party's vault over the recorded transactions and the soft locks. Each recorded transaction consumes outputs of recorded
+-- ones, each lock is on one of these, and none is locked twice
+pub record IsVault (me : Party) (recorded : List (Hash32 × Tx)) (locks : List Lock) (held : List Held) : Type 0 where
+  pub states : held ≡ vault_of me recorded locks
+  pub sources : list_all (λ t. has_sources recorded t.1) recorded ≡ true
+  pub known : list_all (λ l. is_noted recorded l.reference.id) locks ≡ true
+  pub apart : are_apart locks ≡ true

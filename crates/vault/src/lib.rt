@@ -1,0 +1,12 @@
+//! What a party holds: the unconsumed states that are relevant to it, with their soft locks (Corda 4 documentation, "Vault",
+//! "Soft locking").
+#![tactic(auto)]
+
+mod fault;
+mod states;
+#[cfg(test)]
+mod tests;
+mod vault;
+
+pub use fault::ReserveFault;
+pub use vault::Vault;

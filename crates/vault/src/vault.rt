@@ -1,0 +1,144 @@
+//! The vault.
+
+ghost use Rattle.std.specs.Prelude.{◌≡◌, ◌≤◌, ◌+◌, ◌++◌, ◌∷◌, [], true, false, List, length, map, Some, OnOk, IfOk, IfErr};
+ghost use Rattle.std.specs.List.{list_all};
+ghost use Rattle.net_base.specs.declared.values.Hash32.{Hash32 as Id};
+ghost use Rattle.ledger_types.specs.declared.tx.Tx.{Tx as Recorded};
+ghost use Rattle.ledger_types.specs.Names.{ref_eq, has_repeat};
+ghost use Rattle.ledger_types.specs.Vaults.{Lock, balance_of, reserved};
+ghost use Rattle.vault.specs.Holdings.{held_after, has_coin, locked_in, freed_of, may_note, locks_of, released, IsVault};
+ghost use Rattle.vault.specs.Faults.{Refuses};
+
+use crate::fault::ReserveFault;
+use crate::states::{
+    add_relevant, amounts, balance, first_coins, free_each, has_coin, lock_each, remove_consumed,
+};
+use coin_select::pick;
+use ledger_types::{Held, HeldList, RefList, Tx};
+use net_base::{Hash32, ListOf, Party, StateRef, Token};
+use std::alloc::{AllocError, Global};
+use std::marker::Model;
+
+/// The unconsumed states that are relevant to a party, in order of recording and then of place, each with the flow that has it
+/// soft-locked. What was consumed is not kept, so no call's work grows with it.
+#[derive(Drop)]
+pub struct Vault {
+    party: Party,
+    states: Vec<Held>,
+}
+
+impl Model for Vault {
+    ghost use Rattle.std.specs.Prelude.{◌-◌, vec_len, vec_capacity};
+    ghost use Rattle.vault.specs.Holdings.{Holding};
+
+    ghost Value = { Holding };
+
+    ghost view = { λ v. record { party = v.party; held = v.states.items; room = vec_capacity v.states - vec_len v.states } };
+}
+
+impl Vault {
+    /// The vault of a party, without states. Takes no memory.
+    pub fn new(alloc: Global, party: Party) -> Vault
+        ensures party { result.party ≡ party }
+        ensures held { result.held ≡ [] }
+        ensures vault { IsVault party [] [] result.held }
+    {
+        Vault {
+            party,
+            states: Vec::new(alloc),
+        }
+    }
+
+    /// Makes room for the outputs of a transaction. Want of memory leaves the vault as it was.
+    pub fn make_room(&mut self, _alloc: Global, tx: &Tx) -> Result<(), AllocError>
+        ensures party { self.new.party ≡ self.old.party }
+        ensures held { self.new.held ≡ self.old.held }
+        ensures room { OnOk result (length tx.now.outputs ≤ self.new.room) }
+        ensures keeps { self.old.room ≤ self.new.room }
+    {
+        self.states.reserve(tx.outputs.len())
+    }
+
+    /// Notes a recorded transaction: what it consumes goes, and its relevant outputs come, none of them locked. It takes no
+    /// memory. It goes through the states.
+    ///
+    /// Where the states were the party's vault over some recorded transactions and locks, and this transaction may be recorded
+    /// behind them, they are its vault over these and this one.
+    pub fn note(&mut self, id: &Hash32, tx: &Tx)
+        requires few { length tx.now.outputs ≤ 64 }
+        requires room { length tx.now.outputs ≤ self.old.room }
+        ensures party { self.new.party ≡ self.old.party }
+        ensures held { self.new.held ≡ held_after self.old.party id.now tx.now self.old.held }
+        ensures room { self.old.room ≤ self.new.room + length tx.now.outputs }
+        ensures vault { (recorded : List (Id × Recorded)) (locks : List Lock) → IsVault self.old.party recorded locks self.old.held → may_note recorded id.now tx.now ≡ true → IsVault self.old.party (recorded ++ (id.now, tx.now) ∷ []) locks self.new.held }
+    {
+        remove_consumed(&mut self.states, tx.inputs.as_slice());
+        add_relevant(&mut self.states, self.party, id, tx.outputs.as_slice());
+    }
+
+    /// The unconsumed states, in order of recording and then of place.
+    pub fn unconsumed(&self, alloc: Global) -> Result<HeldList, AllocError>
+        ensures { IfOk result (λ list. list ≡ self.now.held) }
+    {
+        ListOf::from_slice(alloc, self.states.as_slice())
+    }
+
+    /// The sum of the Cash of a token, locked or not. It goes through the states.
+    pub fn balance(&self, token: &Token) -> u128
+        ensures { result ≡ balance_of token.now self.now.held }
+    {
+        balance(self.states.as_slice(), token)
+    }
+
+    /// Names the first coins of a token that are worth the amount, of the first 64, and no more than are needed. It locks
+    /// nothing, and goes through the states until it has found 64 coins.
+    ///
+    /// # Errors
+    ///
+    /// `Short` exactly where the first 64 coins are worth less than the amount, with their sum.
+    pub fn reserve(
+        &self,
+        alloc: Global,
+        token: &Token,
+        amount: u64,
+    ) -> Result<HeldList, ReserveFault>
+        ensures reserved { IfOk result (λ list. reserved token.now amount self.now.held ≡ Some list) }
+        ensures fault { IfErr result (Refuses token.now amount self.now.held) }
+    {
+        let mut coins = first_coins(alloc, self.states.as_slice(), token)?;
+        let amounts = amounts(alloc, coins.as_slice())?;
+        let count = pick(amounts.as_slice(), amount)?;
+        coins.truncate(count);
+        Ok(ListOf::from_vec(coins))
+    }
+
+    /// Whether the reference names a coin of some token: unconsumed Cash that nothing encumbers and no flow has locked. It
+    /// goes through the states.
+    pub fn is_coin(&self, reference: &StateRef) -> bool
+        ensures { result ≡ has_coin self.now.held reference.now }
+    {
+        has_coin(self.states.as_slice(), reference)
+    }
+
+    /// Soft-locks coins for a flow. `is_coin` tells which states are coins. It takes no memory, and goes through the states.
+    pub fn lock(&mut self, flow: u32, list: &RefList)
+        requires coins { list_all (has_coin self.old.held) list.now ≡ true }
+        requires once { has_repeat ref_eq list.now ≡ false }
+        ensures party { self.new.party ≡ self.old.party }
+        ensures held { self.new.held ≡ map (locked_in flow list.now) self.old.held }
+        ensures room { self.old.room ≤ self.new.room }
+        ensures vault { (recorded : List (Id × Recorded)) (locks : List Lock) → IsVault self.old.party recorded locks self.old.held → IsVault self.old.party recorded (locks ++ locks_of flow list.now) self.new.held }
+    {
+        lock_each(&mut self.states, flow, list.as_slice());
+    }
+
+    /// Releases all that a flow has locked. It takes no memory, and goes through the states.
+    pub fn release(&mut self, flow: u32)
+        ensures party { self.new.party ≡ self.old.party }
+        ensures held { self.new.held ≡ map (freed_of flow) self.old.held }
+        ensures room { self.old.room ≤ self.new.room }
+        ensures vault { (recorded : List (Id × Recorded)) (locks : List Lock) → IsVault self.old.party recorded locks self.old.held → IsVault self.old.party recorded (released flow locks) self.new.held }
+    {
+        free_each(&mut self.states, flow);
+    }
+}
