@@ -1,4 +1,5 @@
 ghost use Rattle.std.specs.Prelude.{◌≡◌, slice_set, ◌++◌, ◌∷◌, ◌<◌, ◌+◌, ◌-◌, ◌^◌, [], length, IfOk, IfSome, Some, OnOk, OnErr, string_bytes};
+ghost use Rattle.net_base.specs.declared.causes.Event.TheVariants.{Start};
 ghost use Rattle.net_model.specs.Environment.{one_node};
 ghost use Rattle.net_model.specs.Steps.{place, next_cause};
 ghost use Rattle.net_model.specs.Print.{printed, of_flows};
@@ -107,10 +108,7 @@ impl<F: FlowSet> Node<F> {
         if self.causes.len() == MOST_CAUSES {
             return Err(StartFault::Full);
         }
-        let Ok(args) = args.copy(alloc) else {
-            return Err(StartFault::Memory);
-        };
-        match self.add(now, class, args, flow) {
+        match self.add(alloc, now, class, args, flow) {
             Ok(()) => Ok(number),
             Err(_) => Err(StartFault::Memory),
         }
@@ -151,27 +149,23 @@ impl<F: FlowSet> Node<F> {
     // Commits the start of a flow.
     fn add(
         &mut self,
+        alloc: Global,
         now: Moment,
         class: u16,
-        args: ByteList,
+        args: &ByteList,
         flow: FlowState<F>,
     ) -> Result<(), AllocError>
         requires room { length self.old < 65536 }
         requires by { IsBy (one_node F.machine) (alone now.0 self.old) 0 }
-        requires made { IfSome (node_at (one_node F.machine) (alone now.0 self.old) 0) (λ s. IsBegun (one_node F.machine) now.0 class args s flow) }
-        ensures ok { IfSome (node_at (one_node F.machine) (alone now.0 self.old) 0) (λ s. OnOk result (self.new ≡ self.old ++ start_cause now.0 class args s ∷ [])) }
+        requires made { IfSome (node_at (one_node F.machine) (alone now.0 self.old) 0) (λ s. IsBegun (one_node F.machine) now.0 class args.now s flow) }
+        ensures ok { IfSome (node_at (one_node F.machine) (alone now.0 self.old) 0) (λ s. OnOk result (self.new ≡ self.old ++ start_cause now.0 class args.now s ∷ [])) }
         ensures err { OnErr result (self.new ≡ self.old) }
         ensures by { IsBy (one_node F.machine) (alone now.0 self.new) 0 }
     {
-        let flow_number = self.flows.len() as u32;
-        let event = Event::Start {
-            flow: flow_number,
-            class,
-            args,
-        };
-        let cause = cause_after(self.stamp, now, event);
+        let number = self.flows.len() as u32;
         self.flows.push(flow)?;
-        if let Err(fault) = self.causes.push(cause) {
+        if let Err(fault) = log_start(alloc, &mut self.causes, self.stamp, now, number, class, args)
+        {
             let _ = self.flows.pop();
             return Err(fault);
         }
@@ -212,6 +206,25 @@ fn cause_after(stamp: u64, now: Moment, event: Event) -> Cause
         moment: now,
         event,
     }
+}
+
+// Adds the cause of a start to causes of which the last has this stamp.
+fn log_start(
+    alloc: Global,
+    causes: &mut CauseList,
+    stamp: u64,
+    now: Moment,
+    flow: u32,
+    class: u16,
+    args: &ByteList,
+) -> Result<(), AllocError>
+    requires { stamp < 2 ^ 64 - 1 }
+    ensures ok { OnOk result (causes.new ≡ causes.old ++ record { stamp = stamp + 1; moment = now; event = Start flow class args.now } ∷ []) }
+    ensures err { OnErr result (causes.new ≡ causes.old) }
+{
+    let args = args.copy(alloc)?;
+    let event = Event::Start { flow, class, args };
+    causes.push(cause_after(stamp, now, event))
 }
 
 // Another flow in the place of one of the table.

@@ -23,12 +23,12 @@ pub add-requires-clause-made : goal.add-requires-clause-made
 add-requires-clause-made g c =
     let number : c.len-number.result ≡ length c.self.inside.flows.items = omega (arith, c.self.inside.flows.ok.0) in
     let after = rw c.self.view_is at c.self.invariant.after in
-    rw (after, c.in-Ok.ensures) (rw number at c.in_ok-flow.ensures)
+    rw after (rw number at c.in_ok-flow.ensures)
 
-pub returns-in-Ok-add-clause-start : goal.returns-in-Ok-add-clause-start
-returns-in-Ok-add-clause-start g c =
+pub returns-in-Ok-clause-start : goal.returns-in-Ok-clause-start
+returns-in-Ok-clause-start g c =
     let number : c.len-number.result ≡ length c.self.inside.flows.items = omega (arith, c.self.inside.flows.ok.0) in
     let after = rw c.self.view_is at c.self.invariant.after in
     let room : (length c.args.self.now == 65536) ≡ false = ne_eqb _ _ (λ full. absurd (omega (arith, ap length c.self.view_is))) in
     let here = start_ok (one_node g.F.FlowSet.machine) c.args.self.now _ c.args.now.0 after c.args.class c.args.args.now c.in_ok-flow.flow (rw number at c.in_ok-flow.ensures) room in
-    (_, rw number here, rw (after, c.in-Ok.ensures) at c.in-Ok-add.ensures.ok)
+    (_, rw number here, rw after at c.in-Ok.ensures.ok)
