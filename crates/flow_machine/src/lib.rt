@@ -11,6 +11,8 @@ mod counter;
 mod fields;
 mod flow_set;
 mod flows;
+#[cfg(test)]
+mod spelling_tests;
 mod stack;
 #[cfg(test)]
 mod tests;

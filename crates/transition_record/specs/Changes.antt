@@ -1,9 +1,8 @@
 -- The spelling of what a transition changes: of a flow, of sessions, of the ledger.
-use Rattle.std.proofs.Common.{◌≡◌, ◌<◌, ◌≤◌, ◌^◌, ℕ, Bool, true, false, List, [], ◌∷◌, ◌++◌, length, Option, Some, None, Result, Ok, Err, refl, sym, ap, ◌∙◌, arith}
+use Rattle.std.proofs.Common.{◌≡◌, ◌<◌, ◌^◌, ℕ, Bool, true, false, List, [], ◌∷◌, ◌++◌, Option, Result, Ok, Err, refl, sym, ap, arith}
 use Rattle.std.specs.Prelude.{nat_eq, IfSome}
 use Rattle.std.specs.List.{list_any}
 use Rattle.std.specs.Int.{w16, w32}
-use Rattle.std.proofs.lemmas.List.{append-nil}
 use Rattle.net_base.specs.declared.names.Key.{Key}
 use Rattle.net_base.specs.declared.names.StateRef.{StateRef}
 use Rattle.net_base.specs.declared.values.Party.{Party}

@@ -9,3 +9,6 @@ mod record;
 mod session;
 
 pub use record::{RECORD_LIMIT, decode_record, encode_record};
+
+#[cfg(test)]
+mod tests;

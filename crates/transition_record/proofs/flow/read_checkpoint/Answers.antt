@@ -1,4 +1,4 @@
-use Rattle.std.proofs.Common.{◌≡◌, ◌-◌, ◌∙◌, Ok, List, ℕ, take, ap, sym, arith}
+use Rattle.std.proofs.Common.{◌≡◌, ◌-◌, ◌∙◌, List, ℕ, take, ap, sym, arith}
 use Rattle.net_base.specs.Laws.{done}
 use Rattle.transition_record.proofs.Checkpoints.{no_earlier, bytes_between}
 use Rattle.transition_record.proofs.flow.read_checkpoint.Goals as goal
