@@ -164,8 +164,15 @@ impl<F: FlowSet> Node<F> {
     {
         let number = self.flows.len() as u32;
         self.flows.push(flow)?;
-        if let Err(fault) = log_start(alloc, &mut self.causes, self.stamp, now, number, class, args)
-        {
+        if let Err(fault) = log_start(
+            alloc,
+            &mut self.causes,
+            self.stamp,
+            now,
+            number,
+            class,
+            args,
+        ) {
             let _ = self.flows.pop();
             return Err(fault);
         }
