@@ -3,10 +3,14 @@
 //! The script comes from standard input, and the answers go to standard output.
 #![tactic(auto)]
 
+ghost use Rattle.std.specs.Prelude.{◌≡◌, IfOk, length};
+
 mod streams;
 
+use disk_mem::MemDisk;
 use flow_machine::Counter;
 use node_shell::run;
+use std::alloc::{AllocError, Global};
 use std::io::BufReader;
 use std::process::ExitCode;
 use std::{env, io};
@@ -27,6 +31,17 @@ fn status_of(fault: &io::Error) -> u8 {
     }
 }
 
+/// The disks of a run, all empty.
+fn empty_disks(alloc: Global) -> Result<Vec<MemDisk>, AllocError>
+    ensures { IfOk result (λ disks. length disks.items ≡ 32) }
+{
+    let mut disks = Vec::new(alloc);
+    'disks: for _ in 0..32u8 {
+        disks.push(MemDisk::new(alloc))?;
+    }
+    Ok(disks)
+}
+
 fn main(rt: HostRuntime) -> ExitCode {
     let alloc = rt.alloc();
     let args = match env::args(&rt) {
@@ -42,8 +57,11 @@ fn main(rt: HostRuntime) -> ExitCode {
     let Ok(reader) = BufReader::new(alloc, rt.reader()) else {
         return ExitCode::from(NO_MEMORY);
     };
+    let Ok(disks) = empty_disks(alloc) else {
+        return ExitCode::from(NO_MEMORY);
+    };
     let mut source = StdSource::new(reader);
     let mut sink = StdSink::new(io::writer(&rt));
-    let ended = run::<_, _, Counter>(alloc, words.as_slice(), &mut source, &mut sink);
+    let ended = run::<_, _, _, Counter>(alloc, words.as_slice(), &mut source, &mut sink, disks);
     ExitCode::from(ended.status)
 }

@@ -1,7 +1,10 @@
-//! A chain of three transactions recorded in order.
+//! A chain of three transactions recorded in order; what is locked, released and booked.
 
 ghost use Rattle.std.specs.Prelude.{◌≤◌, IfOk, length};
 ghost use Rattle.ledger_types.specs.Txs.{IsTx};
+
+mod booking;
+mod locking;
 
 use crate::Tables;
 use ledger_types::{LedgerChange, SignedTx, Tx};

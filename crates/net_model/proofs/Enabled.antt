@@ -1,5 +1,5 @@
 -- Enabled acts and the effects of the events that perform them.
-use Rattle.std.proofs.Common.{◌≡◌, ℕ, List, [], ◌∷◌, Option, Some, None, true, false, cond, nat_le, IsSome, MatchOption, slice_get, refl, sym, ap, ◌∙◌, ◌⊎◌, inl, inr, ⊎_elim}
+use Rattle.std.proofs.Common.{◌≡◌, ℕ, Option, Some, None, true, false, cond, nat_le, IsSome, MatchOption, slice_get, refl, sym, ap, ◌∙◌, ◌⊎◌, inl, inr, ⊎_elim}
 use Rattle.net_base.specs.declared.causes.Event.{Event}
 use Rattle.net_base.specs.declared.causes.Event.TheVariants as event
 use Rattle.flow_machine.specs.declared.acts.Act.{Act}
@@ -22,22 +22,22 @@ module _ {F : Type 0} (w : Environment F) (me : ℕ) (s : NodeState F) (now f : 
   unfolding effect_of
   lapses_on flow h = rw h
 
-  by_act : (effect : Event → Option (Effect F)) (at : Checkpoint F) (below : List F) (a : Act F)
-      → effect (event.Move f) ≡ cond (is_act_built a below) (performed w me s now at a) None → effect (event.Lapse f) ≡ cond (is_act_built a below) (lapsed w me now at (lapses s now at.flow a)) None
-      → MatchOption (performing f now below a) ((effect (event.Move f) ≡ None) × (effect (event.Lapse f) ≡ None)) (λ e. IsSome (effect e))
-  by_act effect at below (act.Sleep until) move lapse =
+  by_act : (effect : Event → Option (Effect F)) (at : Checkpoint F) (a : Act F)
+      → effect (event.Move f) ≡ cond (is_act_built a) (performed w me s now at a) None → effect (event.Lapse f) ≡ cond (is_act_built a) (lapsed w me now at (lapses s now at.flow a)) None
+      → MatchOption (performing f now a) ((effect (event.Move f) ≡ None) × (effect (event.Lapse f) ≡ None)) (λ e. IsSome (effect e))
+  by_act effect at (act.Sleep until) move lapse =
       (elim (nat_le until now) as (λ b. effect (event.Lapse f) ≡ lapsed w me now at b → MatchOption (cond b (Some (event.Lapse f)) None) ((effect (event.Move f) ≡ None) × (effect (event.Lapse f) ≡ None)) (λ e. IsSome (effect e))) [
         | true ↦ λ l. rw l refl
         | false ↦ λ l. (move, l)
       ]) lapse
-  by_act effect at below (act.Fail code) move lapse = rw move refl
-  by_act effect at [] (act.Return value) move lapse = rw move refl
-  by_act effect at (frame ∷ below) (act.Return value) move lapse = (move, lapse)
-  by_act effect at below _ move lapse = (move, lapse)
+  by_act effect at (act.Sub frame) move lapse = rw move refl
+  by_act effect at (act.Return value) move lapse = rw move refl
+  by_act effect at (act.Fail code) move lapse = rw move refl
+  by_act effect at _ move lapse = (move, lapse)
 
   by_flow : (effect : Event → Option (Effect F)) (flow : FlowState F) → effect (event.Move f) ≡ effect_on w me s now flow (event.Move f) → effect (event.Lapse f) ≡ effect_on w me s now flow (event.Lapse f)
       → MatchOption (event_of f now flow) ((effect (event.Move f) ≡ None) × (effect (event.Lapse f) ≡ None)) (λ e. IsSome (effect e))
-  by_flow effect (state.Live at) move lapse = by_act effect at at.stack.below at.waiting move lapse
+  by_flow effect (state.Live at) move lapse = by_act effect at at.waiting move lapse
   by_flow effect (state.Ended step class value) move lapse = (move, lapse)
   by_flow effect (state.Failed step class code) move lapse = (move, lapse)
 
@@ -45,15 +45,15 @@ module _ {F : Type 0} (w : Environment F) (me : ℕ) (s : NodeState F) (now f : 
       → MatchOption (event_of f now flow) ((effect_of w me s now (event.Move f) None ≡ None) × (effect_of w me s now (event.Lapse f) None ≡ None)) (λ e. IsSome (effect_of w me s now e None))
   enabled_at flow h = by_flow (λ e. effect_of w me s now e None) flow (moves_on flow h) (lapses_on flow h)
 
-  act_kind : (below : List F) (a : Act F) (e : Event) → performing f now below a ≡ Some e → (e ≡ event.Move f) ⊎ (e ≡ event.Lapse f)
-  act_kind below (act.Sleep until) e h = (elim (nat_le until now) as (λ b. cond b (Some (event.Lapse f)) None ≡ Some e → (e ≡ event.Move f) ⊎ (e ≡ event.Lapse f)) [ true ↦ λ k. inr (cc) | false ↦ λ k. cc ]) h
-  act_kind below (act.Fail code) e h = inl (cc)
-  act_kind [] (act.Return value) e h = inl (cc)
-  act_kind (frame ∷ below) (act.Return value) e h = cc
-  act_kind below _ e h = cc
+  act_kind : (a : Act F) (e : Event) → performing f now a ≡ Some e → (e ≡ event.Move f) ⊎ (e ≡ event.Lapse f)
+  act_kind (act.Sleep until) e h = (elim (nat_le until now) as (λ b. cond b (Some (event.Lapse f)) None ≡ Some e → (e ≡ event.Move f) ⊎ (e ≡ event.Lapse f)) [ true ↦ λ k. inr (cc) | false ↦ λ k. cc ]) h
+  act_kind (act.Sub frame) e h = inl (cc)
+  act_kind (act.Return value) e h = inl (cc)
+  act_kind (act.Fail code) e h = inl (cc)
+  act_kind _ e h = cc
 
   event_kind : (flow : FlowState F) (e : Event) → event_of f now flow ≡ Some e → (e ≡ event.Move f) ⊎ (e ≡ event.Lapse f)
-  event_kind (state.Live at) e h = act_kind at.stack.below at.waiting e h
+  event_kind (state.Live at) e h = act_kind at.waiting e h
   event_kind (state.Ended step class value) e h = cc
   event_kind (state.Failed step class code) e h = cc
 

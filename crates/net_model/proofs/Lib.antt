@@ -9,6 +9,7 @@ pub mod Effects
 pub mod Local
 pub mod Merging
 pub mod Faithful
+pub mod Cut
 pub mod Commits
 pub mod Recorded
 pub mod Booked

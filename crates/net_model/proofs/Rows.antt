@@ -31,6 +31,8 @@ data Frame : Type 0 where
   sending : Key → ℕ → ℕ → Frame
   echoing : Key → Frame
   echoed : Key → Frame
+  nesting : Frame
+  nested : Frame
   over : Frame
 
 abbrev counted : ℕ → ℕ → Frame × Act Frame
@@ -66,16 +68,26 @@ abbrev ended : Frame → Frame × Act Frame
 ended (echoing key) = (over, act.Return value.Unit)
 ended _ = (over, act.Fail 51)
 
+abbrev started : Frame → Frame × Act Frame
+started nested = (over, act.Return (value.Number 7))
+started _ = (over, act.Fail 54)
+
+abbrev returned : Frame → Value → Frame × Act Frame
+returned nesting v = (over, act.Return v)
+returned _ v = (over, act.Fail 54)
+
 abbrev next : Frame → Resumed → Place → Frame × Act Frame
 next frame (resumed.Opened key) at = opened frame key
 next frame (resumed.Got v) at = got frame v
 next frame resumed.Lapsed at = lapsed frame
 next frame resumed.Sent at = sent frame
 next frame resumed.Ended at = ended frame
+next frame resumed.Started at = started frame
+next frame (resumed.Returned v) at = returned frame v
 next frame _ at = (over, act.Fail 54)
 
 abbrev made_of : ℕ → List ℕ → Result (Frame × Act Frame) MakeFault
-made_of class [] = Err make.BadArgs
+made_of class [] = if class == 3 then Ok (nesting, act.Sub nested) else Err make.BadArgs
 made_of class (k ∷ []) = if class == 1 then Ok (counted k k) else Err make.BadArgs
 made_of class (to ∷ k ∷ rest) = if class == 2 then Ok (opening to k, act.Open (record { 0 = to }) 2 (value.Number 0)) else Err make.BadArgs
 
@@ -93,7 +105,7 @@ machine = record {
 }
 
 abbrev setting : ℕ → Environment Frame
-setting nodes = record { machine = machine; nodes = nodes; notary = party 0; judge = judge_without_contracts; mark = keyed_mark }
+setting nodes = record { machine = machine; nodes = nodes; notary = party 0; judge = judge_without_contracts; mark = keyed_mark; frame_at = λ bytes. Err 0 }
 
 abbrev at : ℕ → ℕ → Event → ℕ × Cause
 at stamp node e = (node, record { stamp = stamp; moment = record { 0 = 0 }; event = e })
@@ -122,6 +134,14 @@ slept = at 1 0 (event.Start 0 1 (2 ∷ [])) ∷ at 2 0 (event.Lapse 0) ∷ at 3 
 slept_runs : flows_after 1 slept ≡ Some ((state.Ended 3 1 (value.Number 2) ∷ []) ∷ [])
 unfolding run_of net_step node_step effect_of apply_effect item_from
 slept_runs = refl
+
+-- a frame begins above another, returns to it, and that one ends the flow
+abbrev subbed : List (ℕ × Cause)
+subbed = at 1 0 (event.Start 0 3 []) ∷ at 2 0 (event.Move 0) ∷ at 3 0 (event.Move 0) ∷ at 4 0 (event.Move 0) ∷ []
+
+subbed_runs : flows_after 1 subbed ≡ Some ((state.Ended 3 3 (value.Number 7) ∷ []) ∷ [])
+unfolding run_of net_step node_step effect_of apply_effect item_from
+subbed_runs = refl
 
 -- a stamp that isn't the next one is no step
 not_a_run : run_of (setting 1) (at 2 0 (event.Start 0 1 (0 ∷ [])) ∷ []) ≡ None

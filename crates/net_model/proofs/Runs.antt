@@ -1,5 +1,5 @@
 -- Runs that go on by one cause.
-use Rattle.std.proofs.Common.{◌≡◌, ℕ, ◌-◌, List, [], ◌∷◌, ◌++◌, Some, None, Bool, false, map, length, take, drop, arith, refl, ap, sym, ◌∙◌}
+use Rattle.std.proofs.Common.{◌≡◌, ℕ, ◌-◌, List, [], ◌∷◌, ◌++◌, Some, None, Result, Bool, false, map, length, take, drop, arith, refl, ap, sym, ◌∙◌}
 use Rattle.std.proofs.lemmas.List.{length-drop}
 use Rattle.std.proofs.Math.Seq.{take-length}
 use Rattle.std.proofs.lemmas.Option.{option_and_then_some}
@@ -53,9 +53,9 @@ network_push w causes s done cause h none step =
     (run_push w (fresh_net w) (s ∷ []) (done.0 ∷ [], done.1) (map (λ x. (0, x)) causes) 0 cause now (net_step_one w s done cause none step))
 
 -- a network of one node without a cause
-pub network_fresh : {F : Type 0} (m : Machine F) → network_of (one_node m) ([] ∷ []) ≡ Some (fresh ∷ [])
+pub network_fresh : {F : Type 0} (m : Machine F) (frame_at : List ℕ → Result (F × List ℕ) ℕ) → network_of (one_node m frame_at) ([] ∷ []) ≡ Some (fresh ∷ [])
 unfolding network_of run_of merge
-network_fresh m = refl
+network_fresh m frame_at = refl
 
 none_left : {X : Type 0} (xs : List X) → length xs ≡ 0 → xs ≡ []
 none_left [] h = refl

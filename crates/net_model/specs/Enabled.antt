@@ -11,16 +11,17 @@ use Rattle.net_model.specs.Environment.{Environment}
 use Rattle.net_model.specs.State.{NodeState, FlowPart, now_live, now_ended, now_failed, Effect}
 use Rattle.net_model.specs.Steps.{effect_of, performed, lapsed, lapses, checkpoint_of, is_flow_built}
 
--- the event that performs an act of flow f at a moment, over these frames below, where it is enabled; only what nodes perform so far is
-abbrev pub performing : {F : Type 0} → ℕ → ℕ → List F → Act F → Option Event
-performing f now below (act.Sleep until) = if nat_le until now then Some (event.Lapse f) else None
-performing f now below (act.Fail code) = Some (event.Move f)
-performing f now [] (act.Return value) = Some (event.Move f)
-performing f now below _ = None
+-- the event that performs an act of flow f at a moment, where it is enabled; only what nodes perform so far is
+abbrev pub performing : {F : Type 0} → ℕ → ℕ → Act F → Option Event
+performing f now (act.Sleep until) = if nat_le until now then Some (event.Lapse f) else None
+performing f now (act.Sub frame) = Some (event.Move f)
+performing f now (act.Return value) = Some (event.Move f)
+performing f now (act.Fail code) = Some (event.Move f)
+performing f now _ = None
 
 -- the event by which flow f goes on at a moment, where it is live on an act that is enabled
 abbrev pub event_of : {F : Type 0} → ℕ → ℕ → FlowState F → Option Event
-event_of f now (state.Live at) = performing f now at.stack.below at.waiting
+event_of f now (state.Live at) = performing f now at.waiting
 event_of f now (state.Ended step class value) = None
 event_of f now (state.Failed step class code) = None
 
@@ -28,6 +29,11 @@ event_of f now (state.Failed step class code) = None
 abbrev pub first_event : {F : Type 0} → ℕ → ℕ → List (FlowState F) → Option Event
 first_event f now [] = None
 first_event f now (flow ∷ flows) = option_or (event_of f now flow) (first_event (f + 1) now flows)
+
+-- the event by which the picked flow goes on, or the first that can
+abbrev pub picked : {F : Type 0} → ℕ → Option ℕ → List (FlowState F) → Option Event
+picked now (Some f) flows = option_and_then (event_of f now) (slice_get flows f)
+picked now None flows = first_event 0 now flows
 
 -- what becomes of flow f where it is this
 abbrev pub part_of : {F : Type 0} → ℕ → FlowState F → FlowPart F

@@ -1,5 +1,5 @@
 -- What the definitions of a network are given.
-use Rattle.std.specs.Prelude.{ℕ, None}
+use Rattle.std.specs.Prelude.{ℕ, List, None, Result}
 use Rattle.net_base.specs.declared.values.Hash32.{Hash32}
 use Rattle.net_base.specs.declared.values.Party.{Party}
 use Rattle.net_base.specs.declared.names.Identity.{Identity}
@@ -21,6 +21,8 @@ pub record Environment (F : Type 0) : Type 0 where
   pub judge : Tx → Resolved → Verdict
   -- the mark that a party gives under an id
   pub mark : Party → Hash32 → Hash32
+  -- how a frame is read from the front of bytes, with the bytes behind it
+  pub frame_at : List ℕ → Result (F × List ℕ) ℕ
 
 -- the party of a node
 abbrev pub party : ℕ → Party
@@ -34,6 +36,10 @@ identity w me = record { party = party me; nodes = w.nodes; notary = w.notary }
 abbrev pub judge_without_contracts : Tx → Resolved → Verdict
 judge_without_contracts tx resolved = verdict_of (λ id t r. None) tx resolved
 
--- a network of one node, which is the notary too; it knows no contract, and marks are those of the keyed digest
-abbrev pub one_node : {F : Type 0} → Machine F → Environment F
-one_node m = record { machine = m; nodes = 1; notary = party 0; judge = judge_without_contracts; mark = keyed_mark }
+-- the environment of a node of this identity; it knows no contract, and marks are those of the keyed digest
+abbrev pub environment : {F : Type 0} → Machine F → (List ℕ → Result (F × List ℕ) ℕ) → Identity → Environment F
+environment m frame_at me = record { machine = m; nodes = me.nodes; notary = me.notary; judge = judge_without_contracts; mark = keyed_mark; frame_at = frame_at }
+
+-- the environment of the one node of a network, which is the notary too
+abbrev pub one_node : {F : Type 0} → Machine F → (List ℕ → Result (F × List ℕ) ℕ) → Environment F
+one_node m frame_at = environment m frame_at (record { party = party 0; nodes = 1; notary = party 0 })

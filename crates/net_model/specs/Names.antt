@@ -1,6 +1,5 @@
 -- Tests of equality for what sessions are named by.
-use Rattle.std.specs.Prelude.{ℕ, Bool, false, ◌==◌, ◌&&◌, Option, Some, None}
-use Rattle.net_base.specs.declared.names.Key.{Key}
+use Rattle.std.specs.Prelude.{ℕ, Bool, false, ◌==◌, Option, Some, None}
 
 -- whether there is a number and it is this one
 abbrev pub number_is : ℕ → Option ℕ → Bool

@@ -1,6 +1,5 @@
 -- The state of a node, the effect of a cause, and what an effect makes of a state.
-use Rattle.std.specs.Prelude.{ℕ, zero, suc, ◌==◌, not, List, [], ◌∷◌, ◌++◌, Option, Some, None, if◌then◌else◌, map, filter, find, option_to_list, slice_get, slice_set, length, unwrap_or}
-use Rattle.std.specs.Option.{option_or, option_and_then}
+use Rattle.std.specs.Prelude.{ℕ, ◌==◌, not, List, [], ◌∷◌, ◌++◌, Option, Some, None, if◌then◌else◌, map, filter, option_to_list, slice_set, length, unwrap_or}
 use Rattle.net_base.specs.declared.values.Hash32.{Hash32}
 use Rattle.net_base.specs.declared.values.Party.{Party}
 use Rattle.net_base.specs.declared.names.Key.{Key}
@@ -14,12 +13,11 @@ use Rattle.ledger_types.specs.declared.value.Value.{Value}
 use Rattle.ledger_types.specs.Signatures.{tx_id}
 use Rattle.ledger_types.specs.Vaults.{Lock}
 use Rattle.session_wire.specs.declared.body.Body.{Body}
-use Rattle.session_wire.specs.declared.body.Body.TheVariants as body_of
 use Rattle.session_wire.specs.declared.change.SentItem.{SentItem}
 use Rattle.flow_machine.specs.declared.flows.Checkpoint.{Checkpoint}
 use Rattle.flow_machine.specs.declared.flows.FlowState.{FlowState}
 use Rattle.flow_machine.specs.declared.flows.FlowState.TheVariants as state
-use Rattle.session_wire.specs.Sessions.{Session, changed_at, key_eq, new_session, opened_on, sent_on, taken_on, with_came}
+use Rattle.session_wire.specs.Sessions.{Session, changed_at, new_session, opened_on, sent_on, taken_on, with_came}
 
 -- ---- the state
 

@@ -1,5 +1,5 @@
 -- One step of a node: the effect of a cause, where it is defined.
-use Rattle.std.specs.Prelude.{ℕ, ◌+◌, ◌-◌, ◌^◌, ◌==◌, ◌&&◌, ◌||◌, not, List, [], ◌∷◌, Option, Some, None, Result, Ok, Err, Bool, true, false, if◌then◌else◌, map, filter, option_map, option_and_then, nat_le, nat_lt, max, length, drop, is_none, slice_get}
+use Rattle.std.specs.Prelude.{ℕ, ◌+◌, ◌-◌, ◌^◌, ◌==◌, ◌&&◌, ◌||◌, not, List, [], ◌∷◌, Option, Some, None, Result, Ok, Err, Bool, true, false, if◌then◌else◌, map, filter, option_map, option_and_then, nat_le, nat_lt, max, length, is_none, slice_get}
 use Rattle.net_base.specs.declared.values.Hash32.{Hash32}
 use Rattle.net_base.specs.declared.values.Party.{Party}
 use Rattle.net_base.specs.declared.names.Key.{Key}
@@ -313,17 +313,18 @@ meant_of w me s now (event.Arrive key direction number) body = option_and_then (
 meant_of w me s now (event.Move f) body = option_and_then (λ at. performed w me s now at at.waiting) (live_at s f)
 meant_of w me s now (event.Lapse f) body = option_and_then (λ at. lapsed w me now at (lapses s now at.flow at.waiting)) (live_at s f)
 
--- whether nodes perform an act so far, over these frames below: they sleep, they fail, and they return from a flow's only frame
-abbrev pub is_act_built : {F : Type 0} → Act F → List F → Bool
-is_act_built (act.Sleep until) below = true
-is_act_built (act.Fail code) below = true
-is_act_built (act.Return value) [] = true
-is_act_built _ below = false
+-- whether nodes perform an act so far: they sleep, they begin a frame and return from one, and they fail
+abbrev pub is_act_built : {F : Type 0} → Act F → Bool
+is_act_built (act.Sleep until) = true
+is_act_built (act.Sub frame) = true
+is_act_built (act.Return value) = true
+is_act_built (act.Fail code) = true
+is_act_built _ = false
 
 -- whether nodes perform the act that a flow waits on so far
 abbrev pub is_flow_built : {F : Type 0} → Option (Checkpoint F) → Bool
 is_flow_built None = false
-is_flow_built (Some at) = is_act_built at.waiting at.stack.below
+is_flow_built (Some at) = is_act_built at.waiting
 
 -- whether nodes do so far what an event says; what they don't yet is never enabled. Here alone the machine is less than its definitions say
 abbrev pub is_built : {F : Type 0} → NodeState F → Event → Bool

@@ -1,3 +1,4 @@
+ghost use Rattle.net_model.specs.Cut.{FlowsAlone, NoneAccepts, LocalIsAlone, LocalIsMatched};
 ghost use Rattle.net_model.specs.Enabled.{EnabledIsDefined};
 ghost use Rattle.net_model.specs.Fits.{StepsFit, FitsKeepSound, FreshIsSound};
 ghost use Rattle.net_model.specs.Left.{LeftFalls};
@@ -98,4 +99,20 @@ pub fn stored_is_signed<F>()
 pub fn books_hold<F>()
     ensures runs { BooksOfRuns F }
     ensures journals { BooksOfJournals F }
+{}
+
+/// The law that a step of a node without a session changes nothing but its flow, and that no event which accepts an item has an
+/// effect, since nodes do none of this yet.
+#[tactic(auto, using(crate::proofs::Cut::flows_alone, crate::proofs::Cut::none_accepts))]
+pub fn flows_alone<F>()
+    ensures alone { FlowsAlone F }
+    ensures none { NoneAccepts F }
+{}
+
+/// The law that a journal of a node's own steps changes nothing but flows and accepts nothing, and so that journals which are local are
+/// matched.
+#[tactic(auto, using(crate::proofs::Cut::local_is_alone, crate::proofs::Cut::local_is_matched))]
+pub fn local_is_matched<F>()
+    ensures alone { LocalIsAlone F }
+    ensures matched { LocalIsMatched F }
 {}

@@ -98,7 +98,8 @@ fn comes_before(node: u8, cause: &Cause, other: u8, next: &Cause) -> bool
     cause.stamp < next.stamp || (cause.stamp == next.stamp && node < other)
 }
 
-fn copy_cause(alloc: Global, cause: &Cause) -> Result<Cause, AllocError>
+/// An equal cause.
+pub fn copy_cause(alloc: Global, cause: &Cause) -> Result<Cause, AllocError>
     ensures { IfOk result (λ copy. copy ≡ cause.now) }
 {
     Ok(Cause {

@@ -1,5 +1,6 @@
-pub mod Tables
-pub mod Serving
-pub mod Splitting
 pub mod Stories
-pub mod Heads
+pub mod Going
+pub mod Shown
+pub mod Asked
+pub mod Resting
+pub mod Opening

@@ -1,5 +1,5 @@
 -- How a run goes on by one byte, and how it ends.
-use Rattle.std.proofs.Common.{Result, Ok, Err, OnOk, ◌≡◌, ◌≢◌, ℕ, ◌+◌, ◌<◌, ◌≤◌, List, [], ◌∷◌, ◌++◌, length, Option, refl, sym, ap, subst, ◌∙◌, inl, inr, append-nil, length-append, arith}
+use Rattle.std.proofs.Common.{◌≡◌, ◌≢◌, ℕ, ◌+◌, ◌<◌, ◌≤◌, List, [], ◌∷◌, ◌++◌, length, Option, false, true, refl, sym, ap, subst, ◌∙◌, inl, inr, append-nil, length-append, arith}
 use Rattle.std.proofs.lemmas.List.{take_all}
 use Rattle.std.specs.Io.KnownBytes.{Appends, Consumes, Keeps, IsAtEnd}
 use Rattle.outside.proofs.Pieces.{Appends-nil, Appends-trans, Consumes-nil, Consumes-trans, Consumes-kept}
@@ -8,57 +8,64 @@ use Rattle.node_shell.specs.declared.statuses.Status.{Status}
 use Rattle.node_shell.specs.declared.statuses.Status.TheVariants as status
 use Rattle.node_shell.specs.declared.session.Stop.{Stop}
 use Rattle.node_shell.specs.declared.session.Stop.TheVariants as stop
-use Rattle.node_shell.specs.Worlds.{World, opening}
-use Rattle.node_shell.specs.Script.{AreLines, without_cr, whole_lines, last_line}
+use Rattle.network_core.specs.Worlds.{World}
+use Rattle.shell_words.specs.Script.{AreLines, without_cr, whole_lines, last_line, is_quit}
 use Rattle.node_shell.specs.Serve.{Link}
-use Rattle.node_shell.specs.Story.{begins, goes_on, Answered, all_lines, Progress, EndsWith, ScriptRun, StopsAs, status_of}
-use Rattle.node_shell.proofs.Splitting.{lines_none, lines_byte, lines_end, whole_more, last_one, take_known}
+use Rattle.node_shell.specs.Story.{begins, goes_on, NoneQuits, Answered, all_lines, Progress, EndsWith, ScriptRun, StopsAs, status_of}
+use Rattle.shell_words.proofs.Splitting.{lines_none, lines_byte, lines_end, whole_more, last_one, take_known}
 
-module _ {F : Type 0} {w : Environment F} where
+none_push : (lines : List (List ℕ)) (line : List ℕ) → NoneQuits lines → is_quit line ≡ false → NoneQuits (lines ++ line ∷ [])
+none_push [] line none goes = (goes, tt)
+none_push (x ∷ xs) line none goes = (none.0, none_push xs line none.1 goes)
+
+module _ {F : Type 0} {w : Environment F} {start : World} where
   -- one line more is answered
-  pub answered_more : {written0 written1 written2 : Option (List ℕ)} {lines more : List (List ℕ)} {before after : World} {line text : List ℕ} → Answered w written0 written1 lines before → Link w before line text after → Appends written1 written2 text → more ≡ lines ++ line ∷ [] → Answered w written0 written2 more after
-  answered_more {written0 = written0} {written1 = written1} {written2 = written2} {line = line} {text = text} a link appends all = record {
+  pub answered_more : {written0 written1 written2 : Option (List ℕ)} {lines more : List (List ℕ)} {before after : World} {line text : List ℕ} → Answered w start written0 written1 lines before → NoneQuits lines → Link w before line text after → Appends written1 written2 text → more ≡ lines ++ line ∷ [] → Answered w start written0 written2 more after
+  answered_more {written0 = written0} {written1 = written1} {written2 = written2} {line = line} {text = text} a none link appends all = record {
     out = a.out ++ text;
-    story = goes_on line text a.story link all refl;
+    story = goes_on line text a.story none link all refl;
     appended = Appends-trans written0 written1 written2 a.out text a.appended appends;
   }
 
   -- nothing was read yet
-  pub progress_start : (left written : Option (List ℕ)) → Progress w left left written written 0 opening []
+  pub progress_start : (left written : Option (List ℕ)) → Progress w start left left written written 0 start []
   progress_start left written = record {
     read = [];
     lines = [];
     consumed = Consumes-nil left;
     counted = refl;
     split = lines_none;
+    open_end = tt;
     answered = record { out = []; story = begins; appended = Appends-nil written };
   }
 
-  module _ {left0 left1 written0 written1 : Option (List ℕ)} {count : ℕ} {old : World} {rest : List ℕ} (r : Progress w left0 left1 written0 written1 count old rest) where
+  module _ {left0 left1 written0 written1 : Option (List ℕ)} {count : ℕ} {old : World} {rest : List ℕ} (r : Progress w start left0 left1 written0 written1 count old rest) where
     -- a byte that ends no line
-    pub progress_byte : {left2 : Option (List ℕ)} → (b : ℕ) → Consumes left1 left2 (b ∷ []) → b ≢ 10 → Progress w left0 left2 written0 written1 (count + 1) old (rest ++ b ∷ [])
+    pub progress_byte : {left2 : Option (List ℕ)} → (b : ℕ) → Consumes left1 left2 (b ∷ []) → b ≢ 10 → Progress w start left0 left2 written0 written1 (count + 1) old (rest ++ b ∷ [])
     progress_byte {left2 = left2} b c open_b = record {
       read = r.read ++ b ∷ [];
       lines = r.lines;
       consumed = Consumes-trans left0 left1 left2 _ _ r.consumed c;
       counted = omega (arith, length-append r.read (b ∷ []), r.counted);
       split = lines_byte r.split b open_b;
+      open_end = r.open_end;
       answered = r.answered;
     }
 
     -- a byte that ends a line, which is answered
-    pub progress_line : {left2 : Option (List ℕ)} {written2 : Option (List ℕ)} {new : World} → (text : List ℕ) → Consumes left1 left2 (10 ∷ []) → Link w old (without_cr rest) text new → Appends written1 written2 text → Progress w left0 left2 written0 written2 (count + 1) new []
-    progress_line {left2 = left2} text c link appends = record {
+    pub progress_line : {left2 : Option (List ℕ)} {written2 : Option (List ℕ)} {new : World} → (text : List ℕ) → Consumes left1 left2 (10 ∷ []) → is_quit (without_cr rest) ≡ false → Link w old (without_cr rest) text new → Appends written1 written2 text → Progress w start left0 left2 written0 written2 (count + 1) new []
+    progress_line {left2 = left2} text c goes link appends = record {
       read = r.read ++ 10 ∷ [];
       lines = r.lines ++ rest ∷ [];
       consumed = Consumes-trans left0 left1 left2 _ _ r.consumed c;
       counted = omega (arith, length-append r.read (10 ∷ []), r.counted);
       split = lines_end r.split;
-      answered = answered_more r.answered link appends (whole_more r.lines rest);
+      open_end = subst NoneQuits (sym (whole_more r.lines rest)) (none_push (whole_lines r.lines) (without_cr rest) r.open_end goes);
+      answered = answered_more r.answered r.open_end link appends (whole_more r.lines rest);
     }
 
     -- the run ends before another byte
-    ends_here : {left2 : Option (List ℕ)} {written2 : Option (List ℕ)} {new : World} → (s : Status) → Keeps left1 left2 → count ≤ 16777216 → EndsWith w left2 written0 written2 count r.lines rest new s → ScriptRun w left0 left2 written0 written2 count new s
+    ends_here : {left2 : Option (List ℕ)} {written2 : Option (List ℕ)} {new : World} → (s : Status) → Keeps left1 left2 → count ≤ 16777216 → EndsWith w start left2 written0 written2 count r.lines rest new s → ScriptRun w start left0 left2 written0 written2 count new s
     ends_here {left2 = left2} s k small ends = record {
       read = r.read;
       lines = r.lines;
@@ -70,7 +77,7 @@ module _ {F : Type 0} {w : Environment F} where
     }
 
     -- the run ends after one byte more, with these lines
-    ends_after : {left2 : Option (List ℕ)} {written2 : Option (List ℕ)} {new : World} → (b : ℕ) (s : Status) (lines : List (List ℕ)) (rest' : List ℕ) → Consumes left1 left2 (b ∷ []) → count < 16777216 → AreLines (r.read ++ b ∷ []) lines rest' → EndsWith w left2 written0 written2 (count + 1) lines rest' new s → ScriptRun w left0 left2 written0 written2 (count + 1) new s
+    ends_after : {left2 : Option (List ℕ)} {written2 : Option (List ℕ)} {new : World} → (b : ℕ) (s : Status) (lines : List (List ℕ)) (rest' : List ℕ) → Consumes left1 left2 (b ∷ []) → count < 16777216 → AreLines (r.read ++ b ∷ []) lines rest' → EndsWith w start left2 written0 written2 (count + 1) lines rest' new s → ScriptRun w start left0 left2 written0 written2 (count + 1) new s
     ends_after {left2 = left2} b s lines rest' c small split ends = record {
       read = r.read ++ b ∷ [];
       lines = lines;
@@ -82,11 +89,11 @@ module _ {F : Type 0} {w : Environment F} where
     }
 
     -- a read failed
-    pub run_unread : {left2 : Option (List ℕ)} → Keeps left1 left2 → count ≤ 16777216 → ScriptRun w left0 left2 written0 written1 count old status.ReadFault
+    pub run_unread : {left2 : Option (List ℕ)} → Keeps left1 left2 → count ≤ 16777216 → ScriptRun w start left0 left2 written0 written1 count old status.ReadFault
     run_unread k small = ends_here status.ReadFault k small r.answered
 
     -- a byte too many came
-    pub run_long : {left2 : Option (List ℕ)} → (b : ℕ) → Consumes left1 left2 (b ∷ []) → count ≡ 16777216 → ScriptRun w left0 left2 written0 written1 (count + 1) old status.TooLong
+    pub run_long : {left2 : Option (List ℕ)} → (b : ℕ) → Consumes left1 left2 (b ∷ []) → count ≡ 16777216 → ScriptRun w start left0 left2 written0 written1 (count + 1) old status.TooLong
     run_long {left2 = left2} b c full = record {
       read = r.read ++ b ∷ [];
       lines = r.lines;
@@ -98,15 +105,15 @@ module _ {F : Type 0} {w : Environment F} where
     }
 
     -- there is no memory for a byte of a line
-    pub run_unkept : {left2 : Option (List ℕ)} → (b : ℕ) → Consumes left1 left2 (b ∷ []) → b ≢ 10 → count < 16777216 → ScriptRun w left0 left2 written0 written1 (count + 1) old status.NoMemory
+    pub run_unkept : {left2 : Option (List ℕ)} → (b : ℕ) → Consumes left1 left2 (b ∷ []) → b ≢ 10 → count < 16777216 → ScriptRun w start left0 left2 written0 written1 (count + 1) old status.NoMemory
     run_unkept b c open_b small = ends_after b status.NoMemory r.lines (rest ++ b ∷ []) c small (lines_byte r.split b open_b) (inr (omega (arith, length-append rest (b ∷ [])), r.answered))
 
     -- the input ended, and what it ended with was answered
-    pub run_finished : {left2 : Option (List ℕ)} {written2 : Option (List ℕ)} {new : World} → Keeps left1 left2 → IsAtEnd left2 → count ≤ 16777216 → Answered w written0 written2 (whole_lines r.lines ++ last_line rest) new → ScriptRun w left0 left2 written0 written2 count new status.Finished
-    run_finished k end small answered = ends_here status.Finished k small (end, answered)
+    pub run_finished : {left2 : Option (List ℕ)} {written2 : Option (List ℕ)} {new : World} → Keeps left1 left2 → IsAtEnd left2 → count ≤ 16777216 → Answered w start written0 written2 (whole_lines r.lines ++ last_line rest) new → ScriptRun w start left0 left2 written0 written2 count new status.Finished
+    run_finished k end small answered = ends_here status.Finished k small (inl end, answered)
 
     -- what stops a run at its last line
-    stopped : (left written2 : Option (List ℕ)) (new : World) (lines : List (List ℕ)) (rest' line : List ℕ) (n : ℕ) (why : Stop) → all_lines lines rest' ≡ whole_lines r.lines ++ line ∷ [] → (0 < length rest' → IsAtEnd left) → StopsAs w old line new written1 written2 why → EndsWith w left written0 written2 n lines rest' new (status_of why)
+    stopped : (left written2 : Option (List ℕ)) (new : World) (lines : List (List ℕ)) (rest' line : List ℕ) (n : ℕ) (why : Stop) → all_lines lines rest' ≡ whole_lines r.lines ++ line ∷ [] → (0 < length rest' → IsAtEnd left) → StopsAs w old line new written1 written2 why → EndsWith w start left written0 written2 n lines rest' new (status_of why)
     stopped left written2 new lines rest' line n stop.Write all at_end (front, missing, link, proper, appends) = (
       record {
         before = old;
@@ -117,6 +124,7 @@ module _ {F : Type 0} {w : Environment F} where
         missing = missing;
         all = all;
         story = r.answered.story;
+        open_end = r.open_end;
         link = link;
         proper = proper;
         appended = Appends-trans written0 written1 written2 _ _ r.answered.appended appends;
@@ -131,6 +139,7 @@ module _ {F : Type 0} {w : Environment F} where
         out = r.answered.out;
         all = all;
         story = r.answered.story;
+        open_end = r.open_end;
         short = short;
         appended = subst (λ written. Appends written0 written r.answered.out) (sym same) r.answered.appended;
       },
@@ -138,14 +147,30 @@ module _ {F : Type 0} {w : Environment F} where
     )
 
     -- the input ended, and the line that it ended with was not answered
-    pub run_cut_at_end : {left2 : Option (List ℕ)} {written2 : Option (List ℕ)} {new : World} → (why : Stop) → Keeps left1 left2 → IsAtEnd left2 → count ≤ 16777216 → 0 < length rest → StopsAs w old rest new written1 written2 why → ScriptRun w left0 left2 written0 written2 count new (status_of why)
+    pub run_cut_at_end : {left2 : Option (List ℕ)} {written2 : Option (List ℕ)} {new : World} → (why : Stop) → Keeps left1 left2 → IsAtEnd left2 → count ≤ 16777216 → 0 < length rest → StopsAs w old rest new written1 written2 why → ScriptRun w start left0 left2 written0 written2 count new (status_of why)
     run_cut_at_end {left2 = left2} {written2 = written2} {new = new} why k end small some stops = ends_here (status_of why) k small (stopped left2 written2 new r.lines rest rest count why (ap (λ l. whole_lines r.lines ++ l) (last_one rest some)) (λ _. end) stops)
 
     -- a line that came to its end was not answered
-    pub run_cut : {left2 : Option (List ℕ)} {written2 : Option (List ℕ)} {new : World} → (why : Stop) → Consumes left1 left2 (10 ∷ []) → count < 16777216 → StopsAs w old (without_cr rest) new written1 written2 why → ScriptRun w left0 left2 written0 written2 (count + 1) new (status_of why)
+    pub run_cut : {left2 : Option (List ℕ)} {written2 : Option (List ℕ)} {new : World} → (why : Stop) → Consumes left1 left2 (10 ∷ []) → count < 16777216 → StopsAs w old (without_cr rest) new written1 written2 why → ScriptRun w start left0 left2 written0 written2 (count + 1) new (status_of why)
     run_cut {left2 = left2} {written2 = written2} {new = new} why c small stops = ends_after 10 (status_of why) (r.lines ++ rest ∷ []) [] c small (lines_end r.split) (stopped left2 written2 new (r.lines ++ rest ∷ []) [] (without_cr rest) (count + 1) why (append-nil _ ∙ whole_more r.lines rest) (λ none. absurd (omega arith)) stops)
 
--- what holds of an Ok holds where it follows from what does
-pub on_ok : {T E : Type 0} {P Q : Type 0} (r : Result T E) → (P → Q) → OnOk r P → OnOk r Q
-on_ok (Ok x) f h = f h
-on_ok (Err e) f h = tt
+    -- a line asked to quit, and its answer was written
+    pub run_quit : {left2 : Option (List ℕ)} {written2 : Option (List ℕ)} {new : World} → (text : List ℕ) → Consumes left1 left2 (10 ∷ []) → count < 16777216 → is_quit (without_cr rest) ≡ true → Link w old (without_cr rest) text new → Appends written1 written2 text → ScriptRun w start left0 left2 written0 written2 (count + 1) new status.Finished
+    run_quit {written2 = written2} {new = new} text c small asks link appends =
+        let answered : Answered w start written0 written2 (whole_lines (r.lines ++ rest ∷ [])) new = answered_more r.answered r.open_end link appends (whole_more r.lines rest) in
+        ends_after 10 status.Finished (r.lines ++ rest ∷ []) [] c small (lines_end r.split) (
+          inr (record { earlier = whole_lines r.lines; line = without_cr rest; all = whole_more r.lines rest; asks = asks; none = refl }),
+          subst (λ lines. Answered w start written0 written2 lines new) (sym (append-nil (whole_lines (r.lines ++ rest ∷ [])))) answered,
+        )
+
+    -- nothing was read besides
+    pub progress_kept : {left2 : Option (List ℕ)} → Keeps left1 left2 → Progress w start left0 left2 written0 written1 count old rest
+    progress_kept {left2 = left2} k = record {
+      read = r.read;
+      lines = r.lines;
+      consumed = Consumes-kept left0 left1 left2 _ r.consumed k;
+      counted = r.counted;
+      split = r.split;
+      open_end = r.open_end;
+      answered = r.answered;
+    }

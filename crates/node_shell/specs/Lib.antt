@@ -1,5 +1,3 @@
-pub mod Worlds
-pub mod Turns
-pub mod Script
 pub mod Serve
 pub mod Story
+pub mod Runs

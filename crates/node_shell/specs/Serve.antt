@@ -1,95 +1,231 @@
 -- What a line is answered with, and what it makes of the world.
-use Rattle.std.specs.Prelude.{◌≡◌, ℕ, List, [], ◌∷◌, ◌++◌, Result, Ok, Err, Bool, true, false, codes, decimal, MatchBool, drop, slice_index_or, string_bytes, ◌⊎◌}
+use Rattle.std.specs.Prelude.{◌≡◌, ◌⊎◌, ℕ, ◌==◌, ◌-◌, ◌^◌, min, List, [], ◌∷◌, ◌++◌, map, Option, Some, None, Result, Ok, Err, Bool, true, false, codes, decimal, MatchBool, drop, slice_get, slice_index_or, string_bytes, if◌then◌else◌, option_map, option_and_then}
 use Rattle.net_base.specs.declared.causes.Cause.{Cause}
 use Rattle.flow_machine.specs.declared.flow_set.WordFault.{WordFault}
-use Rattle.net_model.specs.Environment.{Environment}
-use Rattle.net_model.specs.Print.{printed, of_flows}
-use Rattle.node_shell.specs.declared.node.StartFault.{StartFault}
-use Rattle.node_shell.specs.declared.node.StartFault.TheVariants.{UnknownClass, BadArgs, Full, Memory}
-use Rattle.node_shell.specs.declared.replies.Refusal.{Refusal}
-use Rattle.node_shell.specs.declared.replies.Refusal.TheVariants as refusal
+use Rattle.flow_machine.specs.declared.flow_set.WordFault.TheVariants as word
+use Rattle.net_base.specs.declared.names.Identity.{Identity}
+use Rattle.flow_machine.specs.Machine.{Machine}
+use Rattle.net_model.specs.Environment.{Environment, environment}
+use Rattle.net_model.specs.Print.{printed, of_flows, of_flow, of_history}
+use Rattle.node_core.specs.Journals.{Reads, causes_of, state_of}
+use Rattle.node_core.specs.Seen.{NodeSeen}
+use Rattle.network_core.specs.declared.steps.Outcome.{Outcome}
+use Rattle.network_core.specs.declared.steps.Outcome.TheVariants as outcome
+use Rattle.network_core.specs.declared.steps.Step.{Step}
+use Rattle.network_core.specs.declared.steps.Step.TheVariants as step
+use Rattle.network_core.specs.Worlds.{World, NodeWorld, NetSeen, Shows, Coherent}
+use Rattle.network_core.specs.Served.{Serve}
+use Rattle.shell_words.specs.declared.commands.Command.{Command}
+use Rattle.shell_words.specs.declared.commands.Command.TheVariants as command
+use Rattle.shell_words.specs.Script.{has_no_answer, is_readable, words_of, command_of, asked_by, has_mark}
 use Rattle.node_shell.specs.declared.replies.Reply.{Reply}
-use Rattle.node_shell.specs.declared.replies.Reply.TheVariants.{Silence, Refused, Started, Drained, Printed}
-use Rattle.node_shell.specs.declared.commands.Command.{Command}
-use Rattle.node_shell.specs.declared.commands.Command.TheVariants as command
-use Rattle.node_shell.specs.Worlds.{World, with_cause}
-use Rattle.node_shell.specs.Turns.{start_of, Turns, Drains}
-use Rattle.node_shell.specs.Script.{has_no_answer, is_readable, words_of, command_of, asked_by}
+use Rattle.node_shell.specs.declared.replies.Reply.TheVariants.{Silence, Quit, Told, Printed}
 
--- the number of a refusal
-abbrev pub code_of : Refusal → ℕ
-code_of refusal.Syntax = 1
-code_of refusal.Full = 9
+-- ---- the text of a reply
 
 -- the name of a refusal
-abbrev pub name_of : Refusal → List ℕ
-name_of refusal.Syntax = codes "Syntax"
-name_of refusal.Full = codes "Full"
+abbrev pub name_of : ℕ → List ℕ
+name_of code =
+    if code == 1 then codes "Syntax"
+    else if code == 2 then codes "UnknownNode"
+    else if code == 3 then codes "NodeDown"
+    else if code == 4 then codes "NodeUp"
+    else if code == 5 then codes "UnknownClass"
+    else if code == 6 then codes "BadArgs"
+    else if code == 8 then codes "NoFuse"
+    else if code == 9 then codes "Full"
+    else if code == 10 then codes "Backwards"
+    else if code == 11 then codes "NoFlow"
+    else codes "Journal"
 
--- what a reply prints: one line with its end, but for silence and for printed lines
+-- what an outcome prints: one line, with its end
+abbrev pub outcome_text : Outcome → List ℕ
+outcome_text outcome.Fine = codes "ok\n"
+outcome_text (outcome.Started flow) = codes "flow " ++ decimal flow ++ 10 ∷ []
+outcome_text (outcome.Moved flow) = codes "moved " ++ decimal flow ++ 10 ∷ []
+outcome_text outcome.Idle = codes "idle\n"
+outcome_text outcome.Armed = codes "armed\n"
+outcome_text outcome.Down = codes "down\n"
+outcome_text outcome.Booted = codes "booted\n"
+outcome_text outcome.Fault = codes "fault\n"
+outcome_text (outcome.Drained true) = codes "drained full\n"
+outcome_text (outcome.Drained false) = codes "drained\n"
+outcome_text (outcome.Refused code) = codes "! " ++ decimal code ++ codes " " ++ name_of code ++ 10 ∷ []
+
+-- what a reply prints: nothing, the line of an outcome, or printed lines
 abbrev pub reply_text : Reply → List ℕ
 reply_text Silence = []
-reply_text (Refused why) = codes "! " ++ decimal (code_of why) ++ codes " " ++ name_of why ++ 10 ∷ []
-reply_text (Started flow) = codes "flow " ++ decimal flow ++ 10 ∷ []
-reply_text (Drained true) = codes "drained full\n"
-reply_text (Drained false) = codes "drained\n"
+reply_text Quit = []
+reply_text (Told o) = outcome_text o
 reply_text (Printed text) = string_bytes text
 
--- ---- commands
+-- whether a reply ends the script
+abbrev pub is_end : Reply → Bool
+is_end Quit = true
+is_end Silence = false
+is_end (Told o) = false
+is_end (Printed text) = false
 
--- the answer to a start and the world after it are those meant, or memory ran out, which changes nothing
-abbrev pub StartsIn : World → Result ℕ StartFault → World → Result (ℕ × Cause) StartFault → Type 0
-StartsIn before (Ok f) after meant = (cause : Cause) × (meant ≡ Ok (f, cause)) × (after ≡ with_cause before 0 cause)
-StartsIn before (Err Memory) after meant = after ≡ before
-StartsIn before (Err UnknownClass) after meant = (meant ≡ Err UnknownClass) × (after ≡ before)
-StartsIn before (Err BadArgs) after meant = (meant ≡ Err BadArgs) × (after ≡ before)
-StartsIn before (Err Full) after meant = (meant ≡ Err Full) × (after ≡ before)
+-- ---- what words ask for
 
--- a refused command changes nothing
-abbrev pub IsRefused : World → Refusal → Reply → World → Type 0
-IsRefused before why reply after = (reply ≡ Refused why) × (after ≡ before)
+-- a number of a node, where it is too great the greatest that names a node's place: no network has so many
+abbrev pub place_of : ℕ → ℕ
+place_of n = min n 255
 
--- the reply to a start and the world after it, by what the start answers; where the flow set refuses it that is bad syntax too
-abbrev pub RepliesStart : World → Result (ℕ × Cause) StartFault → Reply → World → Type 0
-RepliesStart before (Ok (f, cause)) reply after = (reply ≡ Started f) × (after ≡ with_cause before 0 cause)
-RepliesStart before (Err UnknownClass) reply after = IsRefused before refusal.Syntax reply after
-RepliesStart before (Err BadArgs) reply after = IsRefused before refusal.Syntax reply after
-RepliesStart before (Err Full) reply after = IsRefused before refusal.Full reply after
-RepliesStart before (Err Memory) reply after = ⊥
+-- a number of a flow, where it is too great the greatest that names a flow: no journal holds so many
+abbrev pub flow_of : ℕ → ℕ
+flow_of n = min n (2 ^ 32 - 1)
 
--- the same, by what the flow set makes of the words
-abbrev pub StartsWords : {F : Type 0} → Environment F → World → Result (ℕ × List ℕ) WordFault → Reply → World → Type 0
-StartsWords w before (Ok (class, args)) reply after = RepliesStart before (start_of w before 0 class args) reply after
-StartsWords w before (Err fault) reply after = IsRefused before refusal.Syntax reply after
+-- a class and arguments, where no argument names a recorded transaction: none is recorded yet
+abbrev pub unmarked : Bool → Result (ℕ × List ℕ) WordFault → Result (ℕ × List ℕ) WordFault
+unmarked false words = words
+unmarked true (Ok words) = Err word.BadArgs
+unmarked true (Err fault) = Err fault
+
+-- the class and the arguments that the words of a start ask for
+abbrev pub started_by : {F : Type 0} → Environment F → List (List ℕ) → Result (ℕ × List ℕ) WordFault
+started_by e words = unmarked (has_mark (drop 3 words)) (e.machine.worded (slice_index_or words 2 []) (drop 3 words))
+
+-- the start of a flow, where words name one
+abbrev pub start_step : ℕ → Result (ℕ × List ℕ) WordFault → Option Step
+start_step node (Ok words) = Some (step.Start node words.0 words.1)
+start_step node (Err fault) = None
+
+-- the step that a command makes, if it makes one
+abbrev pub step_of : {F : Type 0} → Environment F → Command → List (List ℕ) → Option Step
+step_of e (command.Clock to) words = Some (step.Clock (record { 0 = to }))
+step_of e (command.Start node) words = start_step (place_of node) (started_by e words)
+step_of e (command.Turn node pick) words = Some (step.Turn (place_of node) (option_map flow_of pick))
+step_of e (command.Cut node calls kind) words = Some (step.Cut (place_of node) calls kind)
+step_of e (command.Boot node) words = Some (step.Boot (place_of node))
+step_of e command.Drain words = Some step.Drain
+step_of e (command.Flows node) words = None
+step_of e (command.Flow node flow) words = None
+step_of e command.History words = None
+step_of e command.Quit words = None
+step_of e command.Unknown words = None
+
+-- ---- answers that change nothing
+
+-- the reply is a refusal
+abbrev pub IsRefused : ℕ → Reply → Type 0
+IsRefused code reply = reply ≡ Told (outcome.Refused code)
+
+-- a command at a node: refused where there is no such node, or it is down
+abbrev pub AtNode : World → ℕ → Reply → (NodeWorld → Type 0) → Type 0
+AtNode w p reply asks =
+    ((slice_get w.nodes p ≡ None) × IsRefused 2 reply)
+    ⊎ ((x : NodeWorld) × (slice_get w.nodes p ≡ Some x) × (((x.up ≡ false) × IsRefused 3 reply) ⊎ ((x.up ≡ true) × asks x)))
+
+-- the causes of the journals of all nodes
+abbrev pub causes_in : {F : Type 0} → Environment F → World → List (List Cause)
+causes_in e w = map (λ x. causes_of e.frame_at x.journal) w.nodes
+
+-- the refusal of words that start no flow
+abbrev pub word_code : WordFault → ℕ
+word_code word.UnknownClass = 5
+word_code word.BadArgs = 6
+word_code word.Memory = 6
+
+-- the words of a start name no flow
+abbrev pub RefusesWords : World → ℕ → Result (ℕ × List ℕ) WordFault → Reply → Type 0
+RefusesWords w p (Ok words) reply = ⊥
+RefusesWords w p (Err fault) reply = AtNode w p reply (λ x. IsRefused (word_code fault) reply)
+
+-- the lines of a flow, or that there is none
+abbrev pub AsksFlow : {F : Type 0} → Environment F → World → ℕ → ℕ → Reply → NodeWorld → Type 0
+AsksFlow e w p f reply x =
+    ((slice_get (state_of e.frame_at x.journal).flows f ≡ None) × IsRefused 11 reply)
+    ⊎ (reply_text reply ≡ printed e (causes_in e w) (of_flow p f))
+
+-- the merged causes of all nodes, or that one is down
+abbrev pub AsksHistory : {F : Type 0} → Environment F → World → Reply → Type 0
+AsksHistory e w reply =
+    (((p : ℕ) × (x : NodeWorld) × (slice_get w.nodes p ≡ Some x) × (x.up ≡ false)) × IsRefused 3 reply)
+    ⊎ (((p : ℕ) (x : NodeWorld) → slice_get w.nodes p ≡ Some x → x.up ≡ true) × (reply_text reply ≡ printed e (causes_in e w) of_history))
+
+-- the reply to a command that makes no step
+abbrev pub Answers : {F : Type 0} → Environment F → World → Command → List (List ℕ) → Reply → Type 0
+Answers e w (command.Start node) words reply = RefusesWords w (place_of node) (started_by e words) reply
+Answers e w (command.Flows node) words reply = AtNode w (place_of node) reply (λ x. reply_text reply ≡ printed e (causes_in e w) (of_flows (place_of node)))
+Answers e w (command.Flow node flow) words reply = AtNode w (place_of node) reply (AsksFlow e w (place_of node) (flow_of flow) reply)
+Answers e w command.History words reply = AsksHistory e w reply
+Answers e w command.Quit words reply = reply ≡ Quit
+Answers e w command.Unknown words reply = IsRefused 1 reply
+Answers e w (command.Clock to) words reply = ⊥
+Answers e w (command.Turn node pick) words reply = ⊥
+Answers e w (command.Cut node calls kind) words reply = ⊥
+Answers e w (command.Boot node) words reply = ⊥
+Answers e w command.Drain words reply = ⊥
+
+-- ---- lines
+
+-- a command's step is made and its outcome told, or it makes none and changes nothing
+abbrev pub Makes : {F : Type 0} → Environment F → World → Option Step → Command → List (List ℕ) → Reply → World → Type 0
+Makes e w (Some step) asked words reply v = (o : Outcome) × Serve e step w (Some o) v × (reply ≡ Told o)
+Makes e w None asked words reply v = Answers e w asked words reply × (v ≡ w)
 
 -- the reply to a command with its words, and the world after it
 abbrev pub Serves : {F : Type 0} → Environment F → World → Command → List (List ℕ) → Reply → World → Type 0
-Serves w before command.Start words reply after = StartsWords w before (w.machine.worded (slice_index_or words 2 []) (drop 3 words)) reply after
-Serves w before command.Drain words reply after = (full : Bool) × Drains w before after full × (reply ≡ Drained full)
-Serves w before command.Flows words reply after = (reply_text reply ≡ printed w before.journals (of_flows 0)) × (after ≡ before)
-Serves w before command.Unknown words reply after = IsRefused before refusal.Syntax reply after
+Serves e w asked words reply v = Makes e w (step_of e asked words) asked words reply v
 
 -- the reply to a line, and the world after it
 abbrev pub RepliesTo : {F : Type 0} → Environment F → World → List ℕ → Reply → World → Type 0
-RepliesTo w before line reply after =
-    MatchBool (has_no_answer line) ((reply ≡ Silence) × (after ≡ before))
-    (MatchBool (is_readable line) (Serves w before (command_of (words_of line)) (words_of line) reply after) (IsRefused before refusal.Syntax reply after))
+RepliesTo e w line reply v =
+    MatchBool (has_no_answer line) ((reply ≡ Silence) × (v ≡ w))
+    (MatchBool (is_readable line) (Serves e w (command_of (words_of line)) (words_of line) reply v) (IsRefused 1 reply × (v ≡ w)))
 
 -- one link of a story: a line, its answer, and the world after it
-pub record Link {F : Type 0} (w : Environment F) (before : World) (line text : List ℕ) (after : World) : Type 0 where
+pub record Link {F : Type 0} (e : Environment F) (w : World) (line text : List ℕ) (v : World) : Type 0 where
   pub reply : Reply
-  pub replies : RepliesTo w before line reply after
+  pub replies : RepliesTo e w line reply v
   pub spelt : text ≡ reply_text reply
 
 -- ---- want of memory
 
--- what want of memory leaves of a command: a drain keeps the turns that it made, and any other changes nothing
-abbrev pub LeavesOf : {F : Type 0} → Environment F → World → Command → World → Type 0
-LeavesOf w before command.Drain after = Turns w before after
-LeavesOf w before command.Start after = after ≡ before
-LeavesOf w before command.Flows after = after ≡ before
-LeavesOf w before command.Unknown after = after ≡ before
+-- what want of memory leaves of a step, if one was made
+abbrev pub Leaves : {F : Type 0} → Environment F → Option Step → World → World → Type 0
+Leaves e None w v = v ≡ w
+Leaves e (Some step) w v = (v ≡ w) ⊎ Serve e step w None v
 
 -- a line was left without an answer for want of memory: it was left off, or it was served and its answer could not be spelt
 abbrev pub RunsShort : {F : Type 0} → Environment F → World → List ℕ → World → Type 0
-RunsShort w before line after = LeavesOf w before (asked_by line) after ⊎ ((text : List ℕ) × Link w before line text after)
+RunsShort e w line v = Leaves e (step_of e (asked_by line) (words_of line)) w v ⊎ ((text : List ℕ) × Link e w line text v)
+
+-- what a command came to: its reply, or want of memory
+abbrev pub Comes : {F E : Type 0} → Environment F → World → Command → List (List ℕ) → Result Reply E → World → Type 0
+Comes e w asked words (Ok reply) v = Serves e w asked words reply v
+Comes e w asked words (Err fault) v = Leaves e (step_of e asked words) w v
+
+-- what a line came to: its reply, or want of memory
+abbrev pub LineComes : {F E : Type 0} → Environment F → World → List ℕ → Result Reply E → World → Type 0
+LineComes e w line (Ok reply) v = RepliesTo e w line reply v
+LineComes e w line (Err fault) v = Leaves e (step_of e (asked_by line) (words_of line)) w v
+
+-- what a step came to: its outcome, told, or want of memory
+abbrev pub StepComes : {F E : Type 0} → Environment F → World → Step → Result Reply E → World → Type 0
+StepComes e w step (Ok reply) v = (o : Outcome) × Serve e step w (Some o) v × (reply ≡ Told o)
+StepComes e w step (Err fault) v = Serve e step w None v
+
+-- in each coherent world that the network shows
+abbrev pub InWorld : {F : Type 0} → Machine F → Reads F → NetSeen → (Environment F → World → Type 0) → Type 0
+InWorld m frame_at net goal = (id : Identity) (w : World) → Shows (environment m frame_at id) net w → Coherent (environment m frame_at id) w → goal (environment m frame_at id) w
+
+-- the causes of the journals of all nodes, where each is up
+abbrev pub causes_up : {F : Type 0} → Reads F → List NodeSeen → Option (List (List Cause))
+causes_up frame_at [] = Some []
+causes_up frame_at (n ∷ ns) = option_and_then (λ bodies. option_map (λ lists. causes_of frame_at bodies ∷ lists) (causes_up frame_at ns)) n.journal
+
+-- whether a command ends the script
+abbrev pub is_quit_command : Command → Bool
+is_quit_command command.Quit = true
+is_quit_command (command.Clock to) = false
+is_quit_command (command.Start node) = false
+is_quit_command (command.Turn node pick) = false
+is_quit_command (command.Cut node calls kind) = false
+is_quit_command (command.Boot node) = false
+is_quit_command command.Drain = false
+is_quit_command (command.Flows node) = false
+is_quit_command (command.Flow node flow) = false
+is_quit_command command.History = false
+is_quit_command command.Unknown = false

@@ -1,31 +1,36 @@
--- The story of a script: a chain of worlds, one link a line; and how a run ends.
-use Rattle.std.specs.Prelude.{◌≡◌, ℕ, ◌<◌, List, [], ◌∷◌, ◌++◌, length, Option, take, ◌⊎◌}
+-- The story of a script: a chain of worlds, one link a line; and how a script ends.
+use Rattle.std.specs.Prelude.{◌≡◌, ℕ, ◌<◌, List, [], ◌∷◌, ◌++◌, length, Option, take, ◌⊎◌, false, true, Result, Ok, Err, ⊤}
+use Rattle.std.specs.List.{AllByRecursion}
 use Rattle.std.specs.Io.KnownBytes.{Consumes, Appends, IsAtEnd}
 use Rattle.net_model.specs.Environment.{Environment}
+use Rattle.network_core.specs.Worlds.{World, NetSeen, Shows, Coherent}
+use Rattle.shell_words.specs.Script.{AreLines, whole_lines, last_line, is_quit}
 use Rattle.node_shell.specs.declared.statuses.Status.{Status}
 use Rattle.node_shell.specs.declared.statuses.Status.TheVariants as status
 use Rattle.node_shell.specs.declared.session.Stop.{Stop}
 use Rattle.node_shell.specs.declared.session.Stop.TheVariants as stop
-use Rattle.node_shell.specs.Worlds.{World, opening}
-use Rattle.node_shell.specs.Script.{AreLines, whole_lines, last_line}
 use Rattle.node_shell.specs.Serve.{Link, RunsShort}
 
 -- ---- stories
 
--- from the opening world these lines lead, link by link and with these answers, to this world
-pub data Story {F : Type 0} (w : Environment F) : List (List ℕ) → List ℕ → World → Type 0 where
-  begins : Story w [] [] opening
-  goes_on : {lines more : List (List ℕ)} {out longer : List ℕ} {before after : World} (line text : List ℕ) → Story w lines out before → Link w before line text after
-      → more ≡ lines ++ line ∷ [] → longer ≡ out ++ text → Story w more longer after
+-- no line asks to quit
+abbrev pub NoneQuits : List (List ℕ) → Type 0
+NoneQuits lines = AllByRecursion (λ line. is_quit line ≡ false) lines
+
+-- from the opening world these lines lead, link by link and with these answers, to this world; no line follows on a quit
+pub data Story {F : Type 0} (e : Environment F) (start : World) : List (List ℕ) → List ℕ → World → Type 0 where
+  begins : Story e start [] [] start
+  goes_on : {lines more : List (List ℕ)} {out longer : List ℕ} {before after : World} (line text : List ℕ) → Story e start lines out before → NoneQuits lines → Link e before line text after
+      → more ≡ lines ++ line ∷ [] → longer ≡ out ++ text → Story e start more longer after
 
 -- the lines have a story whose answers were written whole
-pub record Answered {F : Type 0} (w : Environment F) (written0 written1 : Option (List ℕ)) (lines : List (List ℕ)) (world : World) : Type 0 where
+pub record Answered {F : Type 0} (e : Environment F) (start : World) (written0 written1 : Option (List ℕ)) (lines : List (List ℕ)) (world : World) : Type 0 where
   pub out : List ℕ
-  pub story : Story w lines out world
+  pub story : Story e start lines out world
   pub appended : Appends written0 written1 out
 
 -- of the lines all but the last have a story; of its answer a proper front was written
-pub record CutOff {F : Type 0} (w : Environment F) (written0 written1 : Option (List ℕ)) (lines : List (List ℕ)) (world : World) : Type 0 where
+pub record CutOff {F : Type 0} (e : Environment F) (start : World) (written0 written1 : Option (List ℕ)) (lines : List (List ℕ)) (world : World) : Type 0 where
   pub before : World
   pub earlier : List (List ℕ)
   pub line : List ℕ
@@ -33,78 +38,110 @@ pub record CutOff {F : Type 0} (w : Environment F) (written0 written1 : Option (
   pub front : List ℕ
   pub missing : List ℕ
   pub all : lines ≡ earlier ++ line ∷ []
-  pub story : Story w earlier out before
-  pub link : Link w before line (front ++ missing) world
+  pub story : Story e start earlier out before
+  pub open_end : NoneQuits earlier
+  pub link : Link e before line (front ++ missing) world
   pub proper : 0 < length missing
   pub appended : Appends written0 written1 (out ++ front)
 
 -- of the lines all but the last have a story, and their answers were written; the last has none, for want of memory
-pub record LeftOff {F : Type 0} (w : Environment F) (written0 written1 : Option (List ℕ)) (lines : List (List ℕ)) (world : World) : Type 0 where
+pub record LeftOff {F : Type 0} (e : Environment F) (start : World) (written0 written1 : Option (List ℕ)) (lines : List (List ℕ)) (world : World) : Type 0 where
   pub before : World
   pub earlier : List (List ℕ)
   pub line : List ℕ
   pub out : List ℕ
   pub all : lines ≡ earlier ++ line ∷ []
-  pub story : Story w earlier out before
-  pub short : RunsShort w before line world
+  pub story : Story e start earlier out before
+  pub open_end : NoneQuits earlier
+  pub short : RunsShort e before line world
   pub appended : Appends written0 written1 out
 
--- ---- runs
+-- the network shows some coherent world of which this holds
+pub record InSome {F : Type 0} (e : Environment F) (net : NetSeen) (P : World → Type 0) : Type 0 where
+  pub world : World
+  pub shows : Shows e net world
+  pub coherent : Coherent e world
+  pub holds : P world
 
--- the lines that a run has to answer once no more of the input comes: the whole ones, and a last one without LF
+-- ---- scripts
+
+-- the lines that a script has to have answered once no more of the input comes: the whole ones, and a last one without LF
 abbrev pub all_lines : List (List ℕ) → List ℕ → List (List ℕ)
 all_lines lines rest = whole_lines lines ++ last_line rest
 
--- how far a run has come: the bytes that it read are whole lines, which were answered, and a rest
-pub record Progress {F : Type 0} (w : Environment F) (left0 left1 written0 written1 : Option (List ℕ)) (count : ℕ) (world : World) (rest : List ℕ) : Type 0 where
+-- how far a script has come: the bytes that were read are whole lines, none of which quits and which were answered, and a rest
+pub record Progress {F : Type 0} (e : Environment F) (start : World) (left0 left1 written0 written1 : Option (List ℕ)) (count : ℕ) (world : World) (rest : List ℕ) : Type 0 where
   pub read : List ℕ
   pub lines : List (List ℕ)
   pub consumed : Consumes left0 left1 read
   pub counted : length read ≡ count
   pub split : AreLines read lines rest
-  pub answered : Answered w written0 written1 (whole_lines lines) world
+  pub open_end : NoneQuits (whole_lines lines)
+  pub answered : Answered e start written0 written1 (whole_lines lines) world
 
--- what is so at the end of a run, by its status, where the bytes of the script that were read are these whole lines and this rest;
--- a rest is a line of its own only where the input has ended, and want of memory may come while one is read
-abbrev pub EndsWith : {F : Type 0} → Environment F → Option (List ℕ) → Option (List ℕ) → Option (List ℕ) → ℕ → List (List ℕ) → List ℕ → World → Status → Type 0
-EndsWith w left written0 written1 count lines rest world status.Finished = IsAtEnd left × Answered w written0 written1 (all_lines lines rest) world
-EndsWith w left written0 written1 count lines rest world status.BadWords = ⊥
-EndsWith w left written0 written1 count lines rest world status.TooLong = (count ≡ 16777217) × Answered w written0 written1 (whole_lines lines) world
-EndsWith w left written0 written1 count lines rest world status.ReadFault = Answered w written0 written1 (whole_lines lines) world
-EndsWith w left written0 written1 count lines rest world status.WriteFault = CutOff w written0 written1 (all_lines lines rest) world × (0 < length rest → IsAtEnd left)
-EndsWith w left written0 written1 count lines rest world status.NoMemory = (LeftOff w written0 written1 (all_lines lines rest) world × (0 < length rest → IsAtEnd left)) ⊎ ((0 < length rest) × Answered w written0 written1 (whole_lines lines) world)
+-- the last of the whole lines asked to quit, and behind it nothing was read
+pub record Quits (lines : List (List ℕ)) (rest : List ℕ) : Type 0 where
+  pub earlier : List (List ℕ)
+  pub line : List ℕ
+  pub all : lines ≡ earlier ++ line ∷ []
+  pub asks : is_quit line ≡ true
+  pub none : rest ≡ []
 
--- a whole run: what was read, and how it ended
-pub record ScriptRun {F : Type 0} (w : Environment F) (left0 left1 written0 written1 : Option (List ℕ)) (count : ℕ) (world : World) (status : Status) : Type 0 where
+-- what is so at the end of a script, by its status, where the bytes that were read are these whole lines and this rest; a rest is a line of
+-- its own only where the input has ended, and want of memory may come while one is read
+abbrev pub EndsWith : {F : Type 0} → Environment F → World → Option (List ℕ) → Option (List ℕ) → Option (List ℕ) → ℕ → List (List ℕ) → List ℕ → World → Status → Type 0
+EndsWith e start left written0 written1 count lines rest world status.Finished = (IsAtEnd left ⊎ Quits (whole_lines lines) rest) × Answered e start written0 written1 (all_lines lines rest) world
+EndsWith e start left written0 written1 count lines rest world status.BadWords = ⊥
+EndsWith e start left written0 written1 count lines rest world status.TooLong = (count ≡ 16777217) × Answered e start written0 written1 (whole_lines lines) world
+EndsWith e start left written0 written1 count lines rest world status.ReadFault = Answered e start written0 written1 (whole_lines lines) world
+EndsWith e start left written0 written1 count lines rest world status.WriteFault = CutOff e start written0 written1 (all_lines lines rest) world × (0 < length rest → IsAtEnd left)
+EndsWith e start left written0 written1 count lines rest world status.DiskFault = ⊥
+EndsWith e start left written0 written1 count lines rest world status.NoMemory = (LeftOff e start written0 written1 (all_lines lines rest) world × (0 < length rest → IsAtEnd left)) ⊎ ((0 < length rest) × Answered e start written0 written1 (whole_lines lines) world)
+EndsWith e start left written0 written1 count lines rest world status.BadJournal = ⊥
+
+-- a whole script: what was read, and how it ended
+pub record ScriptRun {F : Type 0} (e : Environment F) (start : World) (left0 left1 written0 written1 : Option (List ℕ)) (count : ℕ) (world : World) (status : Status) : Type 0 where
   pub read : List ℕ
   pub lines : List (List ℕ)
   pub rest : List ℕ
   pub consumed : Consumes left0 left1 read
   pub counted : length read ≡ count
   pub split : AreLines (take 16777216 read) lines rest
-  pub ends : EndsWith w left1 written0 written1 count lines rest world status
-
--- the number of a status
-abbrev pub number_of_status : Status → ℕ
-number_of_status status.Finished = 0
-number_of_status status.BadWords = 2
-number_of_status status.TooLong = 3
-number_of_status status.ReadFault = 4
-number_of_status status.WriteFault = 5
-number_of_status status.NoMemory = 7
-
--- a whole run that ended with the status of that number
-pub record RanWith {F : Type 0} (w : Environment F) (left0 left1 written0 written1 : Option (List ℕ)) (count : ℕ) (world : World) (number : ℕ) : Type 0 where
-  pub status : Status
-  pub is : number ≡ number_of_status status
-  pub run : ScriptRun w left0 left1 written0 written1 count world status
+  pub ends : EndsWith e start left1 written0 written1 count lines rest world status
 
 -- why a line wasn't answered: a proper front of its answer was written, or memory ran out
 abbrev pub StopsAs : {F : Type 0} → Environment F → World → List ℕ → World → Option (List ℕ) → Option (List ℕ) → Stop → Type 0
-StopsAs w before line after written0 written1 stop.Write = (front missing : List ℕ) × Link w before line (front ++ missing) after × (0 < length missing) × Appends written0 written1 front
-StopsAs w before line after written0 written1 stop.Memory = RunsShort w before line after × (written1 ≡ written0)
+StopsAs e w line v written0 written1 stop.Write = (front missing : List ℕ) × Link e w line (front ++ missing) v × (0 < length missing) × Appends written0 written1 front
+StopsAs e w line v written0 written1 stop.Memory = RunsShort e w line v × (written1 ≡ written0)
 
--- the status of a run that stopped at a line
+-- the status of a script that stopped at a line
 abbrev pub status_of : Stop → Status
 status_of stop.Write = status.WriteFault
 status_of stop.Memory = status.NoMemory
+
+-- what an answer came to: its text was written, or it was not, and why
+abbrev pub AnswerComes : {F T : Type 0} → Environment F → World → List ℕ → Option (List ℕ) → Option (List ℕ) → Result T Stop → World → Type 0
+AnswerComes e w line written0 written1 (Ok _) v = (text : List ℕ) × Link e w line text v × Appends written0 written1 text
+AnswerComes e w line written0 written1 (Err why) v = StopsAs e w line v written0 written1 why
+
+-- the statuses with which a line may end a script
+abbrev pub IsLastStatus : Status → Type 0
+IsLastStatus status.Finished = ⊤
+IsLastStatus status.WriteFault = ⊤
+IsLastStatus status.NoMemory = ⊤
+IsLastStatus status.BadWords = ⊥
+IsLastStatus status.TooLong = ⊥
+IsLastStatus status.ReadFault = ⊥
+IsLastStatus status.DiskFault = ⊥
+IsLastStatus status.BadJournal = ⊥
+
+-- the statuses with which a script may end
+abbrev pub IsScriptStatus : Status → Type 0
+IsScriptStatus status.BadWords = ⊥
+IsScriptStatus status.DiskFault = ⊥
+IsScriptStatus status.BadJournal = ⊥
+IsScriptStatus status.Finished = ⊤
+IsScriptStatus status.TooLong = ⊤
+IsScriptStatus status.ReadFault = ⊤
+IsScriptStatus status.WriteFault = ⊤
+IsScriptStatus status.NoMemory = ⊤

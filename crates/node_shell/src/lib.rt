@@ -1,16 +1,12 @@
-//! The node, the network of one node, and the shell that runs a script over it.
+//! The shell that runs a script over a network of one node.
 //!
-//! The definitions that the contracts cite stand in `specs/`, in this order: `Worlds`, `Turns`, `Script`, `Serve`, `Story`;
-//! those of the network machine stand in `net_model`.
+//! The definitions that the contracts cite stand in `specs/`, in this order: `Serve`, `Story`, `Runs`; those of lines and words stand in
+//! `shell_words`, those of worlds and steps in `network_core`.
 #![tactic(auto)]
 
-mod commands;
-mod lines;
-mod net;
-mod node;
-mod ready;
+mod openings;
 mod replies;
-mod report;
+mod serving;
 mod session;
 mod statuses;
 mod streams;

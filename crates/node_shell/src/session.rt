@@ -1,19 +1,19 @@
-ghost use Rattle.std.specs.Prelude.{◌≡◌, ◌≢◌, ◌<◌, ◌≤◌, ◌+◌, ◌++◌, ◌↔◌, ℕ, List, length, OnOk, IfErr, IsErrOf, Option};
-ghost use Rattle.std.specs.Io.KnownBytes.{Appends};
+ghost use Rattle.std.specs.Prelude.{◌≡◌, ◌≢◌, ◌<◌, ◌≤◌, ◌+◌, ◌++◌, ◌↔◌, [], ◌∷◌, ℕ, List, length, OnOk, IfOk, IfErr, IsErrOf, Option, MatchResult};
 ghost use Rattle.outside.specs.Faults.{Rose};
-ghost use Rattle.net_model.specs.Environment.{one_node};
-ghost use Rattle.node_shell.specs.Worlds.{opening};
-ghost use Rattle.node_shell.specs.Script.{last_line};
-ghost use Rattle.node_shell.specs.Serve.{Link};
-ghost use Rattle.node_shell.specs.Story.{Answered, Progress, ScriptRun, StopsAs, status_of};
+ghost use Rattle.network_core.specs.Worlds.{World, KeepsWorld, Shows, Coherent};
+ghost use Rattle.net_base.specs.declared.names.Identity.{Identity};
+ghost use Rattle.net_model.specs.Environment.{environment};
+ghost use Rattle.shell_words.specs.Script.{is_quit};
+ghost use Rattle.std.specs.Io.KnownBytes.{Consumes, IsAtEnd};
+ghost use Rattle.node_shell.specs.Story.{InSome, Progress, ScriptRun, AnswerComes, IsLastStatus, IsScriptStatus, status_of};
 
-use super::lines::without_cr;
-use super::net::Net;
-use super::replies::reply_to;
+use super::serving::reply_to;
 use super::statuses::Status;
 use super::streams::{next_byte, write_all};
 use flow_machine::FlowSet;
-use outside::{Failed, Sink, Source};
+use network_core::Net;
+use outside::{Bay, Failed, Sink, Source};
+use shell_words::without_cr;
 use std::alloc::Global;
 
 /// The most bytes of a script.
@@ -26,22 +26,23 @@ pub enum Stop {
     Memory,
 }
 
-/// How a run ended, and how many bytes the source gave.
+/// How a script ended, and how many bytes the source gave.
 #[derive(Clone, Copy, Debug, PartialEq, Eq)]
 pub struct End {
     pub status: Status,
     pub bytes_read: u64,
 }
 
-// Answers a line.
-fn answer<F: FlowSet, K: Sink>(
+/// Answers a line, and says whether it asked to quit.
+fn answer<B: Bay, F: FlowSet, K: Sink>(
     alloc: Global,
-    net: &mut Net<F>,
+    net: &mut Net<B, F>,
     sink: &mut K,
     line: &[u8],
-) -> Result<(), Stop>
-    ensures ok { OnOk result ((text : List ℕ) × Link (one_node F.machine) net.old line.now text net.new × Appends (K.written sink.old) (K.written sink.new) text) }
-    ensures err { IfErr result (λ stop. StopsAs (one_node F.machine) net.old line.now net.new (K.written sink.old) (K.written sink.new) stop) }
+) -> Result<bool, Stop>
+    ensures comes { KeepsWorld F.machine F.reading net.old net.new (λ e w v. AnswerComes e w line.now (K.written sink.old) (K.written sink.new) result v) }
+    ensures count { length net.new.nodes ≡ length net.old.nodes }
+    ensures quit { IfOk result (λ quit. quit ≡ is_quit line.now) }
     ensures cause { IsErrOf result Stop.Write → Rose (K.faults sink.old) (K.faults sink.new) }
     ensures later { K.faults sink.old ≤ K.faults sink.new }
 {
@@ -52,27 +53,9 @@ fn answer<F: FlowSet, K: Sink>(
         return Err(Stop::Memory);
     };
     match write_all(sink, text.as_bytes()) {
-        Ok(()) => Ok(()),
+        Ok(()) => Ok(reply.is_end()),
         Err(Failed) => Err(Stop::Write),
     }
-}
-
-// Answers the line that the input ends with, where there is one.
-fn answer_last<F: FlowSet, K: Sink>(
-    alloc: Global,
-    net: &mut Net<F>,
-    sink: &mut K,
-    line: &[u8],
-) -> Result<(), Stop>
-    ensures ok { OnOk result ((written0 : Option (List ℕ)) (lines : List (List ℕ)) → Answered (one_node F.machine) written0 (K.written sink.old) lines net.old → Answered (one_node F.machine) written0 (K.written sink.new) (lines ++ last_line line.now) net.new) }
-    ensures err { IfErr result (λ stop. (0 < length line.now) × StopsAs (one_node F.machine) net.old line.now net.new (K.written sink.old) (K.written sink.new) stop) }
-    ensures cause { IsErrOf result Stop.Write → Rose (K.faults sink.old) (K.faults sink.new) }
-    ensures later { K.faults sink.old ≤ K.faults sink.new }
-{
-    if line.is_empty() {
-        return Ok(());
-    }
-    answer(alloc, net, sink, line)
 }
 
 fn status_of(stop: Stop) -> Status
@@ -84,23 +67,70 @@ fn status_of(stop: Stop) -> Status
     }
 }
 
-// Takes the next byte, and answers the line that it ends; an `Err` ends the run.
-fn take_byte<F: FlowSet, S: Source, K: Sink>(
+/// Answers the line that the input ends with, where there is one.
+fn answer_last<B: Bay, F: FlowSet, K: Sink>(
     alloc: Global,
-    net: &mut Net<F>,
+    net: &mut Net<B, F>,
+    sink: &mut K,
+    line: &[u8],
+) -> Status
+    ensures ended { (id : Identity) (start : World) (left0 left1 written0 : Option (List ℕ)) (count : ℕ) → count ≤ 16777216 → IsAtEnd left1 → InSome (environment F.machine F.reading id) net.old (λ w. Progress (environment F.machine F.reading id) start left0 left1 written0 (K.written sink.old) count w line.now)
+        → InSome (environment F.machine F.reading id) net.new (λ w. ScriptRun (environment F.machine F.reading id) start left0 left1 written0 (K.written sink.new) count w result) }
+    ensures count { length net.new.nodes ≡ length net.old.nodes }
+    ensures kinds { IsLastStatus result }
+    ensures cause { result ≡ Status.WriteFault → Rose (K.faults sink.old) (K.faults sink.new) }
+    ensures later { K.faults sink.old ≤ K.faults sink.new }
+{
+    if line.is_empty() {
+        return Status::Finished;
+    }
+    match answer(alloc, net, sink, line) {
+        Ok(_) => Status::Finished,
+        Err(stop) => status_of(stop),
+    }
+}
+
+/// Answers a line that came to its end with the byte before; an `Err` ends the script.
+fn answer_line<B: Bay, F: FlowSet, K: Sink>(
+    alloc: Global,
+    net: &mut Net<B, F>,
+    sink: &mut K,
+    line: &[u8],
+) -> Result<(), Status>
+    ensures ok { OnOk result ((id : Identity) (start : World) (left0 left1 left2 written0 : Option (List ℕ)) (count : ℕ) → count < 16777216 → Consumes left1 left2 (10 ∷ []) → InSome (environment F.machine F.reading id) net.old (λ w. Progress (environment F.machine F.reading id) start left0 left1 written0 (K.written sink.old) count w line.now)
+        → InSome (environment F.machine F.reading id) net.new (λ w. Progress (environment F.machine F.reading id) start left0 left2 written0 (K.written sink.new) (count + 1) w [])) }
+    ensures err { IfErr result (λ status. (id : Identity) (start : World) (left0 left1 left2 written0 : Option (List ℕ)) (count : ℕ) → count < 16777216 → Consumes left1 left2 (10 ∷ []) → InSome (environment F.machine F.reading id) net.old (λ w. Progress (environment F.machine F.reading id) start left0 left1 written0 (K.written sink.old) count w line.now)
+        → InSome (environment F.machine F.reading id) net.new (λ w. ScriptRun (environment F.machine F.reading id) start left0 left2 written0 (K.written sink.new) (count + 1) w status)) }
+    ensures count { length net.new.nodes ≡ length net.old.nodes }
+    ensures kinds { IfErr result IsLastStatus }
+    ensures cause { IsErrOf result Status.WriteFault → Rose (K.faults sink.old) (K.faults sink.new) }
+    ensures later { K.faults sink.old ≤ K.faults sink.new }
+{
+    match answer(alloc, net, sink, without_cr(line)) {
+        Ok(false) => Ok(()),
+        Ok(true) => Err(Status::Finished),
+        Err(stop) => Err(status_of(stop)),
+    }
+}
+
+/// Takes the next byte, and answers the line that it ends; an `Err` ends the script.
+fn take_byte<B: Bay, F: FlowSet, S: Source, K: Sink>(
+    alloc: Global,
+    net: &mut Net<B, F>,
     line: &mut Vec<u8>,
     source: &mut S,
     sink: &mut K,
     count: u64,
 ) -> Result<(), End>
     requires within { count ≤ 16777216 }
-    ensures ok { OnOk result ((left0 written0 : Option (List ℕ)) → Progress (one_node F.machine) left0 (S.left source.old) written0 (K.written sink.old) count net.old line.old.items
-        → Progress (one_node F.machine) left0 (S.left source.new) written0 (K.written sink.new) (count + 1) net.new line.new.items) }
+    ensures ok { OnOk result ((id : Identity) (start : World) (left0 written0 : Option (List ℕ)) → InSome (environment F.machine F.reading id) net.old (λ w. Progress (environment F.machine F.reading id) start left0 (S.left source.old) written0 (K.written sink.old) count w line.old.items)
+        → InSome (environment F.machine F.reading id) net.new (λ w. Progress (environment F.machine F.reading id) start left0 (S.left source.new) written0 (K.written sink.new) (count + 1) w line.new.items)) }
     ensures within { OnOk result (count < 16777216) }
-    ensures err { IfErr result (λ e. (left0 written0 : Option (List ℕ)) → Progress (one_node F.machine) left0 (S.left source.old) written0 (K.written sink.old) count net.old line.old.items
-        → ScriptRun (one_node F.machine) left0 (S.left source.new) written0 (K.written sink.new) e.bytes_read net.new e.status) }
+    ensures err { IfErr result (λ e. (id : Identity) (start : World) (left0 written0 : Option (List ℕ)) → InSome (environment F.machine F.reading id) net.old (λ w. Progress (environment F.machine F.reading id) start left0 (S.left source.old) written0 (K.written sink.old) count w line.old.items)
+        → InSome (environment F.machine F.reading id) net.new (λ w. ScriptRun (environment F.machine F.reading id) start left0 (S.left source.new) written0 (K.written sink.new) e.bytes_read w e.status)) }
     ensures too_long { IfErr result (λ e. e.status ≡ Status.TooLong ↔ (e.bytes_read ≡ 16777217)) }
-    ensures words { IfErr result (λ e. e.status ≢ Status.BadWords) }
+    ensures count { length net.new.nodes ≡ length net.old.nodes }
+    ensures kinds { IfErr result (λ e. IsScriptStatus e.status) }
     ensures read_fault { IfErr result (λ e. e.status ≡ Status.ReadFault → Rose (S.faults source.old) (S.faults source.new)) }
     ensures write_fault { IfErr result (λ e. e.status ≡ Status.WriteFault → Rose (K.faults sink.old) (K.faults sink.new)) }
     ensures later { (S.faults source.old ≤ S.faults source.new) × (K.faults sink.old ≤ K.faults sink.new) }
@@ -108,10 +138,7 @@ fn take_byte<F: FlowSet, S: Source, K: Sink>(
     let byte = match next_byte(source) {
         Ok(Some(byte)) => byte,
         Ok(None) => {
-            let status = match answer_last(alloc, net, sink, line.as_slice()) {
-                Ok(()) => Status::Finished,
-                Err(stop) => status_of(stop),
-            };
+            let status = answer_last(alloc, net, sink, line.as_slice());
             return Err(End {
                 status,
                 bytes_read: count,
@@ -140,27 +167,25 @@ fn take_byte<F: FlowSet, S: Source, K: Sink>(
         }
         return Ok(());
     }
-    if let Err(stop) = answer(alloc, net, sink, without_cr(line.as_slice())) {
-        return Err(End {
-            status: status_of(stop),
-            bytes_read,
-        });
+    if let Err(status) = answer_line(alloc, net, sink, line.as_slice()) {
+        return Err(End { status, bytes_read });
     }
     line.clear();
     Ok(())
 }
 
-/// Answers the lines of a source, until it ends or something fails.
-pub fn session<F: FlowSet, S: Source, K: Sink>(
+/// Answers the lines of a source, until it ends, a line asks to quit, or something fails.
+pub fn session<B: Bay, F: FlowSet, S: Source, K: Sink>(
     alloc: Global,
-    net: &mut Net<F>,
+    net: &mut Net<B, F>,
     source: &mut S,
     sink: &mut K,
 ) -> End
-    requires { net.old ≡ opening }
-    ensures ran { ScriptRun (one_node F.machine) (S.left source.old) (S.left source.new) (K.written sink.old) (K.written sink.new) result.bytes_read net.new result.status }
+    ensures count { length net.new.nodes ≡ length net.old.nodes }
+    ensures ran { (id : Identity) (start : World) → Shows (environment F.machine F.reading id) net.old start → Coherent (environment F.machine F.reading id) start
+        → InSome (environment F.machine F.reading id) net.new (λ w. ScriptRun (environment F.machine F.reading id) start (S.left source.old) (S.left source.new) (K.written sink.old) (K.written sink.new) result.bytes_read w result.status) }
     ensures too_long { result.status ≡ Status.TooLong ↔ (result.bytes_read ≡ 16777217) }
-    ensures words { result.status ≢ Status.BadWords }
+    ensures kinds { IsScriptStatus result.status }
     ensures read_fault { result.status ≡ Status.ReadFault → Rose (S.faults source.old) (S.faults source.new) }
     ensures write_fault { result.status ≡ Status.WriteFault → Rose (K.faults sink.old) (K.faults sink.new) }
     ensures later { (S.faults source.old ≤ S.faults source.new) × (K.faults sink.old ≤ K.faults sink.new) }

@@ -1,10 +1,10 @@
 ghost use Rattle.std.specs.Prelude.{◌≡◌};
-ghost use Rattle.node_shell.specs.Story.{number_of_status};
+ghost use Rattle.node_shell.specs.Runs.{number_of_status};
 
 /// How a run ended.
 #[derive(Clone, Copy, Debug, PartialEq, Eq)]
 pub enum Status {
-    /// The script was read to its end.
+    /// The script was read to its end, or to `quit`.
     Finished,
     /// The program's words are refused.
     BadWords,
@@ -14,7 +14,11 @@ pub enum Status {
     ReadFault,
     /// A write failed.
     WriteFault,
+    /// A disk failed while it was made ready or a node first opened.
+    DiskFault,
     NoMemory,
+    /// A node's first opening found no sound journal of its own.
+    BadJournal,
 }
 
 impl Status {
@@ -28,7 +32,9 @@ impl Status {
             Status::TooLong => 3,
             Status::ReadFault => 4,
             Status::WriteFault => 5,
+            Status::DiskFault => 6,
             Status::NoMemory => 7,
+            Status::BadJournal => 8,
         }
     }
 }

@@ -1,6 +1,7 @@
 use super::{Ended, run};
+use disk_mem::MemDisk;
 use flow_machine::Counter;
-use outside::{MemSink, MemSource};
+use outside::{Bay, Disk, MemSink, MemSource};
 use std::alloc::{AllocError, Global};
 use std::test::Fail;
 
@@ -12,19 +13,56 @@ fn nodes_words(alloc: Global, count: &str) -> Result<Vec<String>, AllocError> {
     Ok(words)
 }
 
-// Runs a script over one node; the reads and writes with these numbers fail.
-fn run_script(
+// A disk that holds these bytes.
+fn disk_of(alloc: Global, bytes: &[u8]) -> Result<MemDisk, Fail> {
+    let mut disk = MemDisk::new(alloc);
+    disk.make_room(alloc, bytes.len() as u64, 1)?;
+    disk.write_at(0, bytes).or(Err("write"))?;
+    disk.sync().or(Err("sync"))?;
+    Ok(disk)
+}
+
+// The disks of a run: this one, and 31 that are empty.
+fn disks_from(alloc: Global, first: MemDisk) -> Result<Vec<MemDisk>, AllocError> {
+    let mut disks = Vec::new(alloc);
+    disks.push(first)?;
+    for _ in 0..31 {
+        disks.push(MemDisk::new(alloc))?;
+    }
+    Ok(disks)
+}
+
+// The length of the first disk.
+fn first_length(disks: &mut Vec<MemDisk>) -> Option<u64> {
+    disks.first_mut()?.length().ok()
+}
+
+// Runs a script over one node on these disks; the reads and writes with these numbers fail.
+fn run_on(
     alloc: Global,
+    disks: Vec<MemDisk>,
     script: &str,
     failing_reads: Vec<u64>,
     failing_writes: Vec<u64>,
-) -> Result<(Ended, MemSink), AllocError> {
+) -> Result<(Ended<MemDisk>, MemSink), Fail> {
+    if disks.len() != 32 {
+        return Err(Fail::new("disks"));
+    }
     let bytes = script.as_bytes().to_vec(alloc)?;
     let mut source = MemSource::new(bytes, failing_reads);
     let mut sink = MemSink::new(alloc, 1000, failing_writes)?;
     let words = nodes_words(alloc, "1")?;
-    let ended = run::<_, _, Counter>(alloc, words.as_slice(), &mut source, &mut sink);
+    let ended = run::<_, _, _, Counter>(alloc, words.as_slice(), &mut source, &mut sink, disks);
     Ok((ended, sink))
+}
+
+// Runs a script over one node on these disks.
+fn run_script(
+    alloc: Global,
+    disks: Vec<MemDisk>,
+    script: &str,
+) -> Result<(Ended<MemDisk>, MemSink), Fail> {
+    run_on(alloc, disks, script, Vec::new(alloc), Vec::new(alloc))
 }
 
 #[test]
@@ -33,13 +71,29 @@ fn scripts_have_their_answers(rt: HostRuntime) -> Result<(), Fail> {
     let rows = [
         ("", ""),
         (
-            "start 0 count 3\ndrain\nflows 0\n",
-            "flow 0\ndrained\nflow 0 class 1 steps 4 ended number 3\n",
+            "start 0 count 0\nflow 0 0\ndrain\nflows 0\nhistory\n",
+            "flow 0\nflow 0 class 1 steps 0 waits return\ndrained\nflow 0 class 1 steps 1 ended number 0\nh 1 0 0 start 0 1\nh 2 0 0 move 0\n",
         ),
         ("flows 0\r\n\n \t\n# drain\ndrain", "none\ndrained\n"),
         (
-            "start 0 count 1\nstart 0 count 65535\nstart 0 nope\nstart 1 count 1\nflows\nquit\nflows 0\n",
-            "flow 0\n! 1 Syntax\n! 1 Syntax\n! 1 Syntax\n! 1 Syntax\n! 1 Syntax\nflow 0 class 1 steps 0 waits sleep\n",
+            "start 0 count 0\nturn 0\nturn 0\nclock 60000\nstart 0 count 1\nturn 0\nturn 0 0\nflow 0 1\nhistory\n",
+            "flow 0\nmoved 0\nidle\nok\nflow 1\nmoved 1\nidle\nflow 1 class 1 steps 1 waits return\nh 1 0 0 start 0 1\nh 2 0 0 move 0\nh 3 0 60000 start 1 1\nh 4 0 60000 lapse 1\n",
+        ),
+        (
+            "frob\nturn 9\nstart 0 nope\nstart 0 count x\nclock 5\nclock 4\nflow 0 0\nboot 0\ncut 0 0 0\nturn 0\nflows 0\nhistory\nclock 6\n",
+            "! 1 Syntax\n! 2 UnknownNode\n! 5 UnknownClass\n! 6 BadArgs\nok\n! 10 Backwards\n! 11 NoFlow\n! 4 NodeUp\ndown\n! 3 NodeDown\n! 3 NodeDown\n! 3 NodeDown\nok\n",
+        ),
+        (
+            "turn 99 x\nstart 9 nope\nstart 0 nope #9\nstart 0 count\nstart 0 count 65535\nstart 0\ncut 0 1 4\nclock 05\nturn 256\nturn 0 4294967296\nflow 0 4294967296\nvault 0\n\u{7f}\nhistory\n",
+            "! 1 Syntax\n! 2 UnknownNode\n! 5 UnknownClass\n! 6 BadArgs\n! 6 BadArgs\n! 1 Syntax\n! 1 Syntax\n! 1 Syntax\n! 2 UnknownNode\nidle\n! 11 NoFlow\n! 1 Syntax\n! 1 Syntax\nnone\n",
+        ),
+        (
+            "cut 0 2 1\nstart 0 count 0\nflows 0\nboot 0\nflows 0\n",
+            "armed\nfault\n! 3 NodeDown\nbooted\nnone\n",
+        ),
+        (
+            "cut 0 4 1\nstart 0 count 0\nflows 0\nboot 0\nflows 0\n",
+            "armed\nfault\n! 3 NodeDown\nbooted\nflow 0 class 1 steps 0 waits return\n",
         ),
         (
             "start 0 count 65534\ndrain\nstart 0 count 0\nflows 0\n",
@@ -51,27 +105,126 @@ fn scripts_have_their_answers(rt: HostRuntime) -> Result<(), Fail> {
         ),
     ];
     for (script, answers) in rows {
-        let (ended, sink) = run_script(alloc, script, Vec::new(alloc), Vec::new(alloc))?;
+        let disks = disks_from(alloc, MemDisk::new(alloc))?;
+        let (ended, sink) = run_script(alloc, disks, script)?;
         assert_eq!(rt; ended.status, 0);
         assert_eq!(rt; ended.bytes_read, script.len() as u64);
+        assert_eq!(rt; ended.disks.len(), 32);
         assert_eq!(rt; sink.bytes(), answers.as_bytes());
     }
     Ok(())
 }
 
 #[test]
+fn a_script_ends_at_quit(rt: HostRuntime) -> Result<(), Fail> {
+    let alloc = rt.alloc();
+    let disks = disks_from(alloc, MemDisk::new(alloc))?;
+    let (ended, sink) = run_script(alloc, disks, "quit x\nquit\nflows 0\n")?;
+    assert_eq!(rt; ended.status, 0);
+    assert_eq!(rt; ended.bytes_read, 12);
+    assert_eq!(rt; sink.bytes(), b"! 1 Syntax\n".as_slice());
+    Ok(())
+}
+
+#[test]
+fn a_journal_outlives_its_run(rt: HostRuntime) -> Result<(), Fail> {
+    let alloc = rt.alloc();
+    let disks = disks_from(alloc, MemDisk::new(alloc))?;
+    let (mut first, _) = run_script(alloc, disks, "start 0 count 0\n")?;
+    assert_eq!(rt; first_length(&mut first.disks), Some(92));
+    let (mut second, _) = run_script(alloc, first.disks, "drain\n")?;
+    assert_eq!(rt; first_length(&mut second.disks), Some(145));
+    let script = "flows 0\nclock 7\nstart 0 count 1\nhistory\n";
+    let answers =
+        "flow 0 class 1 steps 1 ended number 0\nok\nflow 1\nh 1 0 0 start 0 1\nh 2 0 0 move 0\nh 3 0 7 start 1 1\n";
+    let (third, sink) = run_script(alloc, second.disks, script)?;
+    assert_eq!(rt; third.status, 0);
+    assert_eq!(rt; sink.bytes(), answers.as_bytes());
+
+    // The moment of the last cause has come.
+    let script = "clock 6\nflow 0 1\n";
+    let answers = "! 10 Backwards\nflow 1 class 1 steps 0 waits sleep\n";
+    let (fourth, sink) = run_script(alloc, third.disks, script)?;
+    assert_eq!(rt; fourth.status, 0);
+    assert_eq!(rt; sink.bytes(), answers.as_bytes());
+    Ok(())
+}
+
+#[test]
+fn a_disk_without_power_ends_the_run(rt: HostRuntime) -> Result<(), Fail> {
+    let alloc = rt.alloc();
+    let mut disk = MemDisk::new(alloc);
+    disk.cut_power(0, 0).or(Err("cut"))?;
+    let disks = disks_from(alloc, disk)?;
+    let (mut ended, sink) = run_script(alloc, disks, "flows 0\n")?;
+    assert_eq!(rt; ended.status, 6);
+    assert_eq!(rt; ended.bytes_read, 0);
+    assert_eq!(rt; sink.bytes().len(), 0);
+    if let Some(disk) = ended.disks.first_mut() {
+        disk.restore_power();
+    }
+    let (again, sink) = run_script(alloc, ended.disks, "flows 0\n")?;
+    assert_eq!(rt; again.status, 0);
+    assert_eq!(rt; sink.bytes(), b"none\n".as_slice());
+    Ok(())
+}
+
+#[test]
+fn a_journal_that_is_no_sound_one_of_the_node_ends_the_run(rt: HostRuntime) -> Result<(), Fail> {
+    let alloc = rt.alloc();
+
+    // The header of node 0 of 1 with notary 0, and an open gate with a length that no record has; the header of node 1 of 3; no
+    // header.
+    let damaged = [
+        1, b'C', b'O', b'R', b'D', b'A', b'J', b'N', b'L', 1, 0, 1, 0, 0, 0, 0, 1, 255, 255, 255,
+        255,
+    ];
+    let wrong = [
+        1, b'C', b'O', b'R', b'D', b'A', b'J', b'N', b'L', 1, 1, 3, 0, 0, 0, 0, 0,
+    ];
+    let foreign = [1u8; 17];
+    let rows = [
+        (damaged.as_slice(), "! journal 0 damaged 16\n"),
+        (wrong.as_slice(), "! journal 0 wrong\n"),
+        (foreign.as_slice(), "! journal 0 foreign\n"),
+    ];
+    for (bytes, line) in rows {
+        let disks = disks_from(alloc, disk_of(alloc, bytes)?)?;
+        let (ended, sink) = run_script(alloc, disks, "flows 0\n")?;
+        assert_eq!(rt; ended.status, 8);
+        assert_eq!(rt; ended.bytes_read, 0);
+        assert_eq!(rt; ended.disks.len(), 32);
+        assert_eq!(rt; sink.bytes(), line.as_bytes());
+    }
+
+    // A write that fails comes before.
+    let disks = disks_from(alloc, disk_of(alloc, wrong.as_slice())?)?;
+    let writes = vec![in alloc; 0]?;
+    let (ended, sink) = run_on(alloc, disks, "flows 0\n", Vec::new(alloc), writes)?;
+    assert_eq!(rt; ended.status, 5);
+    assert_eq!(rt; sink.bytes().len(), 0);
+    Ok(())
+}
+
+#[test]
 fn a_read_or_a_write_that_fails_ends_the_run(rt: HostRuntime) -> Result<(), Fail> {
     let alloc = rt.alloc();
-    let script = "start 0 count 0\ndrain\n";
-    let (ended, sink) = run_script(alloc, script, vec![in alloc; 16]?, Vec::new(alloc))?;
+    let disks = disks_from(alloc, MemDisk::new(alloc))?;
+    let reads = vec![in alloc; 8]?;
+    let (ended, sink) = run_on(alloc, disks, "clock 1\nflows 0\n", reads, Vec::new(alloc))?;
     assert_eq!(rt; ended.status, 4);
-    assert_eq!(rt; ended.bytes_read, 16);
-    assert_eq!(rt; ended.causes.len(), 1);
-    assert_eq!(rt; sink.bytes(), b"flow 0\n".as_slice());
-    let (ended, sink) = run_script(alloc, script, Vec::new(alloc), vec![in alloc; 0]?)?;
+    assert_eq!(rt; ended.bytes_read, 8);
+    assert_eq!(rt; sink.bytes(), b"ok\n".as_slice());
+
+    // What was committed stands.
+    let script = "start 0 count 0\ndrain\n";
+    let disks = disks_from(alloc, MemDisk::new(alloc))?;
+    let writes = vec![in alloc; 0]?;
+    let (mut ended, sink) = run_on(alloc, disks, script, Vec::new(alloc), writes)?;
     assert_eq!(rt; ended.status, 5);
-    assert_eq!(rt; ended.causes.len(), 1);
+    assert_eq!(rt; ended.bytes_read, 16);
     assert_eq!(rt; sink.bytes().len(), 0);
+    assert_eq!(rt; first_length(&mut ended.disks), Some(92));
     Ok(())
 }
 
@@ -81,9 +234,15 @@ fn other_words_are_refused(rt: HostRuntime) -> Result<(), Fail> {
     let mut source = MemSource::new(b"drain\n".to_vec(alloc)?, Vec::new(alloc));
     let mut sink = MemSink::new(alloc, 100, Vec::new(alloc))?;
     let words = nodes_words(alloc, "17")?;
-    let ended = run::<_, _, Counter>(alloc, words.as_slice(), &mut source, &mut sink);
+    let disks = disks_from(alloc, disk_of(alloc, &[7])?)?;
+    if disks.len() != 32 {
+        return Err(Fail::new("disks"));
+    }
+    let mut ended = run::<_, _, _, Counter>(alloc, words.as_slice(), &mut source, &mut sink, disks);
     assert_eq!(rt; ended.status, 2);
     assert_eq!(rt; ended.bytes_read, 0);
     assert_eq!(rt; sink.bytes().len(), 0);
+    assert_eq!(rt; ended.disks.len(), 32);
+    assert_eq!(rt; first_length(&mut ended.disks), Some(1));
     Ok(())
 }

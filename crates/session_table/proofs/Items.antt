@@ -24,7 +24,7 @@ items_more k (e ∷ es) p x = by (key_eq k e.0.key) (items_more k es p x)
     by false rest = rest
 
 -- a look-up with one more entry
-lookup_more : {K V : Type 0} (test : K → Bool) (es : List (K × V)) (p : K) (x : V) → lookup test (es ++ (p, x) ∷ []) ≡ option_or (lookup test es) (cond (test p) (Some x) None)
+pub lookup_more : {K V : Type 0} (test : K → Bool) (es : List (K × V)) (p : K) (x : V) → lookup test (es ++ (p, x) ∷ []) ≡ option_or (lookup test es) (cond (test p) (Some x) None)
 lookup_more test [] p x = refl
 lookup_more {K} {V} test (e ∷ es) p x = by (test e.0) (lookup_more test es p x)
   where
@@ -52,11 +52,11 @@ past_end [] n e = refl
 past_end (x ∷ xs) zero e = absurd (omega (arith, e))
 past_end (x ∷ xs) (suc n) e = past_end xs n (omega (arith, e))
 
-append_nil : {V : Type 0} (xs : List V) → xs ++ [] ≡ xs
+pub append_nil : {V : Type 0} (xs : List V) → xs ++ [] ≡ xs
 append_nil [] = refl
 append_nil (x ∷ xs) = ap (λ l. x ∷ l) (append_nil xs)
 
-or_none : {V : Type 0} (o : Option V) → option_or o None ≡ o
+pub or_none : {V : Type 0} (o : Option V) → option_or o None ≡ o
 or_none None = refl
 or_none (Some x) = refl
 

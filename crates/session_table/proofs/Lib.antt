@@ -1,7 +1,10 @@
+pub mod First
 pub mod Found
 pub mod Items
 pub mod Keeping
+pub mod Owning
 pub mod Raising
+pub mod Resending
 pub mod Stepping
 pub mod Taking
 pub mod Written

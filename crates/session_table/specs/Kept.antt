@@ -33,6 +33,10 @@ sent_of p = record { body = p.body; stamp = p.stamp }
 abbrev pub session_at : List (Place × Posted) → List (Place × Body) → Key × Standing → Session
 session_at sent came e = record { key = e.0; peer = e.1.peer; owner = e.1.owner; sent = map sent_of (items_of e.0 sent); came = items_of e.0 came; taken = e.1.taken; ending = e.1.ending }
 
+-- a session, with the flow that owns it
+abbrev pub owner_of : Key × Standing → Key × Option ℕ
+owner_of e = (e.0, e.1.owner)
+
 -- each item stands under its number among those of its session
 abbrev pub IsNumbered : {V : Type 0} → List (Place × V) → Type 0
 IsNumbered items = (key : Key) (n : ℕ) → lookup (place_eq (place_of key n)) items ≡ slice_get (items_of key items) n

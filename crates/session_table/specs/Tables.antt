@@ -1,12 +1,13 @@
 -- What contracts see of a node's sessions, and what is asked of them.
-use Rattle.std.specs.Prelude.{ℕ, ◌==◌, ◌&&◌, List, [], ◌∷◌, Option, None, if◌then◌else◌, max, option_map, length}
+use Rattle.std.specs.Prelude.{ℕ, ◌==◌, ◌&&◌, ◌+◌, List, [], ◌∷◌, Option, Some, None, Bool, false, if◌then◌else◌, max, option_map, length, filter, slice_get, nat_le, zip, flat_map}
 use Rattle.std.specs.Borrow.{Bor}
 use Rattle.std.specs.Option.{option_and_then}
 use Rattle.net_base.specs.declared.names.Key.{Key}
 use Rattle.net_base.specs.declared.values.Party.{Party}
-use Rattle.session_wire.specs.Sessions.{Session, key_eq, session_of, next_item}
+use Rattle.session_wire.specs.Sessions.{Session, Sent, key_eq, session_of, next_item}
 use Rattle.session_wire.specs.declared.body.Body.{Body}
 use Rattle.session_table.specs.Changes.{direction_out, direction_in}
+use Rattle.session_table.specs.declared.resent.Item.{Item}
 
 -- what contracts see of a node's sessions
 pub record Table : Type 0 where
@@ -36,3 +37,33 @@ raised me key direction upto (s ∷ ss) (n ∷ ns) = (if key_eq key s.key && (di
 -- a number and what is referred to
 abbrev pub numbered : ℕ × Bor Body → ℕ × Body
 numbered p = (p.0, p.1.now)
+
+-- whether the flow owns a session of this owner
+abbrev pub is_owner : ℕ → Option ℕ → Bool
+is_owner flow None = false
+is_owner flow (Some owner) = flow == owner
+
+-- the sessions of a flow, in order of making
+abbrev pub sessions_of : ℕ → List Session → List Session
+sessions_of flow sessions = filter (λ s. is_owner flow s.owner) sessions
+
+-- the key of a flow's n-th session, counted from 0
+abbrev pub of_flow : ℕ → ℕ → List Session → Option Key
+of_flow flow n sessions = option_map (λ s. s.key) (slice_get (sessions_of flow sessions) n)
+
+-- an item that was sent in a session under a number
+abbrev pub item_of : Party → Session → ℕ → Sent → Item
+item_of me s n x = record { peer = s.peer; key = s.key; direction = direction_out me s.key; number = n; stamp = x.stamp; body = x.body }
+
+-- these items of a session, the first of which has the number n
+abbrev pub items_from : Party → Session → ℕ → List Sent → List Item
+items_from me s n [] = []
+items_from me s n (x ∷ xs) = item_of me s n x ∷ items_from me s (n + 1) xs
+
+-- the items that were sent in a session, at or past its acknowledged number
+abbrev pub unacked_in : Party → Session × ℕ → List Item
+unacked_in me p = filter (λ item. nat_le p.1 item.number) (items_from me p.0 0 p.0.sent)
+
+-- the items that aren't acknowledged, by session in order of making and then by number
+abbrev pub unacked : Party → List Session → List ℕ → List Item
+unacked me sessions acked = flat_map (unacked_in me) (zip sessions acked)

@@ -3,9 +3,12 @@
 #![tactic(auto)]
 
 mod lines;
+mod owned;
+mod resent;
 mod sessions;
 mod standing;
 #[cfg(test)]
 mod tests;
 
+pub use resent::{Item, ItemList};
 pub use sessions::Sessions;

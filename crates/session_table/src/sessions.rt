@@ -1,6 +1,6 @@
 //! The table of sessions.
 
-ghost use Rattle.std.specs.Prelude.{◌≡◌, ◌<◌, ◌≤◌, ◌+◌, ◌-◌, ◌^◌, ◌++◌, ◌∷◌, [], List, ℕ, length, drop, OnOk, IfOk, Option, Some, None, is_some, true, false, option_copied, option_map, slice_get, if◌then◌else◌, ◌==◌, nat_lt};
+ghost use Rattle.std.specs.Prelude.{◌≡◌, ◌<◌, ◌≤◌, ◌+◌, ◌-◌, ◌^◌, ◌++◌, ◌∷◌, [], List, ℕ, length, drop, OnOk, IfOk, Option, Some, None, is_some, true, false, option_copied, option_map, slice_get, if◌then◌else◌, ◌==◌, nat_lt, zip};
 ghost use Rattle.std.specs.List.{list_all};
 ghost use Rattle.std.specs.Option.{option_and_then};
 ghost use Rattle.session_wire.specs.Sessions.{Session, session_of, changed_at, new_session, with_came, with_sent, with_taken, opened_on, sent_on, taken_on, next_item, first_item, ending_at};
@@ -8,12 +8,14 @@ ghost use Rattle.session_table.specs.Changes.{is_opened_by, opened_by, direction
 ghost use Rattle.session_wire.specs.declared.change.SessionChange.{SessionChange as Change};
 ghost use Rattle.net_base.specs.declared.names.Key.{Key as SessionKey};
 ghost use Rattle.session_wire.specs.declared.change.SentItem.{SentItem as Sending};
-ghost use Rattle.session_table.specs.Tables.{numbered, arrived_at, item_there, raised};
+ghost use Rattle.session_table.specs.Tables.{numbered, arrived_at, item_there, raised, of_flow, unacked, unacked_in, items_from};
 
 use crate::lines::{count_came, count_sent, put_item, put_line, raise_acked, set_taken};
+use crate::owned::Owned;
+use crate::resent::{Item, ItemList};
 use crate::standing::{Place, Posted, Standing, ending_of, is_confirm, is_init};
 use indexmap::IndexMap;
-use net_base::{Key, Party};
+use net_base::{Key, ListOf, Party};
 use session_wire::{Body, SentItem, SentList, SessionChange};
 use std::alloc::{AllocError, Global};
 use std::marker::Model;
@@ -28,19 +30,21 @@ pub struct Sessions {
     lines: IndexMap<Key, Standing>,
     sent: IndexMap<Place, Posted>,
     came: IndexMap<Place, Body>,
+    owned: Owned,
 }
 
 impl Model for Sessions {
     ghost use Rattle.std.specs.Prelude.{◌≡◌, map, min};
     ghost use Rattle.indexmap.specs.IndexMap.{spare};
     ghost use Rattle.session_table.specs.Tables.{Table};
-    ghost use Rattle.session_table.specs.Kept.{session_at, IsKept};
+    ghost use Rattle.session_table.specs.Owned.{owners};
+    ghost use Rattle.session_table.specs.Kept.{session_at, owner_of, IsKept};
 
     ghost Value = { Table };
 
-    ghost view = { λ s. record { party = s.party; list = map (session_at s.sent.entries s.came.entries) s.lines.entries; acked = map (λ e. e.1.acked) s.lines.entries; room = min (spare s.lines) (min (spare s.sent) (spare s.came)) } };
+    ghost view = { λ s. record { party = s.party; list = map (session_at s.sent.entries s.came.entries) s.lines.entries; acked = map (λ e. e.1.acked) s.lines.entries; room = min (spare s.lines) (min (spare s.sent) (min (spare s.came) s.owned.room)) } };
 
-    ghost invariant = { λ s. IsKept s.party s.opened s.lines.entries s.sent.entries s.came.entries };
+    ghost invariant = { λ s. IsKept s.party s.opened s.lines.entries s.sent.entries s.came.entries × (s.owned.list ≡ owners (map owner_of s.lines.entries)) };
 }
 
 impl Sessions {
@@ -56,6 +60,7 @@ impl Sessions {
             lines: IndexMap::new(alloc),
             sent: IndexMap::new(alloc),
             came: IndexMap::new(alloc),
+            owned: Owned::new(alloc),
         }
     }
 
@@ -148,6 +153,13 @@ impl Sessions {
         }
     }
 
+    /// The flow's `k`-th session in order of making, counted from 0. It is looked up, whatever the table holds.
+    pub fn of_flow(&self, flow: u32, k: u32) -> Option<Key>
+        ensures { result ≡ of_flow flow k self.now.list }
+    {
+        self.owned.get(flow, k)
+    }
+
     /// The first item that arrived, isn't taken and isn't a `Confirm`, with its number. A `Confirm` is the first item
     /// at most, so this looks at two items.
     fn untaken(&self, key: &Key) -> Option<(u32, &Body)>
@@ -163,6 +175,72 @@ impl Sessions {
         None
     }
 
+    /// The items that were sent and aren't acknowledged, by session in order of making and then by number. It goes through the
+    /// sessions, and in each through the items that aren't acknowledged alone.
+    pub fn unacked(&self, alloc: Global) -> Result<ItemList, AllocError>
+        ensures { IfOk result (λ list. list ≡ unacked self.now.party self.now.list self.now.acked) }
+    {
+        let mut items = Vec::new(alloc);
+        for place in 0..self.lines.len() {
+            self.add_unacked(alloc, place, &mut items)?;
+        }
+        Ok(ListOf::from_vec(items))
+    }
+
+    /// Adds the items of a session that aren't acknowledged; the session is named by its place in order of making. After want
+    /// of memory some may have been added.
+    fn add_unacked(
+        &self,
+        alloc: Global,
+        place: usize,
+        items: &mut Vec<Item>,
+    ) -> Result<(), AllocError>
+        ensures { OnOk result ((p : Session × ℕ) → slice_get (zip self.now.list self.now.acked) place ≡ Some p → items.new.items ≡ items.old.items ++ unacked_in self.now.party p) }
+    {
+        match self.lines.get_index(place) {
+            Some((key, standing)) => {
+                self.add_sent_items(
+                    alloc,
+                    key,
+                    standing.peer,
+                    standing.acked,
+                    standing.sent,
+                    items,
+                )
+            }
+            None => Ok(()),
+        }
+    }
+
+    /// Adds the items that were sent in a session from a number on. After want of memory some may have been added.
+    fn add_sent_items(
+        &self,
+        alloc: Global,
+        key: &Key,
+        peer: Party,
+        from: u32,
+        count: u32,
+        items: &mut Vec<Item>,
+    ) -> Result<(), AllocError>
+        requires { (s : Session) × (session_of key.now self.now.list ≡ Some s) × (s.peer ≡ peer) × (length s.sent ≡ count) }
+        ensures { OnOk result ((s : Session) → session_of key.now self.now.list ≡ Some s → items.new.items ≡ items.old.items ++ items_from self.now.party s from (drop from s.sent)) }
+    {
+        let direction = self.outgoing(key);
+        for number in from..count {
+            let posted = self.sent.get(&Place { key: *key, number }).unwrap();
+            let body = posted.body.copy(alloc)?;
+            items.push(Item {
+                peer,
+                key: *key,
+                direction,
+                number,
+                stamp: posted.stamp,
+                body,
+            })?;
+        }
+        Ok(())
+    }
+
     /// Makes room for a change. Want of memory leaves the sessions as they were.
     pub fn make_room(&mut self, _alloc: Global, change: &SessionChange) -> Result<(), AllocError>
         ensures party { self.new.party ≡ self.old.party }
@@ -175,7 +253,7 @@ impl Sessions {
         self.lines.reserve(items)?;
         self.sent.reserve(items)?;
         self.came.reserve(items)?;
-        Ok(())
+        self.owned.make_room(items)
     }
 
     /// Makes a change, for which there is room: it takes no memory. First the item is accepted, then the session opened,
@@ -299,6 +377,7 @@ impl Sessions {
             acked: 0,
         };
         put_line(&mut self.lines, key, standing);
+        self.owned.note(key, owner);
     }
 
     /// Adds an item to those that arrived in its session.

@@ -1,4 +1,6 @@
-//! A table without sessions.
+//! A table without sessions, and one whose only session was opened.
+
+mod opening;
 
 use crate::Sessions;
 use net_base::{Key, Party};

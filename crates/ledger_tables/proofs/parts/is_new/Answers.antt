@@ -1,6 +1,5 @@
 use Rattle.std.proofs.Common.{◌≡◌, Bor, Option, Some, None, is_none, is_some, not, ap, refl, sym, ◌∙◌, rules}
 use Rattle.std.specs.Option.{option_copied}
-use Rattle.ledger_types.specs.Stores.{stored_of}
 use Rattle.tx_store.proofs.Ordered.{lookup_is, lookup_some}
 use Rattle.ledger_tables.proofs.parts.is_new.Goals as goal
 

@@ -1,9 +1,19 @@
-use Rattle.std.proofs.Common.{◌<◌, ◌++◌, length, ap}
-use Rattle.node_shell.proofs.Splitting.{last_one, some_byte}
-use Rattle.node_shell.proofs.Stories.{answered_more, on_ok}
+use Rattle.std.proofs.Common.{◌<◌, length, sym, ◌∙◌}
+use Rattle.std.proofs.lemmas.Bool.{eqb-true}
+use Rattle.shell_words.proofs.Splitting.{some_byte}
+use Rattle.node_shell.proofs.Going.{last_empty, last_done, last_stopped}
 use Rattle.node_shell.proofs.session.answer_last.Goals as goal
 
-pub returns-clause-ok : goal.returns-clause-ok
-returns-clause-ok g c =
+pub returns-then-is_empty-clause-ended : goal.returns-then-is_empty-clause-ended
+returns-then-is_empty-clause-ended g c id start left0 left1 written0 count small end h =
+    last_empty g.F.FlowSet.machine g.F.Spelt.reading id (eqb-true (length c.args.line.now) 0 (sym c.is_empty.ensures ∙ c.if-is_empty.true)) small end h
+
+pub returns-in-Ok-clause-ended : goal.returns-in-Ok-clause-ended
+returns-in-Ok-clause-ended g c id start left0 left1 written0 count small end h =
     let some : 0 < length c.args.line.now = some_byte (length c.args.line.now) (rw c.is_empty.ensures at c.if-is_empty.false) in
-    on_ok c.answer.result (λ a written0 lines before. answered_more before a.1 a.2 (ap (λ l. lines ++ l) (last_one c.args.line.now some))) c.answer.ensures.ok
+    last_done g.F.FlowSet.machine g.F.Spelt.reading id c.in-Ok.field-0 c.in-Ok.ensures.comes small end some h
+
+pub returns-in-Err-clause-ended : goal.returns-in-Err-clause-ended
+returns-in-Err-clause-ended g c id start left0 left1 written0 count small end h =
+    let some : 0 < length c.args.line.now = some_byte (length c.args.line.now) (rw c.is_empty.ensures at c.if-is_empty.false) in
+    rw c.status_of.ensures (last_stopped g.F.FlowSet.machine g.F.Spelt.reading id c.in-Err.stop c.in-Err.ensures.comes small end some h)

@@ -1,14 +1,24 @@
-use Rattle.std.proofs.Common.{arith}
+use Rattle.std.proofs.Common.{arith, refl, ◌∙◌}
 use Rattle.node_shell.proofs.Stories.{progress_start}
 use Rattle.node_shell.proofs.session.session.Goals as goal
 
 pub bytes-init : goal.bytes-init
 bytes-init g c = record {
-  progress = rw (c.requires, c.new-line.ensures.items) (progress_start (g.S.Source.left c.args.source.now) (g.K.Sink.written c.args.sink.now));
+  progress = λ id start shows coherent. record { world = start; shows = shows; coherent = coherent; holds = rw c.new-line.ensures.items (progress_start (g.S.Source.left c.args.source.now) (g.K.Sink.written c.args.sink.now)) };
   within = omega arith;
+  nodes = refl;
   reads = omega arith;
   writes = omega arith;
 }
 
 pub returns-in-Err-clause-ran : goal.returns-in-Err-clause-ran
-returns-in-Err-clause-ran g c = c.in-Err.ensures.err _ _ c.bytes.invariant.progress
+returns-in-Err-clause-ran g c id start shows coherent = c.in-Err.ensures.err id start _ _ (c.bytes.invariant.progress id start shows coherent)
+
+pub bytes-preserved : goal.bytes-preserved
+bytes-preserved g c = record {
+  progress = λ id start shows coherent. c.in_default.ensures.ok id start _ _ (c.bytes.invariant.progress id start shows coherent);
+  within = omega (arith, c.in_default.ensures.within);
+  nodes = c.take_byte.ensures.count ∙ c.bytes.invariant.nodes;
+  reads = omega (arith, c.take_byte.ensures.later.0, c.bytes.invariant.reads);
+  writes = omega (arith, c.take_byte.ensures.later.1, c.bytes.invariant.writes);
+}

@@ -1,5 +1,45 @@
-use Rattle.node_shell.proofs.Serving.{legal_none}
+use Rattle.std.proofs.Common.{rules, ◌≡◌, [], ◌∷◌, length, map, Some, refl, sym, ◌∙◌, ap, subst, arith}
+use Rattle.std.specs.Prelude.{slice_index_or}
+use Rattle.std.specs.List.{slice_get}
+use Rattle.outside.specs.Disk.{DiskView}
+use Rattle.node_shell.specs.declared.statuses.Status.TheVariants as status
+use Rattle.node_shell.proofs.Opening.{some_same, written_back, first_of, unready, ready_at, runs_as}
 use Rattle.node_shell.proofs.top.run.Goals as goal
 
-pub returns-then-not-is_one_node-clause-legal : goal.returns-then-not-is_one_node-clause-legal
-returns-then-not-is_one_node-clause-legal g c = legal_none g.F.FlowSet.machine _ c.refused.ensures.2
+pub returns-in_default-clause-story : goal.returns-in_default-clause-story
+returns-in_default-clause-story g c one d e at after w shows coherent =
+    let m = g.F.FlowSet.machine in
+    let f = g.F.Spelt.reading in
+    let end = c.end_with-in_default.ensures in
+    let same : d ≡ e = some_same d e (sym at ∙ ap (λ v. slice_get (map g.B.Disk.seen v.items) 0) (sym end.1) ∙ after) in
+    let counts : e ≡ record d { faults = e.faults } = subst (λ (x : DiskView). x ≡ record d { faults = x.faults }) same refl in
+    runs_as m f w e _ _ _ _ _ _ _ status.NoMemory end.0 end.2 (unready m f d e w _ _ status.NoMemory tt counts shows coherent)
+
+pub returns-in-Err-clause-story : goal.returns-in-Err-clause-story
+returns-in-Err-clause-story g c one d e at after w shows coherent =
+    let m = g.F.FlowSet.machine in
+    let f = g.F.Spelt.reading in
+    let end = c.end_with-in-Err.ensures in
+    let before = ap (λ l. slice_get (map g.B.Disk.seen l) 0) c.as_mut_slice.ensures.value ∙ at in
+    let same = written_back c.args.disks.len c.attach_both.new.disks c.args.disks.items c.args.disks.ok.0 (c.attach_both.ensures.count ∙ ap length c.as_mut_slice.ensures.value) in
+    let now = ap (λ l. slice_get (map g.B.Disk.seen l) 0) (sym same) ∙ ap (λ v. slice_get (map g.B.Disk.seen v.items) 0) (sym end.1) ∙ after in
+    let counts = (c.attach_both.ensures.first d e before now).0 in
+    runs_as m f w e _ _ _ _ _ _ _ c.in-Err.status end.0 end.2 (unready m f d e w _ _ c.in-Err.status c.in-Err.ensures.kinds counts shows coherent)
+
+pub returns-clause-story : goal.returns-clause-story
+returns-clause-story g c one d e at after w shows coherent =
+    let m = g.F.FlowSet.machine in
+    let f = g.F.Spelt.reading in
+    let end = c.end_with-2.ensures in
+    let own : c.push.new.self.items ≡ c.remove.result ∷ [] = search rules in
+    let back : c.play-status.result.2.items ≡ c.unwrap-2.result ∷ [] = search rules in
+    let put : slice_get (map g.B.Disk.seen c.insert.new.self.items) 0 ≡ Some (g.B.Disk.seen c.unwrap-2.result) = search rules in
+    let counted = c.attach_both.ensures.count ∙ ap length c.as_mut_slice.ensures.value in
+    let same = written_back c.args.disks.len c.attach_both.new.disks c.args.disks.items c.args.disks.ok.0 counted in
+    let first : c.remove.result ≡ slice_index_or c.attach_both.new.disks 0 c.remove.result = subst (λ l. c.remove.result ≡ slice_index_or l 0 c.remove.result) same c.remove.ensures.value in
+    let there = first_of g.B.Disk.seen c.attach_both.new.disks c.remove.result first (omega (arith, counted, c.requires)) in
+    let before = ap (λ l. slice_get (map g.B.Disk.seen l) 0) c.as_mut_slice.ensures.value ∙ at in
+    let counts = (c.attach_both.ensures.first d (g.B.Disk.seen c.remove.result) before there).0 in
+    let ended = some_same (g.B.Disk.seen c.unwrap-2.result) e (sym put ∙ ap (λ v. slice_get (map g.B.Disk.seen v.items) 0) (sym end.1) ∙ after) in
+    let runs = c.play-status.ensures.runs (g.B.Disk.seen c.remove.result) (g.B.Disk.seen c.unwrap-2.result) (ap (map g.B.Disk.seen) own) (ap (map g.B.Disk.seen) back) in
+    runs_as m f w e _ _ _ _ _ _ _ c.play-status.result.0 end.0 end.2 (ready_at m f d (g.B.Disk.seen c.remove.result) (g.B.Disk.seen c.unwrap-2.result) e w _ _ _ _ _ _ ended counts runs shows coherent)

@@ -5,6 +5,9 @@ use Rattle.session_table.specs.Kept.{acked_to}
 use Rattle.session_table.specs.Tables.{raised}
 use Rattle.session_table.proofs.Keeping.{kept_same}
 use Rattle.session_table.proofs.Raising.{raised_apart, raised_after, listed_after}
+use Rattle.session_table.specs.Kept.{owner_of}
+use Rattle.session_table.specs.Owned.{owners}
+use Rattle.session_table.proofs.Owning.{map_rewritten}
 use Rattle.session_table.proofs.sessions.Sessions.acknowledge.Goals as goal
 
 pub returns-then-direction-outgoing-clause-acked : goal.returns-then-direction-outgoing-clause-acked
@@ -15,7 +18,10 @@ returns-then-direction-outgoing-clause-acked c =
     sym (ap (λ t. t.acked) c.self.view_is) ∙ sym (raised_apart s.sent.entries s.came.entries s.party c.args.key.now c.args.direction c.args.upto s.lines.entries apart) ∙ ap (λ t. raised t.party c.args.key.now c.args.direction c.args.upto t.list t.acked) c.self.view_is
 
 pub invariant_of-self : goal.invariant_of-self
-invariant_of-self c = let s = c.self.inside in kept_same s.party s.opened s.lines.entries c.raise_acked.new.lines.entries s.sent.entries s.came.entries c.args.key.now (acked_to c.args.upto) (λ v. refl) (λ v. refl) c.self.invariant c.raise_acked.ensures.lines
+invariant_of-self c = let s = c.self.inside in (
+  kept_same s.party s.opened s.lines.entries c.raise_acked.new.lines.entries s.sent.entries s.came.entries c.args.key.now (acked_to c.args.upto) (λ v. refl) (λ v. refl) c.self.invariant.0 c.raise_acked.ensures.lines,
+  c.self.invariant.1 ∙ sym (ap owners (map_rewritten owner_of c.args.key.now (acked_to c.args.upto) s.lines.entries c.raise_acked.new.lines.entries (λ q v. refl) c.raise_acked.ensures.lines)),
+)
 
 pub returns-clause-list : goal.returns-clause-list
 returns-clause-list c =

@@ -17,11 +17,11 @@ returns-in_err-get c = λ one stands.
     let s = c.self.inside in
     let same = ap (λ t. t.list) c.self.view_is in
     let at = found_line s.sent.entries s.came.entries s.lines.entries c.args.self.now.list c.args.key one same stands in
-    c.from_residual.ensures ∙ ap (option_and_then ending_of) (c.in_err-get.ensures.value ∙ c.self.invariant.came_numbered c.args.key (c.args.taken - 1) ∙ ap (λ (x : Session). slice_get x.came (c.args.taken - 1)) (sym at.1.1)) ∙ sym (ending_found one.came c.args.taken c.if-taken-eq0.false)
+    c.from_residual.ensures ∙ ap (option_and_then ending_of) (c.in_err-get.ensures.value ∙ c.self.invariant.0.came_numbered c.args.key (c.args.taken - 1) ∙ ap (λ (x : Session). slice_get x.came (c.args.taken - 1)) (sym at.1.1)) ∙ sym (ending_found one.came c.args.taken c.if-taken-eq0.false)
 
 pub returns : goal.returns
 returns c = λ one stands.
     let s = c.self.inside in
     let same = ap (λ t. t.list) c.self.view_is in
     let at = found_line s.sent.entries s.came.entries s.lines.entries c.args.self.now.list c.args.key one same stands in
-    c.ending_of.ensures ∙ ap (option_and_then ending_of) (c.in_ok-get.ensures.value ∙ c.self.invariant.came_numbered c.args.key (c.args.taken - 1) ∙ ap (λ (x : Session). slice_get x.came (c.args.taken - 1)) (sym at.1.1)) ∙ sym (ending_found one.came c.args.taken c.if-taken-eq0.false)
+    c.ending_of.ensures ∙ ap (option_and_then ending_of) (c.in_ok-get.ensures.value ∙ c.self.invariant.0.came_numbered c.args.key (c.args.taken - 1) ∙ ap (λ (x : Session). slice_get x.came (c.args.taken - 1)) (sym at.1.1)) ∙ sym (ending_found one.came c.args.taken c.if-taken-eq0.false)

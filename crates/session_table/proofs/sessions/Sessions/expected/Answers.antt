@@ -21,6 +21,6 @@ pub returns : goal.returns
 returns c =
     let s = c.self.inside in
     let found = present s.sent.entries s.came.entries s.lines.entries c.args.self.now.list c.args.key.now c.in_ok-get.field-0.now (ap (λ t. t.list) c.self.view_is) c.in_ok-get.ensures.value in
-    let counted = count_is (λ v. v.came) s.lines.entries s.came.entries c.args.key.now c.in_ok-get.field-0.now c.self.invariant.came_counted c.in_ok-get.ensures.value in
+    let counted = count_is (λ v. v.came) s.lines.entries s.came.entries c.args.key.now c.in_ok-get.field-0.now c.self.invariant.0.came_counted c.in_ok-get.ensures.value in
     let incoming : (c.args.direction == direction_in c.args.self.now.party c.args.key.now) ≡ true = eq-eqb _ _ (c.if-direction-incoming.false ∙ c.incoming.ensures) in
     rw incoming (sym (ap (option_map (λ s. length s.came)) found ∙ ap Some counted))

@@ -6,4 +6,4 @@ use Rattle.session_table.proofs.sessions.Sessions.next_number.Goals as goal
 pub returns : goal.returns
 returns c =
     let s = c.self.inside in
-    c.self.invariant.opened_is ∙ sym (opened_keys s.sent.entries s.came.entries s.party s.lines.entries) ∙ ap (λ t. opened_by t.party t.list) c.self.view_is
+    c.self.invariant.0.opened_is ∙ sym (opened_keys s.sent.entries s.came.entries s.party s.lines.entries) ∙ ap (λ t. opened_by t.party t.list) c.self.view_is

@@ -12,5 +12,5 @@ pub returns : goal.returns
 returns c =
     let s = c.self.inside in
     let found = present s.sent.entries s.came.entries s.lines.entries c.args.self.now.list c.args.key.now c.in_ok-get.field-0.now (ap (λ t. t.list) c.self.view_is) c.in_ok-get.ensures.value in
-    let counted = count_is (λ v. v.sent) s.lines.entries s.sent.entries c.args.key.now c.in_ok-get.field-0.now c.self.invariant.sent_counted c.in_ok-get.ensures.value in
+    let counted = count_is (λ v. v.sent) s.lines.entries s.sent.entries c.args.key.now c.in_ok-get.field-0.now c.self.invariant.0.sent_counted c.in_ok-get.ensures.value in
     sym (ap (option_map (λ s. length s.sent)) found ∙ ap Some (length-map _ _ ∙ counted))

@@ -1,14 +1,20 @@
-use Rattle.std.proofs.Common.{◌∙◌, ap, arith, refl, Option, List}
+use Rattle.std.proofs.Common.{sym, ◌∙◌, ap, arith, refl, Option, List}
 use Rattle.session_wire.specs.declared.body.Body.{Body}
 use Rattle.session_wire.specs.Sessions.{Session, with_taken, changed_at}
 use Rattle.session_table.specs.Kept.{session_at, taken_to}
 use Rattle.session_table.proofs.Found.{present}
 use Rattle.session_table.proofs.Keeping.{kept_same}
 use Rattle.session_table.proofs.Stepping.{list_set, acks_set, stands_at}
+use Rattle.session_table.specs.Kept.{owner_of}
+use Rattle.session_table.specs.Owned.{owners}
+use Rattle.session_table.proofs.Owning.{map_rewritten}
 use Rattle.session_table.proofs.sessions.Sessions.set_taken.Goals as goal
 
 pub invariant_of-self : goal.invariant_of-self
-invariant_of-self c = let s = c.self.inside in kept_same s.party s.opened s.lines.entries c.set_taken.new.lines.entries s.sent.entries s.came.entries c.args.key (taken_to c.args.taken c.ending_at-ending.result) (λ v. refl) (λ v. refl) c.self.invariant c.set_taken.ensures.lines
+invariant_of-self c = let s = c.self.inside in (
+  kept_same s.party s.opened s.lines.entries c.set_taken.new.lines.entries s.sent.entries s.came.entries c.args.key (taken_to c.args.taken c.ending_at-ending.result) (λ v. refl) (λ v. refl) c.self.invariant.0 c.set_taken.ensures.lines,
+  c.self.invariant.1 ∙ sym (ap owners (map_rewritten owner_of c.args.key (taken_to c.args.taken c.ending_at-ending.result) s.lines.entries c.set_taken.new.lines.entries (λ q v. refl) c.set_taken.ensures.lines)),
+)
 
 pub returns-clause-party : goal.returns-clause-party
 returns-clause-party c = ap (λ t. t.party) c.self.view_is

@@ -25,18 +25,18 @@ returns-in_err-body c =
     let s = c.self.inside in
     let v = c.in_ok-standing.standing.now in
     let found = present s.sent.entries s.came.entries s.lines.entries c.args.self.now.list c.args.key.now v (ap (λ t. t.list) c.self.view_is) c.in_ok-standing.ensures.value in
-    let count = count_is (λ v. v.came) s.lines.entries s.came.entries c.args.key.now v c.self.invariant.came_counted c.in_ok-standing.ensures.value in
+    let count = count_is (λ v. v.came) s.lines.entries s.came.entries c.args.key.now v c.self.invariant.0.came_counted c.in_ok-standing.ensures.value in
     let one = session_at s.sent.entries s.came.entries (c.args.key.now, v) in
-    absurd (not_past (items_of c.args.key.now s.came.entries) c.loop-number.number (omega (arith, count, c.loop-number-test.true)) (c.in_err-body.ensures.value ∙ c.self.invariant.came_numbered c.args.key.now c.loop-number.number))
+    absurd (not_past (items_of c.args.key.now s.came.entries) c.loop-number.number (omega (arith, count, c.loop-number-test.true)) (c.in_err-body.ensures.value ∙ c.self.invariant.0.came_numbered c.args.key.now c.loop-number.number))
 
 pub returns-then-not-is_confirm : goal.returns-then-not-is_confirm
 returns-then-not-is_confirm c =
     let s = c.self.inside in
     let v = c.in_ok-standing.standing.now in
     let found = present s.sent.entries s.came.entries s.lines.entries c.args.self.now.list c.args.key.now v (ap (λ t. t.list) c.self.view_is) c.in_ok-standing.ensures.value in
-    let count = count_is (λ v. v.came) s.lines.entries s.came.entries c.args.key.now v c.self.invariant.came_counted c.in_ok-standing.ensures.value in
+    let count = count_is (λ v. v.came) s.lines.entries s.came.entries c.args.key.now v c.self.invariant.0.came_counted c.in_ok-standing.ensures.value in
     let one = session_at s.sent.entries s.came.entries (c.args.key.now, v) in
-    let there = sym (c.in_ok-body.ensures.value ∙ c.self.invariant.came_numbered c.args.key.now c.loop-number.number) in
+    let there = sym (c.in_ok-body.ensures.value ∙ c.self.invariant.0.came_numbered c.args.key.now c.loop-number.number) in
     sym (ap (option_and_then (λ s. first_item s.taken (drop s.taken s.came))) found ∙ c.loop-number.invariant one found ∙ at_item one.came c.loop-number.number c.in_ok-body.body.now there (sym c.is_confirm.ensures ∙ c.if-not-is_confirm.true))
 
 pub loop-number-preserved : goal.loop-number-preserved
@@ -44,9 +44,9 @@ loop-number-preserved c = λ other stands.
     let s = c.self.inside in
     let v = c.in_ok-standing.standing.now in
     let found = present s.sent.entries s.came.entries s.lines.entries c.args.self.now.list c.args.key.now v (ap (λ t. t.list) c.self.view_is) c.in_ok-standing.ensures.value in
-    let count = count_is (λ v. v.came) s.lines.entries s.came.entries c.args.key.now v c.self.invariant.came_counted c.in_ok-standing.ensures.value in
+    let count = count_is (λ v. v.came) s.lines.entries s.came.entries c.args.key.now v c.self.invariant.0.came_counted c.in_ok-standing.ensures.value in
     let one = session_at s.sent.entries s.came.entries (c.args.key.now, v) in
-    let there = sym (c.in_ok-body.ensures.value ∙ c.self.invariant.came_numbered c.args.key.now c.loop-number.number) in
+    let there = sym (c.in_ok-body.ensures.value ∙ c.self.invariant.0.came_numbered c.args.key.now c.loop-number.number) in
     let e : Some one ≡ Some other = sym found ∙ stands in
     let same : one ≡ other = cc e in
     c.loop-number.invariant other stands ∙ at_confirm other.came c.loop-number.number c.in_ok-body.body.now (ap (λ (x : Session). slice_get x.came c.loop-number.number) (sym same) ∙ there) (sym c.is_confirm.ensures ∙ c.if-not-is_confirm.false)
@@ -56,6 +56,6 @@ returns c =
     let s = c.self.inside in
     let v = c.in_ok-standing.standing.now in
     let found = present s.sent.entries s.came.entries s.lines.entries c.args.self.now.list c.args.key.now v (ap (λ t. t.list) c.self.view_is) c.in_ok-standing.ensures.value in
-    let count = count_is (λ v. v.came) s.lines.entries s.came.entries c.args.key.now v c.self.invariant.came_counted c.in_ok-standing.ensures.value in
+    let count = count_is (λ v. v.came) s.lines.entries s.came.entries c.args.key.now v c.self.invariant.0.came_counted c.in_ok-standing.ensures.value in
     let one = session_at s.sent.entries s.came.entries (c.args.key.now, v) in
     sym (ap (option_and_then (λ s. first_item s.taken (drop s.taken s.came))) found ∙ c.loop-number.invariant one found ∙ past_all one.came c.loop-number.number (omega (arith, count, c.loop-number-test.false)))

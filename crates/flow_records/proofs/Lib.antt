@@ -1,0 +1,5 @@
+pub mod Whole
+pub mod Sizes
+pub mod Meaning
+pub mod Checkpoints
+pub mod Told

@@ -1,0 +1,4 @@
+pub mod Records
+pub mod Alone
+pub mod Spelling
+pub mod Telling

@@ -1,0 +1,147 @@
+//! Records against bytes that were worked out by hand. What holds a flow is let go without its destructor: a proof of a test would go
+//! through each kind of value that may stand in it.
+
+ghost use Rattle.flow_machine.specs.Counter.{IsCounter};
+ghost use Rattle.net_model.specs.Sound.{IsNumbered};
+ghost use Rattle.flow_records.specs.Records.{IsFlow};
+
+use crate::{Transition, alone_tells_of_a_flow, effects_are_alone, read, spell};
+use flow_machine::{Act, Checkpoint, Counter, FlowState, Phase, Stack};
+use ledger_types::Value;
+use net_base::{ByteList, Cause, Event, ListOf, Moment};
+use std::alloc::{AllocError, Global};
+use std::mem;
+use std::test::Fail;
+
+/// Flow 0 of class 1 begins, and waits to return the number 0.
+const STARTED: &str =
+    "000000000000000100000000000000000100000000000100040000000001000000000000000000010e01000000000000000001000a0102000000000000000000000000000000";
+/// It returned the number.
+const MOVED: &str =
+    "000000000000000200000000000000000400000000020000000000000001000101000000000000000000000000000000";
+/// It failed with code 54.
+const FAILED: &str =
+    "0000000000000002000000000000000004000000000300000000000000010001003600000000000000";
+/// Flow 1 fails as session 2 of party 1 is answered.
+const ANSWERED: &str =
+    "000000000000000300000000000000050201000000020300000001000000020007003800000000000000";
+
+/// The start, with a frame of a machine that isn't the set's.
+const OTHER_MACHINE: &str =
+    "000000000000000100000000000000000100000000000100040000000001000000000000000000010e01000000000000000001000a0202000000000000000000000000000000";
+/// An error arrives in that session, of which no flow takes notice.
+const ARRIVED: &str =
+    "0000000000000004000000000000000903010000000201000000030000000105003800000000";
+/// Flow 0 fails, and sends a confirmation in session 0.
+const SENDING: &str =
+    "00000000000000020000000000000000040000000003000000000000000100010036000100000000000000000000020000000000";
+
+/// Flow 0 as it begins.
+fn counting(alloc: Global) -> FlowState<Counter>
+    ensures limits { IsFlow IsCounter result }
+    ensures own { IsNumbered 0 result }
+{
+    let frame = Counter {
+        phase: Phase::Returning,
+        left: 0,
+        all: 0,
+    };
+    FlowState::Live(Checkpoint {
+        flow: 0,
+        step: 0,
+        class: 1,
+        waiting: Act::Return {
+            value: Value::Number(0),
+        },
+        stack: Stack::new(alloc, frame),
+    })
+}
+
+/// The record of its start.
+fn started(alloc: Global) -> Result<ByteList, AllocError> {
+    let args = ListOf::from_vec(vec![in alloc; 0u8, 0, 0, 0]?);
+    let event = Event::Start {
+        flow: 0,
+        class: 1,
+        args,
+    };
+    let cause = Cause {
+        stamp: 1,
+        moment: Moment(0),
+        event,
+    };
+    let state = counting(alloc);
+    let bytes = spell(alloc, &cause, 0, &state);
+    mem::forget(state);
+    bytes
+}
+
+/// What is told, in few words: the number, the step, and how the flow stands.
+fn summary(told: &Transition<Counter>) -> (u32, u32, u8) {
+    match &told.state {
+        FlowState::Live(at) => (told.number, at.step, 1),
+        FlowState::Ended { step, .. } => (told.number, *step, 2),
+        FlowState::Failed { step, .. } => (told.number, *step, 3),
+    }
+}
+
+/// What the bytes tell of, and the bytes of the record that tells the same.
+fn told_again(
+    alloc: Global,
+    bytes: &[u8],
+) -> Result<Option<((u32, u32, u8), ByteList)>, AllocError> {
+    match read::<Counter>(alloc, bytes)? {
+        None => Ok(None),
+        Some(told) => {
+            let words = summary(&told);
+            let again = spell(alloc, &told.cause, told.number, &told.state);
+            mem::forget(told);
+            Ok(Some((words, again?)))
+        }
+    }
+}
+
+#[test]
+fn a_start_has_its_bytes(rt: HostRuntime) -> Result<(), Fail> {
+    effects_are_alone::<Counter>();
+    alone_tells_of_a_flow::<Counter>();
+    let bytes = started(rt.alloc())?;
+    let expected = hex::decode(rt.alloc(), STARTED)?;
+    assert_eq!(rt; bytes.as_slice(), expected.as_slice());
+    Ok(())
+}
+
+#[test]
+fn records_are_read_again(rt: HostRuntime) -> Result<(), Fail> {
+    let rows = [
+        (STARTED, (0, 0, 1)),
+        (MOVED, (0, 1, 2)),
+        (FAILED, (0, 1, 3)),
+        (ANSWERED, (1, 2, 3)),
+    ];
+    for (text, expected) in rows {
+        let bytes = hex::decode(rt.alloc(), text)?;
+        let told = told_again(rt.alloc(), &bytes)?;
+        let Some((words, again)) = told else {
+            assert!(rt; false, "{text}");
+            continue;
+        };
+        assert_eq!(rt; words, expected, "{text}");
+        assert_eq!(rt; again.as_slice(), bytes.as_slice(), "{text}");
+    }
+    Ok(())
+}
+
+#[test]
+fn other_bytes_tell_of_no_flow_alone(rt: HostRuntime) -> Result<(), Fail> {
+    for text in ["", OTHER_MACHINE, ARRIVED, SENDING] {
+        let bytes = hex::decode(rt.alloc(), text)?;
+        let told = told_again(rt.alloc(), &bytes)?;
+        assert!(rt; told.is_none(), "{text}");
+    }
+    let mut bytes = hex::decode(rt.alloc(), STARTED)?;
+    bytes.push(0)?;
+    let told = told_again(rt.alloc(), &bytes)?;
+    assert!(rt; told.is_none());
+    Ok(())
+}

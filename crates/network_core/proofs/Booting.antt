@@ -1,0 +1,257 @@
+-- What a boot makes of the world.
+use Rattle.std.proofs.Common.{◌≡◌, ◌⊎◌, inl, inr, ⊎_elim, ℕ, zero, suc, max, ◌<◌, ◌≤◌, Bool, true, false, List, [], ◌∷◌, map, Option, Some, None, IsSome, Result, Ok, Err, refl, sym, ◌∙◌, ap, subst, arith, slice_set}
+use Rattle.std.specs.List.{slice_get, AllByRecursion}
+use Rattle.std.specs.Option.{MatchOption}
+use Rattle.std.proofs.lemmas.Bool.{cases_lt, true≢false}
+use Rattle.std.proofs.lemmas.Option.{same_Some}
+use Rattle.outside.specs.Disk.{DiskState, DiskView, IsImage}
+use Rattle.outside.specs.Faults.{Rose}
+use Rattle.net_base.specs.declared.names.Identity.{Identity}
+use Rattle.flow_machine.specs.Machine.{Machine}
+use Rattle.disk_journal.specs.Journal.{journal_of, WasSpelt}
+use Rattle.disk_journal.specs.declared.fault.OpenFault.{OpenFault}
+use Rattle.disk_journal.specs.declared.fault.OpenFault.TheVariants as open_fault
+use Rattle.net_model.specs.Environment.{Environment, environment, identity}
+use Rattle.node_core.specs.declared.faults.BootFault.{BootFault}
+use Rattle.node_core.specs.declared.faults.BootFault.TheVariants as boot_fault
+use Rattle.node_core.specs.Journals.{Reads, state_of}
+use Rattle.node_core.specs.Disks.{Moves}
+use Rattle.node_core.specs.Seen.{NodeSeen, BootsAs, Booted, Unbooted, Unopened, Unfit, IsBy}
+use Rattle.network_core.specs.declared.steps.Outcome.{Outcome}
+use Rattle.network_core.specs.declared.steps.Outcome.TheVariants as outcome
+use Rattle.network_core.specs.Worlds.{NodeWorld, World, NetSeen, MaySpell, ShowsJournal, NodeShows, NodeCoherent, Shows, Coherent, KeepsWorld}
+use Rattle.network_core.specs.Answers.{said, boot_outcome, Restored, DownBoots, BootServes, BootClock, AtPlace}
+use Rattle.network_core.specs.Serves.{WorldPlace, WorldBoots, StaysDown, ComesUp}
+use Rattle.network_core.proofs.Stands.{shows_down, images_now, not_true}
+use Rattle.network_core.proofs.Faithful.{get_beside}
+use Rattle.network_core.proofs.Served.{Goes}
+use Rattle.network_core.proofs.Places.{place_world}
+
+-- what a boot makes of a node that is down, whether or not its power came back
+pub record Unmoved (x y : NodeWorld) (k : NodeSeen) : Type 0 where
+  pub was_down : x.up ≡ false
+  pub down : y.up ≡ false
+  pub lists : (l : List (List ℕ)) → MaySpell y l → MaySpell x l
+  pub later : x.faults ≤ y.faults
+  pub faults_are : y.faults ≡ k.disk.faults
+  pub calm_is : y.calm ≡ k.disk.calm
+  pub file : y.file ≡ x.file
+  pub kept : journal_of k.disk.state.kept ≡ y.journal
+
+module _ {F : Type 0} (e : Environment F) (p now : ℕ) (n k : NodeSeen) (x : NodeWorld) (shows : NodeShows e p n x) (coherent : NodeCoherent e p now x) (none : n.journal ≡ None) where
+  was_down : x.up ≡ false
+  was_down = rw none at shows.journal
+
+  -- where each image spells what one spelt before
+  may : (c : List ℕ) → WasSpelt n.disk.state c → MaySpell x (journal_of c)
+  may c (b, image, same) = subst (λ (l : List (List ℕ)). MaySpell x l) (sym same) (shows.images b image)
+
+  -- the node's world, by the journal that is kept
+  record Kept (y : NodeWorld) (kept : List (List ℕ)) : Type 0 where
+    down : y.up ≡ false
+    is : kept ≡ y.journal
+    back : (l : List (List ℕ)) → MaySpell y l → MaySpell x l
+    on : (l : List (List ℕ)) → MaySpell x l → MaySpell y l
+    faults_are : y.faults ≡ k.disk.faults
+    calm_is : y.calm ≡ k.disk.calm
+    file_is : y.file ≡ x.file
+
+  world_of : (kept : List (List ℕ)) → MaySpell x kept → (y : NodeWorld) × Kept y kept
+  world_of kept (inl is) = (record { up = false; journal = x.journal; other = x.other; faults = k.disk.faults; calm = k.disk.calm; file = x.file }, record { down = refl; is = is; back = λ l h. h; on = λ l h. h; faults_are = refl; calm_is = refl; file_is = refl })
+  world_of kept (inr is) = (
+    record { up = false; journal = kept; other = Some x.journal; faults = k.disk.faults; calm = k.disk.calm; file = x.file },
+    record {
+      down = refl;
+      is = refl;
+      back = λ l h. ⊎_elim (λ s. inr (is ∙ ap Some (sym s))) (λ s. inl (sym (same_Some _ _ s))) h;
+      on = λ l h. ⊎_elim (λ s. inr (ap Some (sym s))) (λ s. inl (sym (same_Some _ _ (sym is ∙ s)))) h;
+      faults_are = refl;
+      calm_is = refl;
+      file_is = refl;
+    },
+  )
+
+  pub down_world : k.journal ≡ None → k.identity ≡ n.identity → Moves n.disk k.disk WasSpelt → Goes e p now k (λ y. Unmoved x y k)
+  down_world gone same moves =
+      let found = world_of (journal_of k.disk.state.kept) (may k.disk.state.kept (moves.kept shows.tells)) in
+      let y = found.0 in
+      let w = found.1 in (
+        y,
+        record {
+          identity_is = same ∙ shows.identity_is;
+          tells = moves.tells ∙ shows.tells;
+          images = λ c image. w.on (journal_of c) (may c (images_now n.disk k.disk WasSpelt moves shows.tells c image));
+          kept = w.is;
+          journal = shows_down k.journal y gone w.down;
+          counts = w.faults_are;
+          calm_is = w.calm_is;
+          file_is = w.file_is ∙ shows.file_is ∙ sym moves.file;
+        },
+        record { every = λ l h. coherent.every l (w.back l h); one = λ u. absurd (true≢false (sym u ∙ w.down)) },
+        record { was_down = was_down; down = w.down; lists = w.back; later = omega (arith, moves.later, shows.counts, w.faults_are); faults_are = w.faults_are; calm_is = w.calm_is; file = w.file_is; kept = w.is },
+      )
+
+  -- what is kept spells the same journal where it did so at the node
+  pub same_kept : (y : NodeWorld) → Unmoved x y k → journal_of k.disk.state.kept ≡ journal_of n.disk.state.kept → y.journal ≡ x.journal
+  same_kept y u same = sym u.kept ∙ same ∙ shows.kept
+
+  pub booted_world : (f : Reads F) (list : List (ℕ × List ℕ)) → k.journal ≡ Some (map (λ z. z.1) list) → k.identity ≡ n.identity → Booted f n.identity n.disk k.disk list
+      → Goes e p now k (λ y. (y ≡ record { up = true; journal = x.journal; other = None; faults = y.faults; calm = y.calm; file = x.file }) × (x.faults ≤ y.faults) × (y.calm ≡ k.disk.calm))
+  booted_world f list here id b =
+      let o = b.opens in
+      let bodies = map (λ z. z.1) list in
+      let tells : k.disk.tells ≡ true = o.moves.tells ∙ shows.tells in
+      let same : bodies ≡ x.journal = sym (o.holds.kept tells) ∙ o.same shows.tells ∙ shows.kept in
+      let y : NodeWorld = record { up = true; journal = x.journal; other = None; faults = k.disk.faults; calm = k.disk.calm; file = x.file } in (
+        y,
+        record {
+          identity_is = id ∙ shows.identity_is;
+          tells = tells;
+          images = λ c image. inl (o.holds.images tells c image ∙ same);
+          kept = o.holds.kept tells ∙ same;
+          journal = subst (λ (j : Option (List (List ℕ))). ShowsJournal j y) (sym here) (refl, sym same, refl);
+          counts = refl;
+          calm_is = refl;
+          file_is = shows.file_is ∙ sym o.moves.file;
+        },
+        record { every = λ l h. ⊎_elim (λ s. coherent.every l (inl s)) (λ s. cc) h; one = λ u. refl },
+        (refl, rw shows.counts o.moves.later, refl),
+      )
+
+module _ {F : Type 0} (e : Environment F) (p now : ℕ) (n mid k : NodeSeen) (x : NodeWorld) (shows : NodeShows e p n x) (coherent : NodeCoherent e p now x) (down : n.journal ≡ None) (restored : Restored n mid) where
+  abbrev z : NodeWorld
+  z = record x { calm = mid.disk.calm }
+
+  lit : mid.disk ≡ record n.disk { power = true; fuse = None; calm = mid.disk.calm }
+  lit = restored.disk
+
+  shows_mid : NodeShows e p mid z
+  shows_mid = record {
+    identity_is = restored.identity ∙ shows.identity_is;
+    tells = ap (λ v. v.tells) lit ∙ shows.tells;
+    images = λ c image. shows.images c (subst (λ (v : DiskView). IsImage v.state.now c) lit image);
+    kept = ap (λ v. journal_of v.state.kept) lit ∙ shows.kept;
+    journal = shows_down mid.journal z restored.journal (rw down at shows.journal);
+    counts = shows.counts ∙ sym (ap (λ v. v.faults) lit);
+    calm_is = refl;
+    file_is = shows.file_is ∙ sym (ap (λ v. v.of_file) lit);
+  }
+
+  coherent_mid : NodeCoherent e p now z
+  coherent_mid = record { every = coherent.every; one = coherent.one }
+
+  calm_mid : x.file ≡ false → mid.disk.calm ≡ true
+  calm_mid memory = restored.calm (sym shows.file_is ∙ memory)
+
+  stays_down : (y : NodeWorld) → Unmoved z y k → (mid.disk.calm ≡ true → k.disk.calm ≡ true) → StaysDown x y
+  stays_down y u calm = record { was_down = u.was_down; down = u.down; lists = u.lists; later = u.later; calm = λ memory. u.calm_is ∙ calm (calm_mid memory); file = u.file }
+
+  -- what a fault of the opening says
+  fault_of : (f : Reads F) → Unopened mid.identity mid.disk boot_fault.Fault k.disk ⊎ Unfit f mid.identity mid.disk boot_fault.Fault k.disk → Rose mid.disk.faults k.disk.faults × (mid.disk.calm ≡ true → ⊥)
+  fault_of f (inl (open_fault.Fault, is, r)) = r
+  fault_of f (inl (open_fault.Memory, is, r)) = cc
+  fault_of f (inl (open_fault.NotAJournal, is, r)) = cc
+  fault_of f (inl (open_fault.WrongNode found, is, r)) = cc
+  fault_of f (inl (open_fault.Damaged at, is, r)) = cc
+  fault_of f (inr u) = absurd u
+
+  -- only a file's disk fails at a boot
+  is_file : (b : Bool) → x.file ≡ b → (mid.disk.calm ≡ true → ⊥) → b ≡ true
+  is_file true here wild = refl
+  is_file false here wild = absurd (wild (calm_mid here))
+
+  kept_as : (f : Reads F) (why : BootFault) → Unbooted f mid.identity mid.disk why k.disk → (why ≡ boot_fault.Fault → ⊥) → (y : NodeWorld) → Unmoved z y k → y.journal ≡ x.journal
+  kept_as f why u other y un = same_kept e p now mid k z shows_mid coherent_mid restored.journal y un (u.same other shows_mid.tells)
+
+  unbooted : (f : Reads F) (why : BootFault) → k.journal ≡ None → k.identity ≡ mid.identity → Unbooted f mid.identity mid.disk why k.disk → Goes e p now k (λ y. Unmoved z y k)
+  unbooted f why none id u = down_world e p now mid k z shows_mid coherent_mid restored.journal none id u.moves
+
+  refused : (f : Reads F) (why : BootFault) → (why ≡ boot_fault.Fault → ⊥) → k.journal ≡ None → k.identity ≡ mid.identity → Unbooted f mid.identity mid.disk why k.disk → Goes e p now k (λ y. StaysDown x y × (y.journal ≡ x.journal))
+  refused f why other none id u =
+      let to = unbooted f why none id u in
+      (to.0, to.1, to.2, (stays_down to.0 to.3 u.calm, kept_as f why u other to.0 to.3))
+
+  boots : (f : Reads F) (answer : Result (Unit {0}) BootFault) → BootsAs f mid answer k → Goes e p now k (λ y. WorldBoots x (boot_outcome answer) y)
+  boots f (Ok u) s =
+      let to = booted_world e p now mid k z shows_mid coherent_mid restored.journal f s.0 s.1 s.2 s.3 in
+      (to.0, to.1, to.2, record { was_down = rw down at shows.journal; after = to.3.0; later = to.3.1; calm = λ memory. to.3.2 ∙ s.3.opens.calm (calm_mid memory) })
+  boots f (Err boot_fault.Fault) s =
+      let to = unbooted f boot_fault.Fault s.0 s.1 s.2 in
+      let c = fault_of f s.2.cause in
+      let rose : Rose x.faults to.0.faults = subst (λ (i : ℕ). Rose i to.0.faults) (sym shows_mid.counts) (subst (λ (i : ℕ). Rose mid.disk.faults i) (sym to.3.faults_are) c.0) in
+      (to.0, to.1, to.2, (stays_down to.0 to.3 s.2.calm, rose, is_file x.file refl c.1))
+  boots f (Err boot_fault.Memory) s = refused f boot_fault.Memory (λ is. cc) s.0 s.1 s.2
+  boots f (Err boot_fault.NotAJournal) s = let to = refused f boot_fault.NotAJournal (λ is. cc) s.0 s.1 s.2 in (to.0, to.1, to.2, inr (refl, to.3.0, to.3.1))
+  boots f (Err (boot_fault.WrongNode found)) s = let to = refused f (boot_fault.WrongNode found) (λ is. cc) s.0 s.1 s.2 in (to.0, to.1, to.2, inr (refl, to.3.0, to.3.1))
+  boots f (Err (boot_fault.Damaged at)) s = let to = refused f (boot_fault.Damaged at) (λ is. cc) s.0 s.1 s.2 in (to.0, to.1, to.2, inr (refl, to.3.0, to.3.1))
+
+up_of : (journal : Option (List (List ℕ))) (x : NodeWorld) → IsSome journal → ShowsJournal journal x → x.up ≡ true
+up_of None x up shows = cc
+up_of (Some b) x up shows = shows.0
+
+-- a boot of any node
+boot_any : {F E : Type 0} (e : Environment F) (f : Reads F) (p now : ℕ) (n k : NodeSeen) (x : NodeWorld) (result : Result Outcome E) → NodeShows e p n x → NodeCoherent e p now x → BootServes f n result k → Goes e p now k (λ y. WorldBoots x (said result) y)
+boot_any e f p now n k x result shows coherent (inl (up, is, same)) = rw is (x, subst (λ (z : NodeSeen). NodeShows e p z x) (sym same) shows, coherent, inl (refl, up_of n.journal x up shows.journal, refl))
+boot_any e f p now n k x result shows coherent (inr (down, (mid, answer, restored, s, so))) = rw so (boots e p now n mid k x shows coherent down restored f answer s)
+
+-- no journal of a coherent world is later than its moment
+by_of : {F : Type 0} (e : Environment F) (p now : ℕ) (n : NodeSeen) (x : NodeWorld) (bodies : List (List ℕ)) → NodeShows e p n x → NodeCoherent e p now x → n.journal ≡ Some bodies → (state_of e.frame_at bodies).moment ≤ now
+by_of e p now n x bodies shows coherent here =
+    let stands : ShowsJournal (Some bodies) x = rw here at shows.journal in
+    (coherent.every bodies (inl (sym stands.1))).by
+
+-- the place of a boot, at the old moment
+at_mid : {E : Type 0} (p : ℕ) (old new : NetSeen) (result : Result Outcome E) (serves : NodeSeen → Result Outcome E → NodeSeen → Type 0) → AtPlace p old result new serves → AtPlace p old result (record { nodes = new.nodes; now = old.now }) serves
+at_mid p old new result serves (inl (past, is, same)) = inl (past, is, ap (λ (z : NetSeen). record { nodes = z.nodes; now = old.now }) same)
+at_mid p old new result serves (inr r) = inr r
+
+too_late : {F : Type 0} (e : Environment F) (p : ℕ) (old new : NetSeen) (v : World) → Shows e (record { nodes = new.nodes; now = old.now }) v → Coherent e v → (k : NodeSeen) (bodies : List (List ℕ)) → slice_get new.nodes p ≡ Some k → k.journal ≡ Some bodies → old.now < (state_of e.frame_at bodies).moment → ⊥
+too_late e p old new v shows coherent k bodies at here late =
+    let found = get_beside new.nodes v.nodes p k (sym shows.count) at in
+    let by = by_of e p v.now k found.0 bodies (shows.each p k found.0 at found.1) (coherent.each p found.0 found.1) here in
+    omega (arith, by, shows.clock, late)
+
+pub boot_world : {F E : Type 0} (m : Machine F) (f : Reads F) (p : ℕ) (old new : NetSeen) (result : Result Outcome E) → BootClock f p old new → AtPlace p old result new (λ n r k. BootServes f n r k) → KeepsWorld m f old new (λ e w v. WorldPlace p w (said result) v (λ x o y. WorldBoots x o y))
+boot_world m f p old new result clock at id w shows coherent =
+    let e = environment m f id in
+    let mid : NetSeen = record { nodes = new.nodes; now = old.now } in
+    let there = place_world m f p old mid result (λ n r k. BootServes f n r k) (λ e t x o y. WorldBoots x o y) (λ id n k x s c b. boot_any (environment m f id) f p old.now n k x result s c b) refl (at_mid p old new result (λ n r k. BootServes f n r k) at) id w shows coherent in
+    let same : new ≡ mid = ⊎_elim (λ s. ap (λ t. record { nodes = new.nodes; now = t }) s) (λ (k, bodies, at_k, here, late). absurd (too_late e p old new there.0 there.1 there.2 k bodies at_k here late)) clock in
+    (there.0, subst (λ (z : NetSeen). Shows e z there.0) (sym same) there.1, there.2, there.3)
+
+-- ---- the moments of the nodes after a boot
+
+AllByRecursion-set : {X : Type 0} (P : X → Type 0) (xs : List X) (i : ℕ) (y : X) → AllByRecursion P xs → P y → AllByRecursion P (slice_set xs i y)
+AllByRecursion-set P [] i y h p = h
+AllByRecursion-set P (x ∷ xs) zero y h p = (p, h.1)
+AllByRecursion-set P (x ∷ xs) (suc i) y h p = (h.0, AllByRecursion-set P xs i y h.1 p)
+
+AllByRecursion-weaken : {X : Type 0} (P Q : X → Type 0) (xs : List X) → ((x : X) → P x → Q x) → AllByRecursion P xs → AllByRecursion Q xs
+AllByRecursion-weaken P Q [] f h = tt
+AllByRecursion-weaken P Q (x ∷ xs) f h = (f x h.0, AllByRecursion-weaken P Q xs f h.1)
+
+by_later : {F : Type 0} (f : Reads F) (journal : Option (List (List ℕ))) (now later : ℕ) → now ≤ later → IsBy f journal now → IsBy f journal later
+by_later f None now later le by = tt
+by_later f (Some b) now later le by = omega (arith, le, by)
+
+by_last : {F : Type 0} (f : Reads F) (journal : Option (List (List ℕ))) (last later : ℕ) → MatchOption journal (last ≡ 0) (λ b. last ≡ (state_of f b).moment) → last ≤ later → IsBy f journal later
+by_last f None last later is le = tt
+by_last f (Some b) last later is le = omega (arith, is, le)
+
+pub all_by : {F : Type 0} (f : Reads F) (ns : List NodeSeen) (i : ℕ) (k : NodeSeen) (now last later : ℕ) → AllByRecursion (λ n. IsBy f n.journal now) ns → MatchOption k.journal (last ≡ 0) (λ b. last ≡ (state_of f b).moment) → later ≡ max now last
+    → AllByRecursion (λ n. IsBy f n.journal later) (slice_set ns i k)
+all_by f ns i k now last later all is same =
+    AllByRecursion-set (λ n. IsBy f n.journal later) ns i k (AllByRecursion-weaken (λ n. IsBy f n.journal now) (λ n. IsBy f n.journal later) ns (λ n by. by_later f n.journal now later (omega (arith, same)) by) all) (by_last f k.journal last later is (omega (arith, same)))
+
+slice_get_set : {X : Type 0} (xs : List X) (i : ℕ) (x y : X) → slice_get xs i ≡ Some x → slice_get (slice_set xs i y) i ≡ Some y
+slice_get_set [] i x y e = cc
+slice_get_set (z ∷ zs) zero x y e = refl
+slice_get_set (z ∷ zs) (suc i) x y e = slice_get_set zs i x y e
+
+clock_by : {F : Type 0} (f : Reads F) (place : ℕ) (old new : NetSeen) (k : NodeSeen) (last : ℕ) (journal : Option (List (List ℕ))) → slice_get new.nodes place ≡ Some k → k.journal ≡ journal → MatchOption journal (last ≡ 0) (λ b. last ≡ (state_of f b).moment) → new.now ≡ max old.now last → BootClock f place old new
+clock_by f place old new k last None there here none same = inl (omega (arith, none, same))
+clock_by f place old new k last (Some b) there here some same = ⊎_elim (λ late. inr (k, b, there, here, omega (arith, some, late))) (λ le. inl (omega (arith, same, le))) (cases_lt old.now last)
+
+-- the moment stays, or the node's journal has a later cause
+pub clock_boot : {F : Type 0} (f : Reads F) (place : ℕ) (old new : NetSeen) (n k : NodeSeen) (last : ℕ) → slice_get old.nodes place ≡ Some n → new.nodes ≡ slice_set old.nodes place k → MatchOption k.journal (last ≡ 0) (λ b. last ≡ (state_of f b).moment) → new.now ≡ max old.now last → BootClock f place old new
+clock_boot f place old new n k last at nodes is same = clock_by f place old new k last k.journal (rw nodes (slice_get_set old.nodes place n k at)) refl is same

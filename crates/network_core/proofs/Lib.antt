@@ -1,0 +1,10 @@
+pub mod Faithful
+pub mod Locals
+pub mod Stands
+pub mod Served
+pub mod Places
+pub mod Booting
+pub mod Turning
+pub mod Linking
+pub mod Beginning
+pub mod Loops

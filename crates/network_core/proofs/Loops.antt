@@ -1,0 +1,179 @@
+-- The loops by which a network begins, and gives its disks back.
+use Rattle.std.proofs.Common.{◌≡◌, ◌⊎◌, inl, inr, ⊎_elim, ℕ, zero, suc, ◌+◌, max, ◌<◌, ◌≤◌, List, [], ◌∷◌, ◌++◌, length, map, Option, Some, None, Result, Ok, Err, refl, sym, ◌∙◌, ap, subst, arith, slice_set, length-append, append-nil, append_assoc}
+use Rattle.std.specs.List.{slice_get}
+use Rattle.std.specs.Option.{MatchOption}
+use Rattle.std.proofs.lemmas.Bool.{cases_lt}
+use Rattle.std.proofs.lemmas.Option.{same_Some}
+use Rattle.outside.specs.Disk.{DiskView}
+use Rattle.net_base.specs.declared.names.Identity.{Identity}
+use Rattle.net_base.specs.declared.values.Party.{Party}
+use Rattle.net_base.specs.declared.values.Moment.{Moment}
+use Rattle.net_base.specs.Names.{IsIdentity}
+use Rattle.node_core.specs.declared.faults.BootFault.{BootFault}
+use Rattle.node_core.specs.Journals.{Reads, state_of}
+use Rattle.node_core.specs.Disks.{roomless}
+use Rattle.node_core.specs.Seen.{NodeSeen, BootsAs, IsBy, IsMember}
+use Rattle.network_core.specs.Begins.{member, came_up, no_boot, IsLast, BootsUpTo, BootStops, node_over, nodes_over}
+use Rattle.net_model.proofs.Faithful.{get_less}
+use Rattle.network_core.proofs.Places.{set_length, get_set}
+
+over_node : (n : NodeSeen) (i : Identity) (d : DiskView) → n.identity ≡ i → n.disk ≡ d → n.journal ≡ None → n ≡ record { identity = i; disk = d; journal = None }
+over_node n i d id disk down = rw (← id, ← disk) (ap (λ j. record { identity = n.identity; disk = n.disk; journal = j }) down)
+
+-- ---- the nodes over disks
+
+-- the nodes made so far, and those over the disks that are left, are all
+pub record Making {D : Type 0} (seen : D → DiskView) (nodes : ℕ) (notary : Party) (all : List D) (made : List NodeSeen) (place : ℕ) (left : List D) : Type 0 where
+  pub all_of : made ++ nodes_over nodes notary place (map seen left) ≡ nodes_over nodes notary 0 (map seen all)
+  pub count : length made ≡ place
+  pub rest : place + length left ≡ length all
+
+pub making_none : {D : Type 0} (seen : D → DiskView) (nodes : ℕ) (notary : Party) (all : List D) (made : List NodeSeen) → made ≡ [] → Making seen nodes notary all made 0 all
+making_none seen nodes notary all made none = record { all_of = rw none refl; count = ap length none; rest = omega arith }
+
+pub making_more : {D : Type 0} (seen : D → DiskView) (nodes : ℕ) (notary : Party) (all : List D) (made more : List NodeSeen) (place : ℕ) (left rest : List D) (d : D) (n : NodeSeen) → Making seen nodes notary all made place left → left ≡ d ∷ rest
+    → n.identity ≡ member nodes notary place → n.disk ≡ roomless (seen d) → n.journal ≡ None → more ≡ made ++ n ∷ [] → Making seen nodes notary all more (place + 1) rest
+making_more seen nodes notary all made more place left rest d n m is id disk down pushed =
+    let same : n ≡ node_over nodes notary place (seen d) = over_node n (member nodes notary place) (roomless (seen d)) id disk down in
+    let before : made ++ nodes_over nodes notary place (map seen (d ∷ rest)) ≡ nodes_over nodes notary 0 (map seen all) = subst (λ l. made ++ nodes_over nodes notary place (map seen l) ≡ nodes_over nodes notary 0 (map seen all)) is m.all_of in
+    record {
+      all_of = ap (λ l. l ++ nodes_over nodes notary (place + 1) (map seen rest)) (pushed ∙ ap (λ z. made ++ z ∷ []) same) ∙ append_assoc made (node_over nodes notary place (seen d) ∷ []) (nodes_over nodes notary (place + 1) (map seen rest)) ∙ before;
+      count = ap length pushed ∙ length-append made (n ∷ []) ∙ ap (λ i. i + 1) m.count;
+      rest = omega (arith, m.rest, ap length is);
+    }
+
+pub made_all : {D : Type 0} (seen : D → DiskView) (nodes : ℕ) (notary : Party) (all : List D) (made : List NodeSeen) (place : ℕ) (left : List D) → Making seen nodes notary all made place left → length left ≡ 0 → made ≡ nodes_over nodes notary 0 (map seen all)
+made_all seen nodes notary all made place [] m none = sym (append-nil made) ∙ m.all_of
+made_all seen nodes notary all made place (d ∷ left) m none = absurd (omega (arith, none))
+
+-- a node is still to be made
+pub making_place : {D : Type 0} (seen : D → DiskView) (nodes : ℕ) (notary : Party) (all : List D) (made : List NodeSeen) (place : ℕ) (left rest : List D) (d : D) → Making seen nodes notary all made place left → left ≡ d ∷ rest → place < length all
+making_place seen nodes notary all made place left rest d m is = omega (arith, m.rest, ap length is)
+
+pub is_member : (nodes : ℕ) (notary : Party) (place : ℕ) → nodes ≤ 16 → notary.0 < nodes → place < nodes → IsMember (member nodes notary place)
+is_member nodes notary place few within below = record { limits = (omega (arith, few, below), ((omega (arith, below), omega (arith, few)), omega (arith, few, within))); node = below; notary = within }
+
+-- ---- the disks of nodes
+
+-- the disks so far, and those of the nodes that are left, are all
+pub record Handing {D : Type 0} (seen : D → DiskView) (all : List NodeSeen) (disks : List D) (left : List NodeSeen) : Type 0 where
+  pub all_of : map (λ d. roomless (seen d)) disks ++ map (λ n. n.disk) left ≡ map (λ n. n.disk) all
+  pub rest : length disks + length left ≡ length all
+
+pub handing_none : {D : Type 0} (seen : D → DiskView) (all : List NodeSeen) (disks : List D) → disks ≡ [] → Handing seen all disks all
+handing_none seen all disks none = record { all_of = rw none refl; rest = omega (arith, ap length none) }
+
+map_push : {X Y : Type 0} (f : X → Y) (xs : List X) (x : X) (ys : List Y) → map f (xs ++ x ∷ []) ++ ys ≡ map f xs ++ f x ∷ ys
+map_push f [] x ys = refl
+map_push f (z ∷ xs) x ys = ap (λ l. f z ∷ l) (map_push f xs x ys)
+
+pub handing_more : {D : Type 0} (seen : D → DiskView) (all : List NodeSeen) (disks more : List D) (left rest : List NodeSeen) (n : NodeSeen) (d : D) → Handing seen all disks left → left ≡ n ∷ rest → roomless (seen d) ≡ n.disk → more ≡ disks ++ d ∷ [] → Handing seen all more rest
+handing_more seen all disks more left rest n d h is same pushed =
+    let first = ap (λ l. map (λ d. roomless (seen d)) l ++ map (λ n. n.disk) rest) pushed in
+    let second = map_push (λ d. roomless (seen d)) disks d (map (λ (n : NodeSeen). n.disk) rest) in
+    let third = ap (λ z. map (λ d. roomless (seen d)) disks ++ z ∷ map (λ (n : NodeSeen). n.disk) rest) same in
+    let last = ap (λ l. map (λ d. roomless (seen d)) disks ++ map (λ (n : NodeSeen). n.disk) l) (sym is) in
+    record { all_of = first ∙ second ∙ third ∙ last ∙ h.all_of; rest = omega (arith, h.rest, ap length is, ap length pushed, length-append disks (d ∷ [])) }
+
+pub handed_all : {D : Type 0} (seen : D → DiskView) (all : List NodeSeen) (disks : List D) (left : List NodeSeen) → Handing seen all disks left → length left ≡ 0 → map (λ d. roomless (seen d)) disks ≡ map (λ n. n.disk) all
+handed_all seen all disks [] h none = sym (append-nil (map (λ d. roomless (seen d)) disks)) ∙ h.all_of
+handed_all seen all disks (n ∷ left) h none = absurd (omega (arith, none))
+
+-- ---- boots in order
+
+module _ {F : Type 0} (f : Reads F) (old : List NodeSeen) where
+  pub boots_none : BootsUpTo f 0 0 old old
+  boots_none = record {
+    count = refl;
+    done = λ p n k lt i j. absurd (omega (arith, lt));
+    rest = λ p n k le i j. same_Some _ _ (sym j ∙ i);
+    latest = λ p n k lt i j. absurd (omega (arith, lt));
+    reached = inl refl;
+  }
+
+  by_later : (journal : Option (List (List ℕ))) (now later : ℕ) → now ≤ later → IsBy f journal now → IsBy f journal later
+  by_later None now later le by = tt
+  by_later (Some b) now later le by = omega (arith, le, by)
+
+  by_last : (journal : Option (List (List ℕ))) (last later : ℕ) → IsLast f journal last → last ≤ later → IsBy f journal later
+  by_last None last later is le = tt
+  by_last (Some b) last later is le = omega (arith, is, le)
+
+  -- the node at a place of a list in which one place was set
+  set_here : (xs : List NodeSeen) (i : ℕ) (k n : NodeSeen) → slice_get (slice_set xs i k) i ≡ Some n → n ≡ k
+  set_here [] i k n at = cc
+  set_here (x ∷ xs) zero k n at = cc
+  set_here (x ∷ xs) (suc i) k n at = set_here xs i k n at
+
+  set_other : (xs : List NodeSeen) (i q : ℕ) (k n : NodeSeen) → (q ≡ i → ⊥) → slice_get (slice_set xs i k) q ≡ Some n → slice_get xs q ≡ Some n
+  set_other xs i q k n other at = ⊎_elim (λ s. absurd (other s.0)) (λ s. s) (get_set xs i k q n at)
+
+  set_get : (xs : List NodeSeen) (i q : ℕ) (k n : NodeSeen) → (q ≡ i → ⊥) → slice_get xs q ≡ Some n → slice_get (slice_set xs i k) q ≡ Some n
+  set_get [] i q k n other at = at
+  set_get (x ∷ xs) zero zero k n other at = absurd (other refl)
+  set_get (x ∷ xs) zero (suc q) k n other at = at
+  set_get (x ∷ xs) (suc i) zero k n other at = at
+  set_get (x ∷ xs) (suc i) (suc q) k n other at = set_get xs i q k n (λ s. other (ap suc s)) at
+
+  set_at : (xs : List NodeSeen) (i : ℕ) (k n : NodeSeen) → slice_get xs i ≡ Some n → slice_get (slice_set xs i k) i ≡ Some k
+  set_at [] i k n at = cc
+  set_at (x ∷ xs) zero k n at = refl
+  set_at (x ∷ xs) (suc i) k n at = set_at xs i k n at
+
+  -- the place of a node that wasn't booted yet
+  pub boots_same : (place now : ℕ) (cur : List NodeSeen) (n k : NodeSeen) → BootsUpTo f place now old cur → slice_get old place ≡ Some n → slice_get cur place ≡ Some k → k ≡ n
+  boots_same place now cur n k b i j = b.rest place n k (omega arith) i j
+
+  pub boots_more : (place now last later : ℕ) (cur : List NodeSeen) (n k : NodeSeen) (answer : Result Moment BootFault) (m : Moment) → BootsUpTo f place now old cur → slice_get cur place ≡ Some n → BootsAs f n answer k → answer ≡ Ok m → IsLast f k.journal last → later ≡ max now last
+      → BootsUpTo f (place + 1) later old (slice_set cur place k)
+  boots_more place now last later cur n k answer m b at boots is known raised =
+      let up : BootsAs f n came_up k = subst (λ (r : Result Moment BootFault). BootsAs f n r k) is boots in
+      record {
+        count = set_length cur place k ∙ b.count;
+        done = λ p a c lt i j. ⊎_elim
+            (λ below. b.done p a c below i (set_other cur place p k c (λ s. absurd (omega (arith, s, below))) j))
+            (λ above. let here : p ≡ place = omega (arith, above, lt) in
+            let mine : c ≡ k = set_here cur place k c (subst (λ (q : ℕ). slice_get (slice_set cur place k) q ≡ Some c) here j) in
+            let first : n ≡ a = b.rest place a n (omega arith) (subst (λ (q : ℕ). slice_get old q ≡ Some a) here i) at in
+            rw (mine, ← first) up)
+            (cases_lt p place);
+        rest = λ p a c le i j. b.rest p a c (omega (arith, le)) i (set_other cur place p k c (λ s. absurd (omega (arith, s, le))) j);
+        latest = λ p a c lt i j. ⊎_elim
+            (λ below. by_later c.journal now later (omega (arith, raised)) (b.latest p a c below i (set_other cur place p k c (λ s. absurd (omega (arith, s, below))) j)))
+            (λ above. let here : p ≡ place = omega (arith, above, lt) in
+            let mine : c ≡ k = set_here cur place k c (subst (λ (q : ℕ). slice_get (slice_set cur place k) q ≡ Some c) here j) in
+            rw mine (by_last k.journal last later known (omega (arith, raised))))
+            (cases_lt p place);
+        reached = ⊎_elim
+            (λ less. inr (place, k, omega arith, set_at cur place k n at, subst (λ (t : ℕ). IsLast f k.journal t) (omega (arith, raised, less)) known))
+            (λ le. let same : now ≡ later = omega (arith, raised, le) in
+            ⊎_elim
+            (λ none. inl (sym same ∙ none))
+            (λ (p, c, below, i, was). inr (p, c, omega (arith, below), set_get cur place p k c (λ s. absurd (omega (arith, s, below))) i, subst (λ (t : ℕ). IsLast f c.journal t) same was))
+            b.reached)
+            (cases_lt now last);
+      }
+
+  pub boots_stop : (place now : ℕ) (cur : List NodeSeen) (n k : NodeSeen) (answer : Result Moment BootFault) (why : BootFault) → BootsUpTo f place now old cur → slice_get cur place ≡ Some n → BootsAs f n answer k → answer ≡ Err why → place < length old
+      → BootStops f place why old (slice_set cur place k)
+  boots_stop place now cur n k answer why b at boots is within =
+      let no : BootsAs f n (no_boot why) k = subst (λ (r : Result Moment BootFault). BootsAs f n r k) is boots in
+      record {
+        count = set_length cur place k ∙ b.count;
+        within = within;
+        done = λ p a c lt i j. b.done p a c lt i (set_other cur place p k c (λ s. absurd (omega (arith, s, lt))) j);
+        refused = λ a c i j.
+            let mine : c ≡ k = set_here cur place k c j in
+            let first : n ≡ a = b.rest place a n (omega arith) i at in
+            rw (mine, ← first) no;
+        rest = λ p a c lt i j. b.rest p a c (omega (arith, lt)) i (set_other cur place p k c (λ s. absurd (omega (arith, s, lt))) j);
+      }
+
+  pub boots_whole : (place now : ℕ) (cur : List NodeSeen) → length old ≤ place → BootsUpTo f place now old cur → BootsUpTo f (length old) now old cur
+  boots_whole place now cur le b = record {
+    count = b.count;
+    done = λ p n k lt i j. b.done p n k (omega (arith, lt, le)) i j;
+    rest = λ p n k past i j. absurd (omega (arith, past, get_less old p n i));
+    latest = λ p n k lt i j. b.latest p n k (omega (arith, lt, le)) i j;
+    reached = ⊎_elim (λ none. inl none) (λ (p, k, below, i, was). inr (p, k, omega (arith, b.count, get_less cur p k i), i, was)) b.reached;
+  }

@@ -1,0 +1,146 @@
+-- What a call of a node makes of its world.
+use Rattle.std.proofs.Common.{◌≡◌, ◌⊎◌, inl, inr, ⊎_elim, ℕ, ◌+◌, ◌≤◌, Bool, true, false, List, [], ◌∷◌, ◌++◌, Option, Some, None, Result, Ok, Err, refl, sym, ◌∙◌, ap, subst, arith}
+use Rattle.std.proofs.lemmas.Option.{same_Some}
+use Rattle.std.proofs.lemmas.Bool.{true≢false}
+use Rattle.outside.specs.Disk.{DiskState, DiskView, IsImage, EachImage}
+use Rattle.outside.specs.Faults.{Rose}
+use Rattle.outside.proofs.Moments.{at_now}
+use Rattle.net_base.specs.declared.names.Identity.{Identity}
+use Rattle.net_base.specs.declared.causes.Event.{Event}
+use Rattle.flow_machine.specs.Machine.{Machine}
+use Rattle.disk_journal.specs.Journal.{journal_of}
+use Rattle.net_model.specs.Environment.{Environment, environment, identity}
+use Rattle.node_core.specs.Journals.{Reads, is_full}
+use Rattle.node_core.specs.Disks.{Moves, Holds, OldOrMore}
+use Rattle.node_core.specs.Seen.{NodeSeen, Pends, Commits, Faults}
+use Rattle.network_core.specs.Worlds.{NodeWorld, MaySpell, ShowsJournal, NodeShows, NodeCoherent, Sound}
+use Rattle.network_core.specs.Serves.{WorldCommits, WorldFaults}
+use Rattle.network_core.proofs.Locals.{sound_push}
+
+-- the images now are of those since
+pub images_now : (old new : DiskView) (may : DiskState → List ℕ → Type 0) → Moves old new may → old.tells ≡ true → (c : List ℕ) → IsImage new.state.now c → may old.state c
+images_now old new may moves tells c image = at_now old.state new.state (may old.state) (moves.images tells) c image
+
+pub shows_down : (journal : Option (List (List ℕ))) (y : NodeWorld) → journal ≡ None → y.up ≡ false → ShowsJournal journal y
+shows_down None y none down = down
+shows_down (Some b) y none down = cc
+
+shows_like : (journal : Option (List (List ℕ))) (x y : NodeWorld) → ShowsJournal journal x → y.up ≡ x.up → y.journal ≡ x.journal → y.other ≡ x.other → ShowsJournal journal y
+shows_like None x y shows up kept other = up ∙ shows
+shows_like (Some b) x y shows up kept other = (up ∙ shows.0, kept ∙ shows.1, other ∙ shows.2)
+
+pub shows_same : (journal after : Option (List (List ℕ))) (x y : NodeWorld) → ShowsJournal journal x → journal ≡ after → y.up ≡ x.up → y.journal ≡ x.journal → y.other ≡ x.other → ShowsJournal after y
+shows_same journal after x y shows is up kept other = rw (← is) (shows_like journal x y shows up kept other)
+
+-- what isn't true is false
+pub not_true : (b : Bool) → (b ≡ true → ⊥) → b ≡ false
+not_true true h = absurd (h refl)
+not_true false h = refl
+
+module _ {F : Type 0} (m : Machine F) (f : Reads F) (id : Identity) (p now : ℕ) (n k : NodeSeen) (x : NodeWorld) (shows : NodeShows (environment m f id) p n x) (coherent : NodeCoherent (environment m f id) p now x) where
+  abbrev e : Environment F
+  e = environment m f id
+
+  -- the node's own environment is the network's
+  pub pends_here : (bodies : List (List ℕ)) (event : Event) (body : List ℕ) → Pends (environment m f n.identity) n.identity.party.0 now bodies event body → Pends e p now bodies event body
+  pends_here bodies event body pends = subst (λ (i : Identity). Pends (environment m f i) i.party.0 now bodies event body) shows.identity_is pends
+
+  module _ (bodies : List (List ℕ)) (here : n.journal ≡ Some bodies) where
+    pub stands : ShowsJournal (Some bodies) x
+    stands = rw here at shows.journal
+
+    sound : Sound e p now bodies
+    sound = coherent.every bodies (inl (sym stands.1))
+
+    module _ (event : Event) where
+      pub commits_world : Commits (environment m f n.identity) now bodies event n k → (y : NodeWorld) × NodeShows e p k y × NodeCoherent e p now y × WorldCommits e p now event x y
+      commits_world c =
+          let more = bodies ++ c.body ∷ [] in
+          let pends = pends_here bodies event c.body c.appended.pends in
+          let longer = sound_push e p now bodies event c.body sound pends in
+          let tells : k.disk.tells ≡ true = c.appended.moves.tells ∙ shows.tells in (
+            record { up = true; journal = more; other = None; faults = k.disk.faults; calm = k.disk.calm; file = x.file },
+            record {
+              identity_is = c.identity ∙ shows.identity_is;
+              tells = tells;
+              images = λ b image. inl (c.appended.holds.images tells b image);
+              kept = c.appended.holds.kept tells;
+              journal = rw c.journal (refl, refl, refl);
+              counts = refl;
+              calm_is = refl;
+              file_is = shows.file_is ∙ sym c.appended.moves.file;
+            },
+            record { every = λ l may. ⊎_elim (λ is. rw is longer) (λ is. cc) may; one = λ u. refl },
+            record {
+              was_up = stands.0;
+              room = rw stands.1 c.appended.room;
+              body = c.body;
+              pends = rw stands.1 pends;
+              after = rw stands.1 refl;
+              later = rw shows.counts c.appended.moves.later;
+              calm = λ calm. c.appended.calm (sym shows.calm_is ∙ calm);
+            },
+          )
+
+      abbrev Faulted : NodeWorld → List ℕ → Type 0
+      Faulted y body = (y.up ≡ false) × (((y.journal ≡ bodies) × (y.other ≡ Some (bodies ++ body ∷ []))) ⊎ ((y.journal ≡ bodies ++ body ∷ []) × (y.other ≡ Some bodies)))
+
+      -- each list that may be spelt is the old one or the one with the pending record
+      lists_of : (y : NodeWorld) (body : List ℕ) (l : List (List ℕ)) → Faulted y body → MaySpell y l → (l ≡ bodies) ⊎ (l ≡ bodies ++ body ∷ [])
+      lists_of y body l (down, inl (a, b)) (inl is) = inl (is ∙ a)
+      lists_of y body l (down, inl (a, b)) (inr is) = inr (same_Some _ _ (sym is ∙ b))
+      lists_of y body l (down, inr (a, b)) (inl is) = inr (is ∙ a)
+      lists_of y body l (down, inr (a, b)) (inr is) = inl (same_Some _ _ (sym is ∙ b))
+
+      -- and both may be spelt
+      spells_of : (y : NodeWorld) (body : List ℕ) (l : List (List ℕ)) → Faulted y body → (l ≡ bodies) ⊎ (l ≡ bodies ++ body ∷ []) → MaySpell y l
+      spells_of y body l (down, inl (a, b)) (inl is) = inl (is ∙ sym a)
+      spells_of y body l (down, inl (a, b)) (inr is) = inr (b ∙ ap Some (sym is))
+      spells_of y body l (down, inr (a, b)) (inl is) = inr (b ∙ ap Some (sym is))
+      spells_of y body l (down, inr (a, b)) (inr is) = inl (is ∙ sym a)
+
+      -- the node's world after a fault, but for its lists
+      record Rest (y : NodeWorld) (kept : List (List ℕ)) : Type 0 where
+        same : kept ≡ y.journal
+        faults_are : y.faults ≡ k.disk.faults
+        calm_is : y.calm ≡ k.disk.calm
+        file_is : y.file ≡ x.file
+
+      world_of_fault : (body : List ℕ) (kept : List (List ℕ)) → (kept ≡ bodies) ⊎ (kept ≡ bodies ++ body ∷ []) → (y : NodeWorld) × Faulted y body × Rest y kept
+      world_of_fault body kept (inl is) = (record { up = false; journal = bodies; other = Some (bodies ++ body ∷ []); faults = k.disk.faults; calm = k.disk.calm; file = x.file }, (refl, inl (refl, refl)), record { same = is; faults_are = refl; calm_is = refl; file_is = refl })
+      world_of_fault body kept (inr is) = (record { up = false; journal = bodies ++ body ∷ []; other = Some bodies; faults = k.disk.faults; calm = k.disk.calm; file = x.file }, (refl, inr (refl, refl)), record { same = is; faults_are = refl; calm_is = refl; file_is = refl })
+
+      faults_of : (c : Faults (environment m f n.identity) now bodies event n k) (y : NodeWorld) → Faulted y c.body → Rest y (journal_of k.disk.state.kept) → NodeShows e p k y × NodeCoherent e p now y × WorldFaults e p now event x y
+      faults_of c y faulted rest =
+          let pends = pends_here bodies event c.body c.failing.pends in
+          let longer = sound_push e p now bodies event c.body sound pends in
+          let rose : Rose x.faults y.faults = rw (shows.counts, rest.faults_are) c.failing.rose in (
+            record {
+              identity_is = c.identity ∙ shows.identity_is;
+              tells = c.failing.moves.tells ∙ shows.tells;
+              images = λ b image. spells_of y c.body (journal_of b) faulted (images_now n.disk k.disk (OldOrMore bodies c.body) c.failing.moves shows.tells b image);
+              kept = rest.same;
+              journal = shows_down k.journal y c.journal faulted.0;
+              counts = rest.faults_are;
+              calm_is = rest.calm_is;
+              file_is = rest.file_is ∙ shows.file_is ∙ sym c.failing.moves.file;
+            },
+            record { every = λ l may. ⊎_elim (λ is. rw is sound) (λ is. rw is longer) (lists_of y c.body l faulted may); one = λ u. absurd (true≢false (sym u ∙ faulted.0)) },
+            record {
+              was_up = stands.0;
+              room = rw stands.1 c.failing.room;
+              body = c.body;
+              pends = rw stands.1 pends;
+              down = faulted.0;
+              lists = λ l may. rw stands.1 (lists_of y c.body l faulted may);
+              rose = rose;
+              calm = not_true x.calm (λ calm. c.failing.calm (sym shows.calm_is ∙ calm));
+              file = rest.file_is;
+            },
+          )
+
+      pub faults_world : Faults (environment m f n.identity) now bodies event n k → (y : NodeWorld) × NodeShows e p k y × NodeCoherent e p now y × WorldFaults e p now event x y
+      faults_world c =
+          let found = world_of_fault c.body (journal_of k.disk.state.kept) (c.failing.moves.kept shows.tells) in
+          let all = faults_of c found.0 found.1 found.2 in
+          (found.0, all.0, all.1, all.2)

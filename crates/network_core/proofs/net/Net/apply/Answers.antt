@@ -1,0 +1,40 @@
+use Rattle.std.proofs.Common.{◌≡◌, arith}
+use Rattle.network_core.proofs.Places.{start_world, turn_world, cut_within, clock_world}
+use Rattle.network_core.proofs.Booting.{boot_world}
+use Rattle.network_core.proofs.Turning.{same_count, drained_world, short_world}
+use Rattle.network_core.specs.Answers.{StartServes, TurnServes, CutServes, BootServes}
+use Rattle.network_core.proofs.net.Net.apply.Goals as goal
+
+pub returns-in-Clock-clause-serves : goal.returns-in-Clock-clause-serves
+returns-in-Clock-clause-serves g c = rw c.in-Clock.is (clock_world g.F.FlowSet.machine g.F.Spelt.reading c.args.self.now c.clock.new.self c.in-Clock.to.0 c.clock.result c.clock.ensures)
+
+pub returns-in-Start-clause-serves : goal.returns-in-Start-clause-serves
+returns-in-Start-clause-serves g c = rw c.in-Start.is (start_world g.F.FlowSet.machine g.F.Spelt.reading c.in-Start.node c.args.self.now c.start.new.self c.start.result c.in-Start.class c.in-Start.args c.start.ensures.clock c.start.ensures.serves)
+
+pub returns-in-Turn-clause-serves : goal.returns-in-Turn-clause-serves
+returns-in-Turn-clause-serves g c = rw c.in-Turn.is (turn_world g.F.FlowSet.machine g.F.Spelt.reading c.in-Turn.node c.args.self.now c.turn.new.self c.turn.result c.in-Turn.pick c.turn.ensures.clock c.turn.ensures.serves)
+
+pub returns-else-outcome-gt3-clause-serves : goal.returns-else-outcome-gt3-clause-serves
+returns-else-outcome-gt3-clause-serves g c =
+    rw c.in-Cut.is (cut_within g.F.FlowSet.machine g.F.Spelt.reading c.in-Cut.node c.args.self.now c.cut.new.self c.cut.result c.in-Cut.calls c.in-Cut.outcome (omega (arith, c.if-outcome-gt3.false)) c.cut.ensures.clock c.cut.ensures.serves)
+
+pub returns-in-Boot-clause-serves : goal.returns-in-Boot-clause-serves
+returns-in-Boot-clause-serves g c = rw c.in-Boot.is (boot_world g.F.FlowSet.machine g.F.Spelt.reading c.in-Boot.node c.args.self.now c.boot.new.self c.boot.result c.boot.ensures.clock c.boot.ensures.serves)
+
+pub returns-in-Ok-clause-serves : goal.returns-in-Ok-clause-serves
+returns-in-Ok-clause-serves g c = rw c.in-Drain.is (drained_world g.F.FlowSet.machine g.F.Spelt.reading c.args.self.now c.drain.new.self c.drain.result c.in-Ok.full c.in-Ok.is c.drain.ensures.world)
+
+pub returns-in-Err-clause-serves : goal.returns-in-Err-clause-serves
+returns-in-Err-clause-serves g c = rw c.in-Drain.is (short_world g.F.FlowSet.machine g.F.Spelt.reading c.args.self.now c.drain.new.self c.drain.result c.in-Err.fault c.in-Err.is c.drain.ensures.world)
+
+pub returns-in-Start-clause-count : goal.returns-in-Start-clause-count
+returns-in-Start-clause-count g c = same_count c.in-Start.node c.args.self.now c.start.new.self c.start.result (λ n r k. StartServes g.F.FlowSet.machine g.F.Spelt.reading c.args.self.now.now c.in-Start.class c.in-Start.args n r k) c.start.ensures.serves
+
+pub returns-in-Turn-clause-count : goal.returns-in-Turn-clause-count
+returns-in-Turn-clause-count g c = same_count c.in-Turn.node c.args.self.now c.turn.new.self c.turn.result (λ n r k. TurnServes g.F.FlowSet.machine g.F.Spelt.reading c.args.self.now.now c.in-Turn.pick n r k) c.turn.ensures.serves
+
+pub returns-else-outcome-gt3-clause-count : goal.returns-else-outcome-gt3-clause-count
+returns-else-outcome-gt3-clause-count g c = same_count c.in-Cut.node c.args.self.now c.cut.new.self c.cut.result (λ n r k. CutServes c.in-Cut.calls c.in-Cut.outcome n r k) c.cut.ensures.serves
+
+pub returns-in-Boot-clause-count : goal.returns-in-Boot-clause-count
+returns-in-Boot-clause-count g c = same_count c.in-Boot.node c.args.self.now c.boot.new.self c.boot.result (λ n r k. BootServes g.F.Spelt.reading n r k) c.boot.ensures.serves

@@ -1,0 +1,30 @@
+use Rattle.std.proofs.Common.{◌≡◌, ◌+◌, refl, arith, ap, length, rules, sym, ◌∙◌, add-one, take, ℕ, suc, ◌++◌, ◌∷◌, [], length-append}
+use Rattle.std.proofs.lemmas.Option.{slice_get_read}
+use Rattle.network_core.proofs.Linking.{links_none, links_more, links_end, links_all, split_there}
+use Rattle.network_core.proofs.net.Net.apply_all.Goals as goal
+
+pub steps-init : goal.steps-init
+steps-init g c = record { links = links_none g.F.FlowSet.machine g.F.Spelt.reading _ _ c.requires.0; count = omega (arith, c.args.outcomes.now.ok.0, ap length c.requires.0); spare = c.requires.1 }
+
+pub returns-in_default : goal.returns-in_default
+returns-in_default g c =
+    let steps = c.args.steps.now in
+    let at = slice_get_read steps (length steps) c.steps.step-index c.step-item.result refl (omega arith) c.step-item.is in
+    links_end g.F.FlowSet.machine g.F.Spelt.reading _ _ _ steps _ _ _ c.step-item.result c.steps.invariant.links (rw c.in_default.is at c.apply.ensures.serves) (split_there steps c.steps.step-index c.step-item.result at).0
+
+pub steps-preserved : goal.steps-preserved
+steps-preserved g c =
+    let steps = c.args.steps.now in
+    let i = c.steps.step-index in
+    let at = slice_get_read steps (length steps) i c.step-item.result refl (omega arith) c.step-item.is in
+    let two = split_there steps i c.step-item.result at in
+    let pushed : c.push.new.self.items ≡ c.steps.outcomes.items ++ c.in-Ok.outcome ∷ [] = rw c.unwrap.ensures at c.push.ensures.items in
+    let longer : take (i + 1) steps ≡ take i steps ++ c.step-item.result ∷ [] = rw add-one two.1 in
+    record {
+      links = links_more g.F.FlowSet.machine g.F.Spelt.reading _ _ _ _ _ _ _ c.step-item.result c.in-Ok.outcome c.steps.invariant.links (rw c.in-Ok.is at c.apply.ensures.serves) longer pushed;
+      count = omega (arith, c.steps.invariant.count, c.push.new.self.ok.0, c.steps.outcomes.ok.0, length-append c.steps.outcomes.items (c.in-Ok.outcome ∷ []), ap length pushed);
+      spare = search rules;
+    }
+
+pub returns : goal.returns
+returns g c = links_all g.F.FlowSet.machine g.F.Spelt.reading _ _ c.args.steps.now c.steps.step-index _ c.steps-test.false c.steps.invariant.links

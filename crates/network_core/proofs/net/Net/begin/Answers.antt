@@ -1,0 +1,54 @@
+use Rattle.std.proofs.Common.{◌≡◌, ◌+◌, ◌<◌, ◌≤◌, refl, arith, ap, length, map, Some, sym, ◌∙◌, subst, List, ℕ}
+use Rattle.std.specs.List.{slice_get}
+use Rattle.outside.specs.Disk.{DiskView}
+use Rattle.node_core.specs.Disks.{roomless}
+use Rattle.node_core.specs.Seen.{NodeSeen}
+use Rattle.network_core.specs.Begins.{nodes_over, BootsUpTo, BootStops}
+use Rattle.network_core.proofs.Faithful.{map_length, map_twice}
+use Rattle.network_core.proofs.Beginning.{begins_world, refused_world, refused_early, over_down, over_length, all_by_last}
+use Rattle.network_core.proofs.net.Net.begin.Goals as goal
+
+pub returns-in_default-clause-refused : goal.returns-in_default-clause-refused
+returns-in_default-clause-refused g c = refused_early g.F.FlowSet.machine g.F.Spelt.reading c.args.nodes c.args.notary (map g.D.Disk.seen c.args.disks.items)
+
+pub returns-in_default-with_capacity-clause-refused : goal.returns-in_default-with_capacity-clause-refused
+returns-in_default-with_capacity-clause-refused g c = refused_early g.F.FlowSet.machine g.F.Spelt.reading c.args.nodes c.args.notary (map g.D.Disk.seen c.args.disks.items)
+
+pub boot_all-requires-clause-few : goal.boot_all-requires-clause-few
+boot_all-requires-clause-few g c =
+    let ds = map g.D.Disk.seen c.args.disks.items in
+    omega (arith, ap length c.nodes_over-places.ensures, over_length c.args.nodes c.args.notary 0 ds, map_length g.D.Disk.seen c.args.disks.items, c.requires.disks, c.requires.nodes)
+
+pub boot_all-requires-clause-down : goal.boot_all-requires-clause-down
+boot_all-requires-clause-down g c p n at =
+    over_down c.args.nodes c.args.notary 0 (map g.D.Disk.seen c.args.disks.items) p n (subst (λ (l : List NodeSeen). slice_get l p ≡ Some n) c.nodes_over-places.ensures at)
+
+pub disks_of-requires-clause-room : goal.disks_of-requires-clause-room
+disks_of-requires-clause-room g c =
+    let ds = map g.D.Disk.seen c.args.disks.items in
+    omega (arith, c.in-Err.ensures.err.count, ap length c.nodes_over-places.ensures, over_length c.args.nodes c.args.notary 0 ds, map_length g.D.Disk.seen c.args.disks.items, c.len-2.ensures, c.args.disks.ok.0, c.in-Ok-with_capacity.ensures.capacity)
+
+pub returns-in-Ok-boot_all-clause-ok : goal.returns-in-Ok-boot_all-clause-ok
+returns-in-Ok-boot_all-clause-ok g c =
+    let ds = map g.D.Disk.seen c.args.disks.items in
+    let olds = nodes_over c.args.nodes c.args.notary 0 ds in
+    let count : length c.nodes_over-places.result.items ≡ length ds = ap length c.nodes_over-places.ensures ∙ over_length c.args.nodes c.args.notary 0 ds in
+    let booted : BootsUpTo g.F.Spelt.reading (length ds) c.in-Ok-boot_all.now.0 c.nodes_over-places.result.items c.boot_all.new.nodes.items = subst (λ (i : ℕ). BootsUpTo g.F.Spelt.reading i c.in-Ok-boot_all.now.0 c.nodes_over-places.result.items c.boot_all.new.nodes.items) count c.in-Ok-boot_all.ensures.ok in
+    begins_world g.F.FlowSet.machine g.F.Spelt.reading c.args.nodes c.args.notary ds (record { nodes = c.boot_all.new.nodes.items; now = c.in-Ok-boot_all.now.0 }) (subst (λ (l : List NodeSeen). BootsUpTo g.F.Spelt.reading (length ds) c.in-Ok-boot_all.now.0 l c.boot_all.new.nodes.items) c.nodes_over-places.ensures booted)
+
+pub returns-in-Err-clause-refused : goal.returns-in-Err-clause-refused
+returns-in-Err-clause-refused g c =
+    let ds = map g.D.Disk.seen c.args.disks.items in
+    let stops = subst (λ (l : List NodeSeen). BootStops g.F.Spelt.reading c.in-Err.stopped.place c.in-Err.stopped.why l c.boot_all.new.nodes.items) c.nodes_over-places.ensures c.in-Err.ensures.err in
+    let handed = map_twice roomless g.D.Disk.seen (λ d. roomless (g.D.Disk.seen d)) c.disks_of.result.items (λ d. refl) ∙ c.disks_of.ensures in
+    refused_world g.F.FlowSet.machine g.F.Spelt.reading c.args.nodes c.args.notary ds c.in-Err.stopped.place c.in-Err.stopped.why c.boot_all.new.nodes.items stops (map g.D.Disk.seen c.disks_of.result.items) handed
+
+pub invariant_of-result : goal.invariant_of-result
+invariant_of-result g c =
+    let ds = map g.D.Disk.seen c.args.disks.items in
+    (all_by_last g.F.Spelt.reading c.nodes_over-places.result.items c.boot_all.new.nodes.items c.in-Ok-boot_all.now.0 c.in-Ok-boot_all.ensures.ok, c.in-Ok-with_capacity.ensures.items, omega (arith, c.in-Ok-boot_all.ensures.ok.count, ap length c.nodes_over-places.ensures, over_length c.args.nodes c.args.notary 0 ds, map_length g.D.Disk.seen c.args.disks.items, c.len-2.ensures, c.args.disks.ok.0, c.in-Ok-with_capacity.ensures.capacity), omega (arith, c.in-Ok-boot_all.ensures.ok.count, ap length c.nodes_over-places.ensures, over_length c.args.nodes c.args.notary 0 ds, map_length g.D.Disk.seen c.args.disks.items, c.requires.disks, c.requires.nodes))
+
+pub returns-in-Ok-boot_all-clause-count : goal.returns-in-Ok-boot_all-clause-count
+returns-in-Ok-boot_all-clause-count g c =
+    let ds = map g.D.Disk.seen c.args.disks.items in
+    omega (arith, c.in-Ok-boot_all.ensures.ok.count, ap length c.nodes_over-places.ensures, over_length c.args.nodes c.args.notary 0 ds, map_length g.D.Disk.seen c.args.disks.items, c.requires.disks)

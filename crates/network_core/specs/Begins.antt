@@ -1,0 +1,100 @@
+-- How a network begins: over disks of which it is known what they may leave.
+use Rattle.std.specs.Prelude.{◌≡◌, ◌⊎◌, ℕ, ◌+◌, ◌<◌, ◌≤◌, true, false, List, [], ◌∷◌, length, map, slice_get, MatchOption, Option, Some, None, Result, Ok, Err}
+use Rattle.outside.specs.Disk.{DiskView}
+use Rattle.net_base.specs.declared.names.Identity.{Identity}
+use Rattle.net_base.specs.declared.values.Party.{Party}
+use Rattle.flow_machine.specs.Machine.{Machine}
+use Rattle.net_model.specs.Environment.{Environment, environment, party}
+use Rattle.node_core.specs.Journals.{Reads, state_of}
+use Rattle.node_core.specs.declared.faults.BootFault.{BootFault}
+use Rattle.node_core.specs.declared.faults.BootFault.TheVariants as boot_fault
+use Rattle.node_core.specs.Seen.{NodeSeen, BootsAs, IsBy}
+use Rattle.node_core.specs.Disks.{roomless}
+use Rattle.network_core.specs.Worlds.{World, NodeWorld, NetSeen, MaySpell, Shows, Coherent}
+
+-- the identity of the node at a place of a network
+abbrev pub member : ℕ → Party → ℕ → Identity
+member nodes notary p = record { party = party p; nodes = nodes; notary = notary }
+
+-- a node that was down is up on its journal, which every image spells; a calm disk stays calm
+pub record BeginsUp (x y : NodeWorld) : Type 0 where
+  pub after : y ≡ record { up = true; journal = x.journal; other = None; faults = y.faults; calm = y.calm; file = x.file }
+  pub later : x.faults ≤ y.faults
+  pub calm : x.calm ≡ true → y.calm ≡ true
+
+-- a node's disk may leave no journal that it might not have left before, and but for a fault it keeps what it kept
+pub record LeavesDisk (why : BootFault) (x y : NodeWorld) : Type 0 where
+  pub down : y.up ≡ false
+  pub lists : (l : List (List ℕ)) → MaySpell y l → MaySpell x l
+  pub kept : (why ≡ boot_fault.Fault → ⊥) → y.journal ≡ x.journal
+  pub later : x.faults ≤ y.faults
+  pub file : y.file ≡ x.file
+
+-- a refused boot
+abbrev pub no_boot : BootFault → Result (Unit {0}) BootFault
+no_boot why = Err why
+
+-- a boot that was not refused
+abbrev pub came_up : Result (Unit {0}) BootFault
+came_up = Ok tt
+
+-- the moment of the last cause of a node's journal, 0 without one or where the node is down
+abbrev pub IsLast : {F : Type 0} → Reads F → Option (List (List ℕ)) → ℕ → Type 0
+IsLast frame_at journal last = MatchOption journal (last ≡ 0) (λ bodies. last ≡ (state_of frame_at bodies).moment)
+
+-- the nodes before a place were booted, and the moment is the greatest of their last causes'
+pub record BootsUpTo {F : Type 0} (frame_at : Reads F) (place now : ℕ) (old new : List NodeSeen) : Type 0 where
+  pub count : length new ≡ length old
+  pub done : (p : ℕ) (n k : NodeSeen) → p < place → slice_get old p ≡ Some n → slice_get new p ≡ Some k → BootsAs frame_at n came_up k
+  pub rest : (p : ℕ) (n k : NodeSeen) → place ≤ p → slice_get old p ≡ Some n → slice_get new p ≡ Some k → k ≡ n
+  pub latest : (p : ℕ) (n k : NodeSeen) → p < place → slice_get old p ≡ Some n → slice_get new p ≡ Some k → IsBy frame_at k.journal now
+  pub reached : (now ≡ 0) ⊎ ((p : ℕ) × (k : NodeSeen) × (p < place) × (slice_get new p ≡ Some k) × IsLast frame_at k.journal now)
+
+-- the nodes before a place were booted, the boot at that place was refused, and those behind it were left
+pub record BootStops {F : Type 0} (frame_at : Reads F) (place : ℕ) (why : BootFault) (old new : List NodeSeen) : Type 0 where
+  pub count : length new ≡ length old
+  pub within : place < length old
+  pub done : (p : ℕ) (n k : NodeSeen) → p < place → slice_get old p ≡ Some n → slice_get new p ≡ Some k → BootsAs frame_at n came_up k
+  pub refused : (n k : NodeSeen) → slice_get old place ≡ Some n → slice_get new place ≡ Some k → BootsAs frame_at n (no_boot why) k
+  pub rest : (p : ℕ) (n k : NodeSeen) → place < p → slice_get old p ≡ Some n → slice_get new p ≡ Some k → k ≡ n
+
+-- a node that is down over a disk, at a place of a network
+abbrev pub node_over : ℕ → Party → ℕ → DiskView → NodeSeen
+node_over nodes notary p disk = record { identity = member nodes notary p; disk = roomless disk; journal = None }
+
+-- nodes that are down over these disks, from a place on
+abbrev pub nodes_over : ℕ → Party → ℕ → List DiskView → List NodeSeen
+nodes_over nodes notary p [] = []
+nodes_over nodes notary p (d ∷ ds) = node_over nodes notary p d ∷ nodes_over nodes notary (p + 1) ds
+
+-- a network whose nodes are down over these disks, at a moment
+abbrev pub net_over : ℕ → Party → ℕ → List DiskView → NetSeen
+net_over nodes notary now disks = record { nodes = nodes_over nodes notary 0 disks; now = now }
+
+-- each node came up on its journal, and the moment is the greatest of their last causes', 0 without one
+pub record Begun {F : Type 0} (e : Environment F) (w v : World) : Type 0 where
+  pub count : length v.nodes ≡ length w.nodes
+  pub each : (p : ℕ) (x y : NodeWorld) → slice_get w.nodes p ≡ Some x → slice_get v.nodes p ≡ Some y → BeginsUp x y
+  pub latest : (p : ℕ) (y : NodeWorld) → slice_get v.nodes p ≡ Some y → (state_of e.frame_at y.journal).moment ≤ v.now
+  pub reached : (v.now ≡ 0) ⊎ ((p : ℕ) × (y : NodeWorld) × (slice_get v.nodes p ≡ Some y) × (v.now ≡ (state_of e.frame_at y.journal).moment))
+
+-- from each coherent world over the disks, whatever its moment, a network begins in a coherent world in which every node is up
+abbrev pub BeginsWorld : {F : Type 0} → Machine F → Reads F → ℕ → Party → List DiskView → NetSeen → Type 0
+BeginsWorld m frame_at nodes notary disks net =
+    let e = environment m frame_at (member nodes notary 0) in
+    (now : ℕ) (w : World) → Shows e (net_over nodes notary now disks) w → Coherent e w → (v : World) × Shows e net v × Coherent e v × Begun e w v
+
+-- the images of the disks spell no journals that they didn't spell before, and but for a fault what they keep is as before
+pub record StayDown (why : BootFault) (w v : World) : Type 0 where
+  pub count : length v.nodes ≡ length w.nodes
+  pub each : (p : ℕ) (x y : NodeWorld) → slice_get w.nodes p ≡ Some x → slice_get v.nodes p ≡ Some y → LeavesDisk why x y
+
+-- the boot of the node at that place was the first that was refused, so, or memory ran out before all boots; the disks come back in order; from each coherent world over
+-- the disks they go to a coherent world over those that come back
+pub record IsRefused {F : Type 0} (m : Machine F) (frame_at : Reads F) (nodes : ℕ) (notary : Party) (disks : List DiskView) (node : ℕ) (why : BootFault) (back : List DiskView) : Type 0 where
+  pub count : length back ≡ length disks
+  pub refused : ((why ≡ boot_fault.Memory) × (node ≡ 0) × (back ≡ disks))
+      ⊎ ((d : DiskView) × (b : DiskView) × (slice_get disks node ≡ Some d) × (slice_get back node ≡ Some b) × BootsAs frame_at (node_over nodes notary node d) (no_boot why) (node_over nodes notary node b))
+  pub later : (p : ℕ) (d b : DiskView) → node < p → slice_get disks p ≡ Some d → slice_get back p ≡ Some b → roomless b ≡ roomless d
+  pub world : let e = environment m frame_at (member nodes notary 0) in
+      (now : ℕ) (w : World) → Shows e (net_over nodes notary now disks) w → Coherent e w → (v : World) × Shows e (net_over nodes notary now back) v × Coherent e v × StayDown why w v

@@ -1,0 +1,6 @@
+pub mod Worlds
+pub mod Answers
+pub mod Serves
+pub mod Drains
+pub mod Served
+pub mod Begins

@@ -1,0 +1,44 @@
+-- Serve: what each step makes of a world, and what it answers.
+use Rattle.std.specs.Prelude.{◌≡◌, ◌⊎◌, ℕ, ◌<◌, ◌≤◌, Bool, List, [], ◌∷◌, ◌++◌, Option, Some, None, true, false, Ok, Err}
+use Rattle.net_model.specs.Environment.{Environment}
+use Rattle.network_core.specs.declared.steps.Outcome.{Outcome}
+use Rattle.network_core.specs.declared.steps.Outcome.TheVariants as outcome
+use Rattle.network_core.specs.declared.steps.Step.{Step}
+use Rattle.network_core.specs.declared.steps.Step.TheVariants as step
+use Rattle.network_core.specs.Worlds.{World}
+use Rattle.network_core.specs.Serves.{WorldClock, WorldPlace, WorldStarts, WorldTurns, WorldCuts, WorldBoots}
+use Rattle.network_core.specs.Drains.{Runs, RunsTo, Quiet}
+
+-- what a drain makes of a world, by its outcome
+abbrev pub WorldDrains : {F : Type 0} → Environment F → World → Option Outcome → World → Type 0
+WorldDrains e w None v = RunsTo e w None v
+WorldDrains e w (Some (outcome.Drained true)) v = RunsTo e w (Some (outcome.Refused 9)) v
+WorldDrains e w (Some (outcome.Drained false)) v = Runs e w v × Quiet e v
+WorldDrains e w (Some outcome.Fine) v = ⊥
+WorldDrains e w (Some (outcome.Started f)) v = ⊥
+WorldDrains e w (Some (outcome.Moved f)) v = ⊥
+WorldDrains e w (Some outcome.Idle) v = ⊥
+WorldDrains e w (Some outcome.Armed) v = ⊥
+WorldDrains e w (Some outcome.Down) v = ⊥
+WorldDrains e w (Some outcome.Booted) v = ⊥
+WorldDrains e w (Some outcome.Fault) v = ⊥
+WorldDrains e w (Some (outcome.Refused code)) v = ⊥
+
+-- what each step makes of a world, and its outcome, none at want of memory
+abbrev pub Serve : {F : Type 0} → Environment F → Step → World → Option Outcome → World → Type 0
+Serve e (step.Clock to) w o v = WorldClock to.0 w o v
+Serve e (step.Start node class args) w o v = WorldPlace node w o v (λ x r y. WorldStarts e node w.now class args x r y)
+Serve e (step.Turn node pick) w o v = WorldPlace node w o v (λ x r y. WorldTurns e node w.now pick x r y)
+Serve e (step.Cut node calls kind) w o v = ((3 < kind) × (o ≡ Some (outcome.Refused 1)) × (v ≡ w)) ⊎ ((kind ≤ 3) × WorldPlace node w o v (λ x r y. WorldCuts calls x r y))
+Serve e (step.Boot node) w o v = WorldPlace node w o v (λ x r y. WorldBoots x r y)
+Serve e step.Drain w o v = WorldDrains e w o v
+
+-- worlds that steps lead to, with their outcomes
+pub data Links {F : Type 0} (e : Environment F) : List Step → List Outcome → World → World → Type 0 where
+  none : {steps : List Step} {outcomes : List Outcome} {w v : World} → steps ≡ [] → outcomes ≡ [] → v ≡ w → Links e steps outcomes w v
+  more : {steps all : List Step} {outcomes more : List Outcome} {w u v : World} (s : Step) (o : Outcome) → Links e steps outcomes w u → Serve e s u (Some o) v → all ≡ steps ++ s ∷ [] → more ≡ outcomes ++ o ∷ [] → Links e all more w v
+
+-- all steps have their outcome, or the first ones have, and want of memory ended the next one
+abbrev pub Follows : {F : Type 0} → Environment F → List Step → List Outcome → Bool → World → World → Type 0
+Follows e steps outcomes true w v = Links e steps outcomes w v
+Follows e steps outcomes false w v = (first : List Step) × (s : Step) × (rest : List Step) × (u : World) × (steps ≡ first ++ s ∷ rest) × Links e first outcomes w u × Serve e s u None v

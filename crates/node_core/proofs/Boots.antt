@@ -1,0 +1,168 @@
+-- How a journal is opened, and the tables rebuilt from its bodies.
+use Rattle.std.proofs.Common.{◌≡◌, ◌⊎◌, inl, inr, ⊎_elim, ℕ, zero, suc, ◌+◌, ◌<◌, ◌≤◌, List, [], ◌∷◌, ◌++◌, length, map, Option, Some, None, Result, Ok, Err, Bool, true, false, cond, refl, sym, ◌∙◌, ap, subst, arith, append_assoc, length-append}
+use Rattle.std.proofs.lemmas.List.{append-nil, map-append, length-map}
+use Rattle.outside.specs.Disk.{DiskState, DiskView, IsImage, EachImage, IfTold, clean}
+use Rattle.outside.specs.Faults.{Rose}
+use Rattle.outside.proofs.Moments.{at_now}
+use Rattle.net_base.specs.declared.names.Identity.{Identity}
+use Rattle.net_model.specs.State.{NodeState, fresh, replay}
+use Rattle.disk_journal.specs.Journal.{JournalView, IsReady, IsSound, IsYoung, GivesUp, WasSpelt, journal_of, refusal, placed, size_of}
+use Rattle.disk_journal.specs.declared.fault.OpenFault.{OpenFault}
+use Rattle.disk_journal.specs.declared.fault.OpenFault.TheVariants as open_fault
+use Rattle.flow_records.specs.Records.{record_of}
+use Rattle.node_core.specs.declared.faults.BootFault.{BootFault}
+use Rattle.node_core.specs.declared.faults.BootFault.TheVariants as boot_fault
+use Rattle.node_core.specs.Journals.{Reads, state_of, bytes_of}
+use Rattle.node_core.specs.Fits.{fits_read, apply_read, misfit_from, misfit}
+use Rattle.node_core.specs.Disks.{roomless, Moves, KeepsForm, Holds}
+use Rattle.node_core.specs.Seen.{RunSeen, Tied, Opens, Refuses, Unopened, Unfit, Unbooted, Booted, RebuildsAs, boot_of}
+use Rattle.node_core.proofs.Runs.{state_push}
+use Rattle.node_core.proofs.Commits.{tied_holds}
+
+-- ---- the tables are rebuilt
+
+abbrev pub bodies_in : List (ℕ × List ℕ) → List (List ℕ)
+bodies_in list = map (λ x. x.1) list
+
+-- the place of the first misfit of all is that of the bodies left
+pub record Rebuilding {F : Type 0} (f : Reads F) (all : List (ℕ × List ℕ)) (built : List (List ℕ)) (left : List (ℕ × List ℕ)) : Type 0 where
+  pub all_of : built ++ bodies_in left ≡ bodies_in all
+  pub place : misfit f all ≡ misfit_from f (state_of f built) left
+
+pub rebuilding_none : {F : Type 0} (f : Reads F) (all : List (ℕ × List ℕ)) (built : List (List ℕ)) → built ≡ [] → Rebuilding f all built all
+unfolding misfit state_of replay
+rebuilding_none f all built none = rw none (record { all_of = refl; place = refl })
+
+pub rebuilding_more : {F : Type 0} (f : Reads F) (all : List (ℕ × List ℕ)) (built more : List (List ℕ)) (left rest : List (ℕ × List ℕ)) (x : ℕ × List ℕ) → Rebuilding f all built left → left ≡ x ∷ rest → more ≡ built ++ x.1 ∷ [] → fits_read (state_of f built) (record_of f x.1) ≡ true → Rebuilding f all more rest
+rebuilding_more f all built more left rest x so_far next same ok =
+    let here : misfit_from f (state_of f built) left ≡ misfit_from f (apply_read (state_of f built) (record_of f x.1)) rest = ap (misfit_from f (state_of f built)) next ∙ ap (λ b. cond b (misfit_from f (apply_read (state_of f built) (record_of f x.1)) rest) (Some x.0)) ok in
+    let there : Rebuilding f all (built ++ x.1 ∷ []) rest = record {
+      all_of = append_assoc built (x.1 ∷ []) (bodies_in rest) ∙ ap (λ l. built ++ bodies_in l) (sym next) ∙ so_far.all_of;
+      place = so_far.place ∙ here ∙ ap (λ s. misfit_from f s rest) (sym (state_push f built x.1));
+    } in
+    subst (λ b. Rebuilding f all b rest) (sym same) there
+
+pub misfit_here : {F : Type 0} (f : Reads F) (all : List (ℕ × List ℕ)) (built : List (List ℕ)) (left rest : List (ℕ × List ℕ)) (x : ℕ × List ℕ) → Rebuilding f all built left → left ≡ x ∷ rest → fits_read (state_of f built) (record_of f x.1) ≡ false → misfit f all ≡ Some x.0
+misfit_here f all built left rest x so_far next bad = so_far.place ∙ ap (misfit_from f (state_of f built)) next ∙ ap (λ b. cond b (misfit_from f (apply_read (state_of f built) (record_of f x.1)) rest) (Some x.0)) bad
+
+pub rebuilt : {F : Type 0} (f : Reads F) (all : List (ℕ × List ℕ)) (built : List (List ℕ)) (left : List (ℕ × List ℕ)) → Rebuilding f all built left → length left ≡ 0 → (built ≡ bodies_in all) × (misfit f all ≡ None)
+rebuilt f all built [] so_far none = (sym (append-nil built) ∙ so_far.all_of, so_far.place)
+rebuilt f all built (x ∷ xs) so_far none = absurd (omega (arith, none))
+
+-- fewer bodies were built than there are, while some are left
+pub fewer : {F : Type 0} (f : Reads F) (all : List (ℕ × List ℕ)) (built : List (List ℕ)) (left rest : List (ℕ × List ℕ)) (x : ℕ × List ℕ) → Rebuilding f all built left → left ≡ x ∷ rest → length all ≤ 65536 → length built < 65536
+fewer f all built left rest x so_far next few =
+    let sizes : length built + length (bodies_in left) ≡ length (bodies_in all) = sym (length-append built (bodies_in left)) ∙ ap length so_far.all_of in
+    let left_size : length left ≡ suc (length rest) = ap length next in
+    omega (arith, sizes, length-map left (λ (y : ℕ × List ℕ). y.1), length-map all (λ (y : ℕ × List ℕ). y.1), left_size, few)
+
+-- ---- a list with places
+
+placed_bodies : (at : ℕ) (bodies : List (List ℕ)) → bodies_in (placed at bodies) ≡ bodies
+placed_bodies at [] = refl
+placed_bodies at (b ∷ rest) = ap (λ l. b ∷ l) (placed_bodies (at + (5 + length b)) rest)
+
+sizes : (list : List (ℕ × List ℕ)) → bytes_of (bodies_in list) ≡ size_of list
+sizes [] = refl
+sizes (x ∷ xs) = ap (λ n. 5 + length x.1 + n) (sizes xs)
+
+-- ---- an opening
+
+-- what is kept is an image, where nothing is pending
+pub kept_image : (x : List ℕ) → IsImage (clean x) x
+kept_image x = record { no_shorter = omega arith; no_longer = omega arith; elsewhere = λ i below free. refl }
+
+-- all that an opening says of the journal that it gives
+pub record Opening (id : Identity) (old : DiskView) (journal : JournalView) (list : List (ℕ × List ℕ)) : Type 0 where
+  pub format : old.tells ≡ true → refusal id old.state.kept ≡ None
+  pub told : old.tells ≡ true → list ≡ placed 16 (journal_of old.state.kept)
+  pub ready : IsReady journal × (journal.of ≡ id)
+  pub same : IfTold old journal.disk (λ d e. journal_of e.kept ≡ journal_of d.kept)
+  pub counts : (journal.count ≡ length list) × (journal.length ≡ 17 + size_of list) × (journal.count ≤ 65536)
+  pub moments : IfTold old journal.disk (λ d e. EachImage d e (WasSpelt d))
+  pub young : IfTold old journal.disk (λ d e. ((c : List ℕ) → IsImage d.now c → IsYoung id c) → EachImage d e (IsYoung id))
+  pub sound : IfTold old journal.disk (λ d e. ((c : List ℕ) → IsImage d.now c → IsSound id c) → EachImage d e (IsSound id))
+  pub later : old.faults ≤ journal.disk.faults
+  pub calm : old.calm ≡ true → journal.disk.calm ≡ true
+  pub rest : (journal.disk.of_file ≡ old.of_file) × (journal.disk.tells ≡ old.tells)
+
+pub opening_tied : (id : Identity) (old : DiskView) (journal : JournalView) (list : List (ℕ × List ℕ)) (bodies : List (List ℕ)) → Opening id old journal list → bodies ≡ bodies_in list → Tied id journal bodies
+opening_tied id old journal list bodies o is =
+    let t : Tied id journal (bodies_in list) = record {
+      of = o.ready.1;
+      ready = o.ready.0;
+      counted = o.counts.0 ∙ sym (length-map list (λ (y : ℕ × List ℕ). y.1));
+      ended = o.counts.1 ∙ ap (λ n. 17 + n) (sym (sizes list));
+      kept = λ told.
+          let before : old.tells ≡ true = sym o.rest.1 ∙ told in
+          o.same before ∙ sym (placed_bodies 16 (journal_of old.state.kept)) ∙ ap bodies_in (sym (o.told before));
+    } in
+    subst (Tied id journal) (sym is) t
+
+pub opening_opens : (id : Identity) (old : DiskView) (journal : JournalView) (list : List (ℕ × List ℕ)) → Opening id old journal list → Opens id (roomless old) (roomless journal.disk) list
+opening_opens id old journal list o = record {
+  moves = record {
+    file = o.rest.0;
+    tells = o.rest.1;
+    later = o.later;
+    images = o.moments;
+    kept = λ told.
+        let after : journal.disk.tells ≡ true = o.rest.1 ∙ told in
+        let now : IsImage journal.disk.state.now journal.disk.state.kept = subst (λ s. IsImage s journal.disk.state.kept) (sym (o.ready.0 after).synced) (kept_image journal.disk.state.kept) in
+        at_now old.state journal.disk.state (WasSpelt old.state) (o.moments told) journal.disk.state.kept now;
+  };
+  form = record { sound = o.sound; young = o.young };
+  holds = tied_holds id journal (bodies_in list) (opening_tied id old journal list (bodies_in list) o refl);
+  few = omega (arith, o.counts.0, o.counts.2);
+  told = o.told;
+  format = o.format;
+  same = o.same;
+  calm = o.calm;
+}
+
+-- all that an opening says of the disk that it gives back
+pub record Closing (id : Identity) (old : DiskView) (why : OpenFault) (new : DiskView) : Type 0 where
+  pub refused : old.tells ≡ true → GivesUp why ⊎ (refusal id old.state.kept ≡ Some why)
+  pub kept : (why ≡ open_fault.Fault → ⊥) → IfTold old new (λ d e. journal_of e.kept ≡ journal_of d.kept)
+  pub moments : IfTold old new (λ d e. EachImage d e (WasSpelt d) × WasSpelt d e.kept)
+  pub young : IfTold old new (λ d e. ((c : List ℕ) → IsImage d.now c → IsYoung id c) → EachImage d e (IsYoung id))
+  pub sound : IfTold old new (λ d e. ((c : List ℕ) → IsImage d.now c → IsSound id c) → EachImage d e (IsSound id))
+  pub cause : why ≡ open_fault.Fault → Rose old.faults new.faults
+  pub later : old.faults ≤ new.faults
+  pub calm : old.calm ≡ true → (new.calm ≡ true) × (why ≡ open_fault.Fault → ⊥)
+  pub rest : (new.of_file ≡ old.of_file) × (new.tells ≡ old.tells)
+
+refuses : (id : Identity) (old new : DiskView) (why : OpenFault) → Closing id old why new → Refuses id why old new
+refuses id old new open_fault.Fault c = (c.cause refl, λ calm. (c.calm calm).1 refl)
+refuses id old new open_fault.Memory c = tt
+refuses id old new open_fault.NotAJournal c = λ told. ⊎_elim (λ (g : ⊥). absurd g) (λ e. e) (c.refused told)
+refuses id old new (open_fault.WrongNode found) c = λ told. ⊎_elim (λ (g : ⊥). absurd g) (λ e. e) (c.refused told)
+refuses id old new (open_fault.Damaged at) c = λ told. ⊎_elim (λ (g : ⊥). absurd g) (λ e. e) (c.refused told)
+
+refuses_roomless : (id : Identity) (old new : DiskView) (why : OpenFault) → Refuses id why old new → Refuses id why (roomless old) (roomless new)
+refuses_roomless id old new open_fault.Fault h = h
+refuses_roomless id old new open_fault.Memory h = h
+refuses_roomless id old new open_fault.NotAJournal h = h
+refuses_roomless id old new (open_fault.WrongNode found) h = h
+refuses_roomless id old new (open_fault.Damaged at) h = h
+
+pub unopened : {F : Type 0} (f : Reads F) (id : Identity) (old new : DiskView) (why : OpenFault) → Closing id old why new → Unbooted f id (roomless old) (boot_of why) (roomless new)
+unopened f id old new why c = record {
+  moves = record { file = c.rest.0; tells = c.rest.1; later = c.later; images = λ told. (c.moments told).0; kept = λ told. (c.moments told).1 };
+  form = record { sound = c.sound; young = c.young };
+  same = λ other. c.kept (λ is. other (ap boot_of is));
+  calm = λ calm. (c.calm calm).0;
+  cause = inl (why, refl, refuses_roomless id old new why (refuses id old new why c));
+}
+
+unfit : {F : Type 0} (f : Reads F) (id : Identity) (old new : DiskView) (list : List (ℕ × List ℕ)) (why : BootFault) (failed : Result RunSeen BootFault) → failed ≡ Err why → RebuildsAs f list failed → Opens id old new list → Unfit f id old why new
+unfit f id old new list (boot_fault.Damaged at) failed is said o = let h : RebuildsAs f list (Err (boot_fault.Damaged at)) = subst (RebuildsAs f list) is said in (list, o, h)
+unfit f id old new list boot_fault.Memory failed is said o = (list, o)
+unfit f id old new list boot_fault.Fault failed is said o = let h : RebuildsAs f list (Err boot_fault.Fault) = subst (RebuildsAs f list) is said in h
+unfit f id old new list boot_fault.NotAJournal failed is said o = let h : RebuildsAs f list (Err boot_fault.NotAJournal) = subst (RebuildsAs f list) is said in h
+unfit f id old new list (boot_fault.WrongNode found) failed is said o = let h : RebuildsAs f list (Err (boot_fault.WrongNode found)) = subst (RebuildsAs f list) is said in h
+
+pub unbooted : {F : Type 0} (f : Reads F) (id : Identity) (old : DiskView) (journal : JournalView) (list : List (ℕ × List ℕ)) (why : BootFault) → Opening id old journal list → RebuildsAs f list (Err why) → Unbooted f id (roomless old) why (roomless journal.disk)
+unbooted f id old journal list why o said =
+    let opens = opening_opens id old journal list o in
+    record { moves = opens.moves; form = opens.form; same = λ other. opens.same; calm = opens.calm; cause = inr (unfit f id (roomless old) (roomless journal.disk) list why (Err why) refl said opens) }

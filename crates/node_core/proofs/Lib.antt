@@ -1,0 +1,9 @@
+pub mod Lists
+pub mod Runs
+pub mod Ruled
+pub mod Boots
+pub mod Picks
+pub mod Performs
+pub mod Commits
+pub mod Logs
+pub mod Nodes

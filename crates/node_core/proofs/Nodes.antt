@@ -1,0 +1,104 @@
+-- A node that is up: its power is cut, or it takes no more records.
+use Rattle.std.proofs.Common.{◌≡◌, ◌⊎◌, inl, inr, ℕ, zero, suc, ◌+◌, ◌<◌, ◌≤◌, List, [], ◌∷◌, ◌++◌, length, Option, Some, None, Result, Ok, Err, IsOk, OnOk, Bool, true, false, max, refl, sym, ◌∙◌, ap, subst, arith}
+use Rattle.std.specs.Result.{is_err}
+use Rattle.outside.specs.Disk.{DiskState, DiskView, IsImage, EachImage, IfTold, CutsPower, LosesPower, clean}
+use Rattle.outside.proofs.Moments.{started, after_failed_read}
+use Rattle.net_base.specs.declared.names.Identity.{Identity}
+use Rattle.disk_journal.specs.Journal.{JournalView, IsSound, IsYoung}
+use Rattle.flow_machine.specs.Machine.{Machine}
+use Rattle.net_model.specs.Environment.{Environment, environment}
+use Rattle.net_model.specs.Steps.{place}
+use Rattle.node_core.specs.declared.node.State.{State}
+use Rattle.node_core.specs.declared.node.State.TheVariants.{Down, Up, Moved}
+use Rattle.node_core.specs.declared.faults.StartFault.{StartFault}
+use Rattle.node_core.specs.declared.faults.StartFault.TheVariants as start_fault
+use Rattle.node_core.specs.declared.faults.CutFault.{CutFault}
+use Rattle.node_core.specs.Journals.{Reads, is_full}
+use Rattle.node_core.specs.Disks.{roomless, Moves, KeepsForm, OneOf, CutsNow}
+use Rattle.node_core.specs.States.{disk_in, journal_in, IsDown}
+use Rattle.node_core.specs.Seen.{NodeSeen, UpSeen, Tied, flow_count, after_cut, CutsDisk, CutsAs, CutAnswers, StartAnswers}
+use Rattle.node_core.proofs.Boots.{kept_image}
+
+pub where_ok : {T E : Type 0} (P : Type 0) (r : Result T E) → is_err r ≡ false → OnOk r P → P
+where_ok P (Ok u) is h = h
+where_ok P (Err u) is h = cc
+
+-- the power went
+cut_images : (d e : DiskState) (P : List ℕ → Type 0) → ((c : List ℕ) → IsImage d.now c → P c) → CutsPower d e → EachImage d e P
+cut_images d e P now (inl lost) = after_failed_read d e P now (inr lost)
+cut_images d e P now (inr same) = after_failed_read d e P now (inl same.0)
+
+cut_kept : (d e : DiskState) → CutsPower d e → IsImage d.now e.kept
+cut_kept d e (inl lost) = lost.left
+cut_kept d e (inr same) = subst (λ (x : DiskState). IsImage d.now x.kept) (sym same.0) (subst (λ s. IsImage s d.kept) (sym same.1) (kept_image d.kept))
+
+-- a disk on which a fuse was armed
+abbrev pub fused : DiskView → Option (ℕ × ℕ) → Bool → DiskView
+fused old fuse calm = record old { fuse = fuse; calm = calm }
+
+cuts_now : (id : Identity) (outcome : ℕ) (old new : DiskView) (fuse : Option (ℕ × ℕ)) (calm : Bool) → old.of_file ≡ false → CutsNow (fused old fuse calm) new → CutsDisk id zero outcome old new
+cuts_now id outcome old new fuse calm memory cut = record {
+  memory = memory;
+  moves = record {
+    file = cut.file;
+    tells = cut.tells;
+    later = omega (arith, cut.faults);
+    images = λ told. cut_images old.state new.state (OneOf old.state) (λ c i. i) (cut.state told);
+    kept = λ told. cut_kept old.state new.state (cut.state told);
+  };
+  form = record { sound = λ told was. cut_images old.state new.state (IsSound id) was (cut.state told); young = λ told was. cut_images old.state new.state (IsYoung id) was (cut.state told) };
+  dark = λ now. (cut.power, cut.fuse);
+  armed = λ later. absurd (omega (arith, later));
+  faults = cut.faults;
+}
+
+arms : (id : Identity) (calls outcome : ℕ) (old : DiskView) (calm : Bool) → 0 < calls → old.of_file ≡ false → (old.tells ≡ true → old.state.now ≡ clean old.state.kept) → CutsDisk id calls outcome old (fused old (Some (calls, outcome)) calm)
+arms id calls outcome old calm some memory synced = record {
+  memory = memory;
+  moves = record {
+    file = refl;
+    tells = refl;
+    later = omega arith;
+    images = λ told. started old.state (OneOf old.state) (λ c i. i);
+    kept = λ told. subst (λ s. IsImage s old.state.kept) (sym (synced told)) (kept_image old.state.kept);
+  };
+  form = record { sound = λ told was. started old.state (IsSound id) was; young = λ told was. started old.state (IsYoung id) was };
+  dark = λ now. absurd (omega (arith, now, some));
+  armed = λ later. refl;
+  faults = refl;
+}
+
+-- a node that is up, as contracts see it
+abbrev pub seen_up : Identity → UpSeen → NodeSeen
+seen_up id up = record { identity = id; disk = roomless up.journal.disk; journal = Some up.bodies }
+
+down_journal : {D F : Type 0} (state : State D F) → IsDown state → journal_in state ≡ None
+down_journal (Down disk) h = refl
+down_journal (Up up) h = absurd h
+down_journal Moved h = absurd h
+
+pub cut_down : {D F : Type 0} (seen : D → DiskView) (id : Identity) (calls outcome : ℕ) (fuse : Option (ℕ × ℕ)) (up armed : UpSeen) (fallen state : State D F) → calls ≡ 0 → up.journal.disk.of_file ≡ false → armed.journal.disk ≡ record up.journal.disk { fuse = fuse; calm = armed.journal.disk.calm } → disk_in seen fallen ≡ roomless armed.journal.disk
+    → CutsNow (disk_in seen fallen) (disk_in seen state) → IsDown state → CutAnswers {T = Unit {0}} calls outcome (seen_up id up) (Ok tt) (record { identity = id; disk = disk_in seen state; journal = journal_in state })
+cut_down seen id calls outcome fuse up armed fallen state none memory is fell cut down =
+    let before : disk_in seen fallen ≡ fused (roomless up.journal.disk) fuse armed.journal.disk.calm = fell ∙ ap roomless is in
+    let now : CutsNow (fused (roomless up.journal.disk) fuse armed.journal.disk.calm) (disk_in seen state) = subst (λ d. CutsNow d (disk_in seen state)) before cut in
+    subst (λ (n : ℕ). CutAnswers {T = Unit {0}} n outcome (seen_up id up) (Ok tt) (record { identity = id; disk = disk_in seen state; journal = journal_in state })) (sym none)
+    (down_journal state down, refl, cuts_now id outcome (roomless up.journal.disk) (disk_in seen state) fuse armed.journal.disk.calm memory now)
+
+after_some : (calls : ℕ) (bodies : List (List ℕ)) → (calls ≡ 0 → ⊥) → Some bodies ≡ after_cut calls bodies
+after_some zero bodies some = absurd (some refl)
+after_some (suc n) bodies some = refl
+
+pub cut_later : (id : Identity) (calls outcome most : ℕ) (up armed : UpSeen) → (calls ≡ 0 → ⊥) → most ≡ max calls 1 → Tied id up.journal up.bodies → up.journal.disk.of_file ≡ false → armed.bodies ≡ up.bodies → armed.journal.disk ≡ record up.journal.disk { fuse = Some (most, outcome); calm = armed.journal.disk.calm }
+    → CutAnswers {T = Unit {0}} calls outcome (seen_up id up) (Ok tt) (seen_up id armed)
+cut_later id calls outcome most up armed some at tied memory same is =
+    let above : 0 < calls = omega (arith, some) in
+    let exact : most ≡ calls = omega (arith, at, above) in
+    let after : fused (roomless up.journal.disk) (Some (calls, outcome)) armed.journal.disk.calm ≡ roomless armed.journal.disk = sym (ap roomless is ∙ ap (λ n. fused (roomless up.journal.disk) (Some (n, outcome)) armed.journal.disk.calm) exact) in
+    let done : CutsDisk id calls outcome (roomless up.journal.disk) (roomless armed.journal.disk) = subst (CutsDisk id calls outcome (roomless up.journal.disk)) after (arms id calls outcome (roomless up.journal.disk) armed.journal.disk.calm above memory (λ told. (tied.ready told).synced)) in
+    (ap Some same ∙ after_some calls up.bodies some, refl, done)
+
+-- a start at a node that is full
+pub start_full : {F : Type 0} (m : Machine F) (f : Reads F) (now class : ℕ) (args : List ℕ) (id : Identity) (up : UpSeen) → IsOk (m.made class args (place (environment m f id) id.party.0 (flow_count (environment m f id) up.bodies) 0 now)) → is_full f up.bodies ≡ true
+    → StartAnswers (environment m f id) now class args (seen_up id up) (Err start_fault.Full) (seen_up id up)
+start_full m f now class args id up made full = (made, full, refl)

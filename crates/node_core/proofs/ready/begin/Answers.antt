@@ -1,0 +1,23 @@
+use Rattle.std.proofs.Common.{◌≡◌, ◌≤◌, ℕ, List, Ok, length, sym, ◌∙◌, ap, subst, arith, refl}
+use Rattle.flow_machine.specs.Flows.{AreWithin}
+use Rattle.flow_machine.specs.Limits.{IsPlace}
+use Rattle.net_base.specs.declared.causes.Event.TheVariants as event
+use Rattle.node_core.specs.Nexts.{IsNext}
+use Rattle.node_core.proofs.Performs.{place_limits, begun_next, first_state, of_ok}
+use Rattle.node_core.proofs.ready.begin.Goals as goal
+
+pub returns-in-Ok : goal.returns-in-Ok
+returns-in-Ok g c s same =
+    let m = g.F.FlowSet.machine in
+    let id = c.args.identity.now in
+    let here = c.place_of.result in
+    let made : m.made c.args.class c.args.args.now here ≡ Ok (c.in-Ok.top, c.in-Ok.waiting) = c.in-Ok.ensures in
+    let limits = subst (λ at. IsPlace at) (sym c.place_of.ensures) (place_limits id c.args.number 0 c.args.now c.requires.identity c.ranges.number.fits (omega arith) c.known.ensures) in
+    let within : AreWithin g.F.Spelt.within (c.in-Ok.top, c.in-Ok.waiting) = g.met.F.FlowSet.keeps_limits.made c.args.class c.args.args.now here (c.in-Ok.top, c.in-Ok.waiting) (rw c.as_slice.ensures at c.known_bytes.ensures) limits made in
+    let short : length c.args.args.now ≤ 65535 = of_ok _ (m.made c.args.class c.args.args.now here) _ made (g.met.F.FlowSet.args_are_short.made c.args.class c.args.args.now here) in
+    let at_place = rw c.place_of.ensures at made in
+    rw (c.in_ok-copy.ensures, c.new.ensures) (
+      ap (λ n. event.Start n c.args.class c.args.args.now) (sym same),
+      begun_next _ _ c.args.now.0 g.F.Spelt.within c.args.class c.args.number c.args.args.now (c.in-Ok.top, c.in-Ok.waiting) c.ranges.number.fits c.ranges.class.fits at_place within short s same,
+      rw (same, at_place) refl,
+    )

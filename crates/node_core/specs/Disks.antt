@@ -1,0 +1,49 @@
+-- What a call leaves of a node's disk.
+use Rattle.std.specs.Prelude.{◌≡◌, ◌⊎◌, ℕ, ◌≤◌, List, ◌∷◌, [], ◌++◌, true, false, None}
+use Rattle.outside.specs.Disk.{DiskState, DiskView, IsImage, EachImage, IfTold, CutsPower}
+use Rattle.net_base.specs.declared.names.Identity.{Identity}
+use Rattle.disk_journal.specs.Journal.{IsSound, IsYoung, journal_of}
+
+-- a disk as contracts see it, without its room
+abbrev pub roomless : DiskView → DiskView
+roomless v = record v { room_end = 0; room_writes = 0 }
+
+-- at every moment since the call began each image is as said, and so is what is kept; nothing is said of a disk that doesn't tell
+pub record Moves (old new : DiskView) (may : DiskState → List ℕ → Type 0) : Type 0 where
+  pub file : new.of_file ≡ old.of_file
+  pub tells : new.tells ≡ old.tells
+  pub later : old.faults ≤ new.faults
+  pub images : IfTold old new (λ d e. EachImage d e (may d))
+  pub kept : IfTold old new (λ d e. may d e.kept)
+
+-- where each image was so, each is so at every moment since
+abbrev pub KeepsImages : (List ℕ → Type 0) → DiskView → DiskView → Type 0
+KeepsImages P old new = IfTold old new (λ d e. ((c : List ℕ) → IsImage d.now c → P c) → EachImage d e P)
+
+-- sound images stay sound, and those over which an opening gives no refusal stay so
+pub record KeepsForm (id : Identity) (old new : DiskView) : Type 0 where
+  pub sound : KeepsImages (IsSound id) old new
+  pub young : KeepsImages (IsYoung id) old new
+
+-- each image is sound and spells these bodies, and so does what is kept
+pub record Holds (id : Identity) (disk : DiskView) (bodies : List (List ℕ)) : Type 0 where
+  pub sound : disk.tells ≡ true → (c : List ℕ) → IsImage disk.state.now c → IsSound id c
+  pub images : disk.tells ≡ true → (c : List ℕ) → IsImage disk.state.now c → journal_of c ≡ bodies
+  pub kept : disk.tells ≡ true → journal_of disk.state.kept ≡ bodies
+
+-- an image spells the old bodies, or these with one more
+abbrev pub OldOrMore : List (List ℕ) → List ℕ → DiskState → List ℕ → Type 0
+OldOrMore bodies body d c = (journal_of c ≡ bodies) ⊎ (journal_of c ≡ bodies ++ body ∷ [])
+
+-- a power cut leaves one of the images
+abbrev pub OneOf : DiskState → List ℕ → Type 0
+OneOf d c = IsImage d.now c
+
+-- the power went now, and nothing else changed but that
+pub record CutsNow (old new : DiskView) : Type 0 where
+  pub file : new.of_file ≡ old.of_file
+  pub tells : new.tells ≡ old.tells
+  pub faults : new.faults ≡ old.faults
+  pub state : IfTold old new CutsPower
+  pub power : new.power ≡ false
+  pub fuse : new.fuse ≡ None

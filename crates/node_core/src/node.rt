@@ -1,0 +1,299 @@
+//! A node: up on its journal, or down with its disk.
+
+ghost use Rattle.std.specs.Prelude.{◌≡◌, ◌↔◌, ◌<◌, ◌≤◌, ◌^◌, true, false, IsTrue, IsSome, MatchOption, List, ℕ, Some, None};
+ghost use Rattle.net_model.specs.Environment.{environment};
+ghost use Rattle.node_core.specs.Journals.{state_of, causes_of};
+ghost use Rattle.node_core.specs.Disks.{roomless, CutsNow};
+ghost use Rattle.node_core.specs.Seen.{StartAnswers, TurnAnswers, CutAnswers, BootsAs, IsBy, IsMember};
+ghost use Rattle.node_core.specs.States.{disk_in, journal_in, IsDown};
+
+use super::acts::let_go;
+use super::faults::CommitFault;
+use super::ready::flow_in;
+use super::up::Up;
+use super::{BootFault, CutFault, StartFault, TurnFault, Turned};
+use checkpoints::Flows;
+use flow_machine::FlowSet;
+use net_base::{ByteList, Cause, Identity, Moment};
+use outside::{Bay, Disk};
+use std::alloc::Global;
+use std::marker::Model;
+use std::mem;
+
+/// Where a node's disk is.
+#[derive(Drop)]
+pub enum State<D: Disk, F: FlowSet> {
+    Down { disk: D },
+    Up { up: Up<D, F> },
+    /// Within a call, while the disk is on its way.
+    Moved,
+}
+
+/// One node on its journal.
+///
+/// Contracts see its identity, what its disk may leave, and, while it is up, the bodies of its journal's records; all else is what
+/// these make. Each call that commits appends one record, and at every moment since the call began a power cut leaves the old
+/// records or these with the new one.
+#[derive(Drop)]
+pub struct Node<D: Disk, F: FlowSet> {
+    identity: Identity,
+    state: State<D, F>,
+}
+
+impl<D: Disk, F: FlowSet> Model for Node<D, F> {
+    ghost use Rattle.node_core.specs.Seen.{NodeSeen};
+
+    ghost Value = { NodeSeen };
+
+    ghost use Rattle.node_core.specs.Seen.{IsMember};
+    ghost use Rattle.node_core.specs.States.{disk_in, journal_in, IsWhole};
+
+    ghost view = { λ n. record { identity = n.identity; disk = disk_in D.seen n.state; journal = journal_in n.state } };
+
+    ghost invariant = { λ n. IsMember n.identity × IsWhole n.identity n.state };
+}
+
+impl<D: Disk, F: FlowSet> Node<D, F> {
+    /// A node that is down. Its party and its notary are nodes of its network, which has 1 to 16. Takes no memory.
+    pub fn new(disk: D, identity: Identity) -> Node<D, F>
+        requires { IsMember identity }
+        ensures identity { result.identity ≡ identity }
+        ensures disk { result.disk ≡ roomless (D.seen disk) }
+        ensures down { result.journal ≡ None }
+    {
+        Node {
+            identity,
+            state: State::Down { disk },
+        }
+    }
+
+    /// Which node of which network it is.
+    pub fn identity(&self) -> &Identity
+        ensures same { result.now ≡ self.now.identity }
+        ensures member { IsMember self.now.identity }
+    {
+        &self.identity
+    }
+
+    /// Whether the node is up.
+    pub fn is_up(&self) -> bool
+        ensures { IsTrue result ↔ IsSome self.now.journal }
+    {
+        matches!(&self.state, State::Up { .. })
+    }
+
+    /// The flows, by number; `None` exactly where the node is down.
+    pub fn flows(&self) -> Option<&Flows<F>>
+        ensures { MatchOption result (self.now.journal ≡ None) (λ flows. (bodies : List (List ℕ)) × (self.now.journal ≡ Some bodies) × (flows.now.flows ≡ (state_of F.reading bodies).flows)) }
+    {
+        match &self.state {
+            State::Up { up } => Some(up.flows()),
+            _ => None,
+        }
+    }
+
+    /// The causes of the journal's records, in order; `None` exactly where the node is down.
+    pub fn causes(&self) -> Option<&[Cause]>
+        ensures { MatchOption result (self.now.journal ≡ None) (λ causes. (bodies : List (List ℕ)) × (self.now.journal ≡ Some bodies) × (causes.now ≡ causes_of F.reading bodies)) }
+    {
+        match &self.state {
+            State::Up { up } => Some(up.causes()),
+            _ => None,
+        }
+    }
+
+    /// The moment of the last cause, 0 without one or where the node is down.
+    pub fn last_moment(&self) -> Moment
+        ensures { MatchOption self.now.journal (result.0 ≡ 0) (λ bodies. result.0 ≡ (state_of F.reading bodies).moment) }
+    {
+        match &self.state {
+            State::Up { up } => up.last_moment(),
+            _ => Moment(0),
+        }
+    }
+
+    /// The disk.
+    pub fn into_disk(self) -> D
+        ensures { roomless (D.seen result) ≡ self.disk }
+    {
+        match self.state {
+            State::Down { disk } => disk,
+            State::Up { up } => up.into_disk(),
+            State::Moved => unreachable!(),
+        }
+    }
+
+    /// Opens the journal, and rebuilds the node from its records. The flows go on from their checkpoints; none is resumed.
+    ///
+    /// # Errors
+    ///
+    /// `Fault` only where the disk's count of faults rose; `NotAJournal`, `WrongNode` and `Damaged` exactly by the journal's format,
+    /// and `Damaged` with the place of the gate of the first record that is none of this flow set's or doesn't fit; `Memory`. The node
+    /// then stays down, and, but for `Fault`, its journal is as it was.
+    pub fn boot(&mut self, alloc: Global) -> Result<(), BootFault>
+        requires { self.old.journal ≡ None }
+        ensures { BootsAs F.reading self.old result self.new }
+    {
+        match mem::replace(&mut self.state, State::Moved) {
+            State::Down { disk } => match Up::open(alloc, disk, self.identity) {
+                Ok(up) => {
+                    self.state = State::Up { up };
+                    Ok(())
+                }
+                Err(refused) => {
+                    self.state = State::Down { disk: refused.disk };
+                    Err(refused.why)
+                }
+            },
+            _ => unreachable!(),
+        }
+    }
+
+    /// Starts a flow of the class at a moment, which is no less than that of the last cause, and gives its number.
+    ///
+    /// # Errors
+    ///
+    /// `NodeDown` exactly where the node is down; `UnknownClass` and `BadArgs` exactly where the flow set makes none; `Full` exactly where it
+    /// makes one and the journal is full or the last stamp was given; `Memory`; `Fault` only where the disk's count of faults
+    /// rose, and the node is then down. After any but `Fault` nothing has changed.
+    pub fn start(
+        &mut self,
+        alloc: Global,
+        now: Moment,
+        class: u16,
+        args: &ByteList,
+    ) -> Result<u32, StartFault>
+        requires { IsBy F.reading self.old.journal now.0 }
+        ensures start { StartAnswers (environment F.machine F.reading self.old.identity) now.0 class args.now self.old result self.new }
+        ensures by { IsBy F.reading self.new.journal now.0 }
+    {
+        let State::Up { up } = &mut self.state else {
+            return Err(StartFault::NodeDown);
+        };
+        let next = up.begin(alloc, &self.identity, now, class, args)?;
+        if up.is_full() {
+            let_go(next);
+            return Err(StartFault::Full);
+        }
+        let number = next.number;
+        match up.commit(alloc, &self.identity, now, next) {
+            Ok(()) => Ok(number),
+            Err(CommitFault::Full) => unreachable!(),
+            Err(CommitFault::Memory) => Err(StartFault::Memory),
+            Err(CommitFault::Fault) => {
+                fall(&mut self.state);
+                Err(StartFault::Fault)
+            }
+        }
+    }
+
+    /// Lets the picked flow go on, or the one with the least number that can, at a moment that is no less than that of the last
+    /// cause. It looks at live flows alone.
+    ///
+    /// # Errors
+    ///
+    /// `NodeDown` exactly where the node is down; `Full` exactly where a flow can go on and the journal is full or the last stamp was
+    /// given; `Memory`; `Fault` only where the disk's count of faults rose, and the node is then down. After any but `Fault` nothing
+    /// has changed.
+    pub fn turn(
+        &mut self,
+        alloc: Global,
+        now: Moment,
+        pick: Option<u32>,
+    ) -> Result<Turned, TurnFault>
+        requires { IsBy F.reading self.old.journal now.0 }
+        ensures turn { TurnAnswers (environment F.machine F.reading self.old.identity) now.0 pick self.old result self.new }
+        ensures by { IsBy F.reading self.new.journal now.0 }
+    {
+        let State::Up { up } = &mut self.state else {
+            return Err(TurnFault::NodeDown);
+        };
+        let Some(event) = up.pick(now, pick) else {
+            return Ok(Turned::Idle);
+        };
+        if up.is_full() {
+            return Err(TurnFault::Full);
+        }
+        let flow = flow_in(&event);
+        match up.go_on(alloc, &self.identity, now, event) {
+            Ok(()) => Ok(Turned::Moved { flow }),
+            Err(CommitFault::Full) => unreachable!(),
+            Err(CommitFault::Memory) => Err(TurnFault::Memory),
+            Err(CommitFault::Fault) => {
+                fall(&mut self.state);
+                Err(TurnFault::Fault)
+            }
+        }
+    }
+}
+
+impl<D: Bay, F: FlowSet> Node<D, F> {
+    /// Cuts the disk's power now, where `calls` is 0, and takes the node down; or else lets it go at the write or sync that comes as
+    /// number `calls` from now. The outcome, 0 to 3, says what is left of what was written since the last sync.
+    ///
+    /// # Errors
+    ///
+    /// `NodeDown` exactly where the node is down, `NoFuse` exactly where its disk is a file. Nothing changed then.
+    pub fn cut_power(&mut self, calls: u64, outcome: u8) -> Result<(), CutFault>
+        requires { outcome ≤ 3 }
+        ensures { CutAnswers calls outcome self.old result self.new }
+    {
+        let State::Up { up } = &mut self.state else {
+            return Err(CutFault::NodeDown);
+        };
+        if up.arm(calls.max(1), outcome).is_err() {
+            return Err(CutFault::NoFuse);
+        }
+        if calls == 0 {
+            fall(&mut self.state);
+            cut_now(&mut self.state, outcome);
+        }
+        Ok(())
+    }
+
+    /// Ends a cut of the disk's power, and disarms a fuse.
+    pub fn restore_power(&mut self)
+        requires { self.old.journal ≡ None }
+        ensures journal { self.new.journal ≡ None }
+        ensures identity { self.new.identity ≡ self.old.identity }
+        ensures disk { self.new.disk ≡ record self.old.disk { power = true; fuse = None; calm = self.new.disk.calm } }
+        ensures calm { self.old.disk.of_file ≡ false → self.new.disk.calm ≡ true }
+    {
+        match &mut self.state {
+            State::Down { disk } => disk.restore_power(),
+            _ => unreachable!(),
+        }
+    }
+}
+
+/// Cuts the power of a node's disk, which is no file.
+fn cut_now<D: Bay, F: FlowSet>(state: &mut State<D, F>, outcome: u8)
+    requires outcome { outcome ≤ 3 }
+    requires down { IsDown state.old }
+    requires memory { (disk_in D.seen state.old).of_file ≡ false }
+    ensures cut { CutsNow (disk_in D.seen state.old) (disk_in D.seen state.new) }
+    ensures down { IsDown state.new }
+{
+    match state {
+        State::Down { disk } => {
+            let _ = disk.cut_power(0, outcome);
+        }
+        _ => unreachable!(),
+    }
+}
+
+/// Takes a node down: its disk comes out of the journal.
+fn fall<D: Disk, F: FlowSet>(state: &mut State<D, F>)
+    requires { IsSome (journal_in state.old) }
+    ensures disk { disk_in D.seen state.new ≡ disk_in D.seen state.old }
+    ensures down { IsDown state.new }
+{
+    match mem::replace(state, State::Moved) {
+        State::Up { up } => {
+            *state = State::Down {
+                disk: up.into_disk(),
+            };
+        }
+        _ => unreachable!(),
+    }
+}

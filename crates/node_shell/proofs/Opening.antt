@@ -1,0 +1,156 @@
+-- A whole run: the node opens and its script is played, or it does not open.
+use Rattle.std.proofs.Common.{◌≡◌, ◌⊎◌, inl, inr, ⊎_elim, ℕ, zero, suc, List, [], ◌∷◌, ◌++◌, length, map, Option, Some, refl, sym, ◌∙◌, ap, subst, arith, append_assoc}
+use Rattle.std.specs.Prelude.{codes, decimal, take, drop, slice_index_or, ◌<◌}
+use Rattle.std.specs.List.{slice_get}
+use Rattle.outside.specs.Disk.{DiskView}
+use Rattle.net_base.specs.declared.names.Identity.{Identity}
+use Rattle.flow_machine.specs.Machine.{Machine}
+use Rattle.net_model.specs.Environment.{environment, party}
+use Rattle.node_core.specs.Journals.{Reads}
+use Rattle.node_core.specs.Disks.{roomless}
+use Rattle.node_core.specs.Seen.{NodeSeen, BootsAs}
+use Rattle.node_core.specs.declared.faults.BootFault.{BootFault}
+use Rattle.node_core.specs.declared.faults.BootFault.TheVariants as boot
+use Rattle.network_core.specs.Worlds.{World, NetSeen, Shows, Coherent}
+use Rattle.network_core.specs.Begins.{member, node_over, no_boot, Begun, BeginsWorld, IsRefused}
+use Rattle.node_shell.specs.declared.statuses.Status.{Status}
+use Rattle.node_shell.specs.declared.statuses.Status.TheVariants as status
+use Rattle.node_shell.specs.Story.{ScriptRun, IsScriptStatus, InSome}
+use Rattle.node_shell.specs.Runs.{alone, over, with_faults, number_of_status, Plays, Refuses, RunsAs, journal_line, PlaysOrRefuses, RefusedWith, IsOpeningStatus}
+use Rattle.node_shell.proofs.Resting.{stands, rests, faulty_shows, faulty_coherent, same_faults, refused_rests, faults_again, down_fewer, same_fewer, from_faulty}
+
+only_first : {X : Type 0} (n : ℕ) (d x : X) → slice_get (d ∷ []) n ≡ Some x → n ≡ 0
+only_first zero d x at = refl
+only_first (suc n) d x at = cc
+
+pub some_same : {X : Type 0} (a b : X) → Some a ≡ Some b → a ≡ b
+some_same a b same = cc
+
+-- what an opening that failed is told by
+opening_why : (s : Status) (written0 written1 : Option (List ℕ)) → IsOpeningStatus s → written1 ≡ written0
+    → ((s ≡ status.DiskFault) × (written1 ≡ written0)) ⊎ (((s ≡ status.NoMemory) × (written1 ≡ written0)) ⊎ ((fault : BootFault) × RefusedWith 0 fault written0 written1 s))
+opening_why status.DiskFault written0 written1 is same = inl (refl, same)
+opening_why status.NoMemory written0 written1 is same = inr (inl (refl, same))
+opening_why status.Finished written0 written1 is same = absurd is
+opening_why status.BadWords written0 written1 is same = absurd is
+opening_why status.TooLong written0 written1 is same = absurd is
+opening_why status.ReadFault written0 written1 is same = absurd is
+opening_why status.WriteFault written0 written1 is same = absurd is
+opening_why status.BadJournal written0 written1 is same = absurd is
+
+module _ {F : Type 0} (m : Machine F) (f : Reads F) where
+  pub played : (d b : DiskView) (w : World) (begun ended : NetSeen) (left0 left1 written0 written1 : Option (List ℕ)) (count : ℕ) (s : Status)
+      → IsScriptStatus s → BeginsWorld m f 1 (party 0) (d ∷ []) begun
+      → ((id : Identity) (start : World) → Shows (environment m f id) begun start → Coherent (environment m f id) start → InSome (environment m f id) ended (λ v. ScriptRun (environment m f id) start left0 left1 written0 written1 count v s))
+      → map (λ (n : NodeSeen). n.disk) ended.nodes ≡ roomless b ∷ []
+      → Shows (alone m f) (over w.now d) w → Coherent (alone m f) w → PlaysOrRefuses (alone m f) w b left0 left1 written0 written1 count s
+  played d b w begun ended left0 left1 written0 written1 count s script begins ran disks shows coherent =
+      let start = begins w.now w shows coherent in
+      let end = ran (member 1 (party 0) 0) start.0 start.1 start.2 in
+      inl (record {
+        is_script = script;
+        faults = d.faults;
+        start = start.0;
+        begins = subst (λ x. Begun (alone m f) x start.0) (sym (same_faults m f w d shows)) start.3;
+        last = end.world;
+        script = end.holds;
+        rests = rests m f ended end.world b end.shows end.coherent disks;
+      })
+
+  refused_first : (d b : DiskView) (node : ℕ) (why : BootFault) → IsRefused m f 1 (party 0) (d ∷ []) node why (b ∷ []) → node ≡ 0
+  refused_first d b node why r =
+      ⊎_elim (λ (p : (why ≡ boot.Memory) × (node ≡ 0) × (b ∷ [] ≡ d ∷ [])). p.1)
+      (λ (q : (x : DiskView) × (y : DiskView) × (slice_get (d ∷ []) node ≡ Some x) × (slice_get (b ∷ []) node ≡ Some y) × BootsAs f (node_over 1 (party 0) node x) (no_boot why) (node_over 1 (party 0) node y)). only_first node d q.0 q.2) r.refused
+
+  pub refused : (d b : DiskView) (w : World) (node : ℕ) (why : BootFault) (left written0 written1 : Option (List ℕ)) (s : Status)
+      → IsRefused m f 1 (party 0) (d ∷ []) node why (b ∷ []) → RefusedWith node why written0 written1 s
+      → Shows (alone m f) (over w.now d) w → Coherent (alone m f) w → PlaysOrRefuses (alone m f) w b left left written0 written1 0 s
+  refused d b w node why left written0 written1 s r told shows coherent =
+      let v = r.world w.now w shows coherent in
+      let first : node ≡ 0 = refused_first d b node why r in
+      inr (record {
+        unread = refl;
+        none = refl;
+        world = v.0;
+        rests = refused_rests m f why w v.0 b v.1 v.2;
+        fewer = down_fewer why w v.0 v.3;
+        why = inr (inr (why, subst (λ n. RefusedWith n why written0 written1 s) first told));
+      })
+
+  -- the disk was not made ready, or there was no memory for that
+  pub unready : (d e : DiskView) (w : World) (left written : Option (List ℕ)) (s : Status) → IsOpeningStatus s → e ≡ record d { faults = e.faults }
+      → Shows (alone m f) (over w.now d) w → Coherent (alone m f) w → PlaysOrRefuses (alone m f) w e left left written written 0 s
+  unready d e w left written s is same shows coherent = inr (record {
+    unread = refl;
+    none = refl;
+    world = with_faults e.faults w;
+    rests = stands m f (with_faults e.faults w) e (faulty_shows m f w d e same shows) (faulty_coherent m f e.faults w coherent);
+    fewer = same_fewer e.faults w;
+    why = opening_why s written written is refl;
+  })
+
+  plays_with : (n : ℕ) (w : World) (b : DiskView) (left0 left1 written0 written1 : Option (List ℕ)) (count : ℕ) (s : Status)
+      → Plays (alone m f) (with_faults n w) b left0 left1 written0 written1 count s → Plays (alone m f) w b left0 left1 written0 written1 count s
+  plays_with n w b left0 left1 written0 written1 count s p = record {
+    is_script = p.is_script;
+    faults = p.faults;
+    start = p.start;
+    begins = subst (λ x. Begun (alone m f) x p.start) (faults_again p.faults n w) p.begins;
+    last = p.last;
+    script = p.script;
+    rests = p.rests;
+  }
+
+  refuses_with : (n : ℕ) (w : World) (b : DiskView) (left0 left1 written0 written1 : Option (List ℕ)) (count : ℕ) (s : Status)
+      → Refuses (alone m f) (with_faults n w) b left0 left1 written0 written1 count s → Refuses (alone m f) w b left0 left1 written0 written1 count s
+  refuses_with n w b left0 left1 written0 written1 count s r = record {
+    unread = r.unread;
+    none = r.none;
+    world = r.world;
+    rests = r.rests;
+    fewer = from_faulty n w r.world r.fewer;
+    why = r.why;
+  }
+
+  -- the disk was made ready, and then its node opened or did not
+  pub ready : (d k b : DiskView) (w : World) (left0 left1 written0 written1 : Option (List ℕ)) (count : ℕ) (s : Status) → k ≡ record d { faults = k.faults }
+      → ((v : World) → Shows (alone m f) (over v.now k) v → Coherent (alone m f) v → PlaysOrRefuses (alone m f) v b left0 left1 written0 written1 count s)
+      → Shows (alone m f) (over w.now d) w → Coherent (alone m f) w → PlaysOrRefuses (alone m f) w b left0 left1 written0 written1 count s
+  ready d k b w left0 left1 written0 written1 count s same runs shows coherent =
+      ⊎_elim (λ (p : Plays (alone m f) (with_faults k.faults w) b left0 left1 written0 written1 count s). inl (plays_with k.faults w b left0 left1 written0 written1 count s p))
+      (λ (r : Refuses (alone m f) (with_faults k.faults w) b left0 left1 written0 written1 count s). inr (refuses_with k.faults w b left0 left1 written0 written1 count s r))
+      (runs (with_faults k.faults w) (faulty_shows m f w d k same shows) (faulty_coherent m f k.faults w coherent))
+
+  pub ready_at : (d k b e : DiskView) (w : World) (left0 left1 written0 written1 : Option (List ℕ)) (count : ℕ) (s : Status) → b ≡ e → k ≡ record d { faults = k.faults }
+      → ((v : World) → Shows (alone m f) (over v.now k) v → Coherent (alone m f) v → PlaysOrRefuses (alone m f) v b left0 left1 written0 written1 count s)
+      → Shows (alone m f) (over w.now d) w → Coherent (alone m f) w → PlaysOrRefuses (alone m f) w e left0 left1 written0 written1 count s
+  ready_at d k b e w left0 left1 written0 written1 count s there same runs shows coherent =
+      subst (λ x. PlaysOrRefuses (alone m f) w x left0 left1 written0 written1 count s) there (ready d k b w left0 left1 written0 written1 count s same runs shows coherent)
+
+  pub runs_as : (w : World) (b : DiskView) (left0 left1 written0 written1 : Option (List ℕ)) (count counted number : ℕ) (s : Status) → number ≡ number_of_status s → counted ≡ count
+      → PlaysOrRefuses (alone m f) w b left0 left1 written0 written1 count s → RunsAs (alone m f) w b left0 left1 written0 written1 counted number
+  runs_as w b left0 left1 written0 written1 count counted number s is same ran = record { status = s; is = is; ran = subst (λ n. PlaysOrRefuses (alone m f) w b left0 left1 written0 written1 n s) (sym same) ran }
+
+-- the line for a damaged journal
+pub damaged_line : (node at : ℕ) (why : BootFault) (line : List ℕ) → why ≡ boot.Damaged at → line ≡ codes "! journal " ++ (decimal node ++ (codes " damaged " ++ (decimal at ++ 10 ∷ []))) → line ≡ journal_line node why
+damaged_line node at why line is same =
+    let a = codes "! journal " in
+    let b = codes " damaged " in
+    let n = decimal node in
+    let t = decimal at in
+    let l : List ℕ = 10 ∷ [] in
+    same ∙ sym (append_assoc (a ++ n ++ b) t l ∙ append_assoc (a ++ n) b (t ++ l) ∙ append_assoc a n (b ++ (t ++ l))) ∙ ap (journal_line node) (sym is)
+
+-- a vector whose items were written anew, as many as before
+pub written_back : {X : Type 0} (n : ℕ) (new old : List X) → n ≡ length old → length new ≡ length old → take n (new ++ drop (length new) old) ≡ new
+written_back zero [] [] here same = refl
+written_back (suc n) [] [] here same = refl
+written_back n (x ∷ xs) [] here same = absurd (omega (arith, same))
+written_back n [] (y ∷ ys) here same = absurd (omega (arith, same))
+written_back zero (x ∷ xs) (y ∷ ys) here same = absurd (omega (arith, here))
+written_back (suc n) (x ∷ xs) (y ∷ ys) here same = ap (λ l. x ∷ l) (written_back n xs ys (omega (arith, here)) (omega (arith, same)))
+
+-- what was taken from the front of a vector stood there
+pub first_of : {X Y : Type 0} (f : X → Y) (l : List X) (x : X) → x ≡ slice_index_or l 0 x → 0 < length l → slice_get (map f l) 0 ≡ Some (f x)
+first_of f [] x is some = absurd (omega (arith, some))
+first_of f (y ∷ ys) x is some = ap (λ z. Some (f z)) (sym is)

@@ -1,0 +1,245 @@
+-- What a network that is shown tells of its world.
+use Rattle.std.proofs.Common.{◌≡◌, ◌⊎◌, inl, inr, ℕ, zero, suc, Bool, true, false, List, [], ◌∷◌, ◌++◌, length, map, drop, Option, Some, None, refl, sym, ◌∙◌, ap, subst, arith, append_assoc}
+use Rattle.std.proofs.lemmas.Bool.Decides.{nat_tests}
+use Rattle.std.specs.Prelude.{IsTrue, IsSome, option_map, option_and_then, ◌<◌, nat_lt, slice_index_or}
+use Rattle.std.specs.List.{slice_get}
+use Rattle.std.proofs.lemmas.Option.{same_Some}
+use Rattle.net_base.specs.declared.causes.Cause.{Cause}
+use Rattle.flow_machine.specs.declared.flows.FlowState.{FlowState}
+use Rattle.net_model.specs.Environment.{Environment}
+use Rattle.net_model.specs.Runs.{merged, network_of}
+use Rattle.net_model.specs.State.{NodeState}
+use Rattle.net_model.specs.Print.{printed, print_of, of_flows, of_flow, of_history, node_text, flow_text_at, flow_line, flow_text, flows_text, history_text}
+use Rattle.node_core.specs.Journals.{Reads, causes_of, state_of}
+use Rattle.node_core.specs.Seen.{NodeSeen}
+use Rattle.network_core.specs.Worlds.{World, NodeWorld, NetSeen, NodeShows, Shows, ShowsJournal, Coherent, Choice}
+use Rattle.network_core.proofs.Faithful.{get_beside, coherent_is_faithful}
+use Rattle.node_shell.specs.declared.replies.Reply.{Reply}
+use Rattle.node_shell.specs.Serve.{AtNode, AsksFlow, IsRefused, causes_in, causes_up, reply_text}
+
+-- ---- lists
+
+none_beside : {X Y : Type 0} (xs : List X) (ys : List Y) (p : ℕ) → length xs ≡ length ys → slice_get xs p ≡ None → slice_get ys p ≡ None
+none_beside [] [] p n h = refl
+none_beside [] (y ∷ ys) p n h = cc
+none_beside (x ∷ xs) [] p n h = cc
+none_beside (x ∷ xs) (y ∷ ys) zero n h = cc
+none_beside (x ∷ xs) (y ∷ ys) (suc p) n h = none_beside xs ys p (omega (arith, n)) h
+
+map_count : {X Y : Type 0} (g : X → Y) (xs : List X) → length (map g xs) ≡ length xs
+map_count g [] = refl
+map_count g (x ∷ xs) = ap suc (map_count g xs)
+
+map_get : {X Y : Type 0} (g : X → Y) (xs : List X) (p : ℕ) (x : X) → slice_get xs p ≡ Some x → slice_get (map g xs) p ≡ Some (g x)
+map_get g [] p x h = cc
+map_get g (x' ∷ xs) zero x h = ap (λ y. Some (g y)) (same_Some _ _ h)
+map_get g (x' ∷ xs) (suc p) x h = map_get g xs p x h
+
+map_both : {X Y Z : Type 0} (h : Y → Z) (g : X → Y) (xs : List X) → map h (map g xs) ≡ map (λ x. h (g x)) xs
+map_both h g [] = refl
+map_both h g (x ∷ xs) = ap (λ l. h (g x) ∷ l) (map_both h g xs)
+
+drop_get : {X : Type 0} (xs : List X) (i : ℕ) (x : X) → slice_get xs i ≡ Some x → drop i xs ≡ x ∷ drop (suc i) xs
+drop_get [] i x h = cc
+drop_get (y ∷ ys) zero x h = ap (λ z. z ∷ ys) (same_Some _ _ h)
+drop_get (y ∷ ys) (suc i) x h = drop_get ys i x h
+
+-- ---- a node and its place in the world
+
+at_journal : (x : NodeWorld) (journal : Option (List (List ℕ))) → ShowsJournal journal x → journal ≡ None → x.up ≡ false
+at_journal x None shows h = shows
+at_journal x (Some b) shows h = cc
+
+up_journal : (x : NodeWorld) (journal : Option (List (List ℕ))) (bodies : List (List ℕ)) → ShowsJournal journal x → journal ≡ Some bodies → (x.up ≡ true) × (x.journal ≡ bodies)
+up_journal x None bodies shows h = cc
+up_journal x (Some b) bodies shows h = (shows.0, shows.1 ∙ same_Some _ _ h)
+
+module _ {F : Type 0} (e : Environment F) (net : NetSeen) (w : World) (shows : Shows e net w) where
+  pub stands : (p : ℕ) (n : NodeSeen) → slice_get net.nodes p ≡ Some n → (x : NodeWorld) × (slice_get w.nodes p ≡ Some x) × NodeShows e p n x
+  stands p n at = let found = get_beside net.nodes w.nodes p n (sym shows.count) at in (found.0, found.1, shows.each p n found.0 at found.1)
+
+  pub shows_each : (p : ℕ) (n : NodeSeen) (x : NodeWorld) → slice_get net.nodes p ≡ Some n → slice_get w.nodes p ≡ Some x → ShowsJournal n.journal x
+  shows_each p n x at here = (shows.each p n x at here).journal
+
+  pub at_none : (p : ℕ) (reply : Reply) (asks : NodeWorld → Type 0) → slice_get net.nodes p ≡ None → IsRefused 2 reply → AtNode w p reply asks
+  at_none p reply asks none is = inl (none_beside net.nodes w.nodes p (sym shows.count) none, is)
+
+  pub at_down : (p : ℕ) (reply : Reply) (asks : NodeWorld → Type 0) (n : NodeSeen) → slice_get net.nodes p ≡ Some n → n.journal ≡ None → IsRefused 3 reply → AtNode w p reply asks
+  at_down p reply asks n at down is =
+      let x = stands p n at in
+      inr (x.0, x.1, inl (at_journal x.0 n.journal x.2.journal down, is))
+
+  pub at_up : (p : ℕ) (reply : Reply) (asks : NodeWorld → Type 0) (n : NodeSeen) (bodies : List (List ℕ)) → slice_get net.nodes p ≡ Some n → n.journal ≡ Some bodies
+      → ((x : NodeWorld) → slice_get w.nodes p ≡ Some x → x.journal ≡ bodies → asks x) → AtNode w p reply asks
+  at_up p reply asks n bodies at up given =
+      let x = stands p n at in
+      let j = up_journal x.0 n.journal bodies x.2.journal up in
+      inr (x.0, x.1, inr (j.0, given x.0 x.1 j.1))
+
+-- ---- what is printed of a coherent world
+
+module _ {F : Type 0} (e : Environment F) (w : World) (coherent : Coherent e w) where
+  abbrev kept_lists : List (List (List ℕ))
+  kept_lists = map (λ x. x.journal) w.nodes
+
+  kept : Choice w kept_lists
+  kept = record {
+    count = map_count (λ (x : NodeWorld). x.journal) w.nodes;
+    each = λ p x l at here. inl (same_Some _ _ (sym here ∙ map_get (λ (x : NodeWorld). x.journal) w.nodes p x at));
+  }
+
+  pub net_is : network_of e (causes_in e w) ≡ Some (map (λ x. state_of e.frame_at x.journal) w.nodes)
+  net_is =
+      let run = (coherent_is_faithful e w kept_lists coherent kept).1 in
+      let causes = map_both (causes_of e.frame_at) (λ (x : NodeWorld). x.journal) w.nodes in
+      let states = map_both (state_of e.frame_at) (λ (x : NodeWorld). x.journal) w.nodes in
+      subst (λ l. network_of e l ≡ Some (map (λ (x : NodeWorld). state_of e.frame_at x.journal) w.nodes)) causes (run ∙ ap Some states)
+
+  state_at : (p : ℕ) (x : NodeWorld) → slice_get w.nodes p ≡ Some x → slice_get (map (λ (y : NodeWorld). state_of e.frame_at y.journal) w.nodes) p ≡ Some (state_of e.frame_at x.journal)
+  state_at p x at = map_get (λ (y : NodeWorld). state_of e.frame_at y.journal) w.nodes p x at
+
+  pub flows_printed : (p : ℕ) (x : NodeWorld) → slice_get w.nodes p ≡ Some x → printed e (causes_in e w) (of_flows p) ≡ flows_text (state_of e.frame_at x.journal).flows
+  unfolding printed
+  flows_printed p x at = ap (λ (net : Option (List (NodeState F))). print_of (merged (causes_in e w)) net (of_flows p)) net_is ∙ ap node_text (state_at p x at)
+
+  pub flow_printed : (p f : ℕ) (x : NodeWorld) → slice_get w.nodes p ≡ Some x → printed e (causes_in e w) (of_flow p f) ≡ flow_text f (slice_get (state_of e.frame_at x.journal).flows f)
+  unfolding printed
+  flow_printed p f x at = ap (λ (net : Option (List (NodeState F))). print_of (merged (causes_in e w)) net (of_flow p f)) net_is ∙ ap (λ (s : Option (NodeState F)). flow_text_at f s) (state_at p x at)
+
+  pub history_printed : printed e (causes_in e w) of_history ≡ history_text (merged (causes_in e w))
+  unfolding printed
+  history_printed = ap (λ (net : Option (List (NodeState F))). print_of (merged (causes_in e w)) net of_history) net_is
+
+-- ---- the causes of all nodes
+
+module _ {F : Type 0} (f : Reads F) where
+  abbrev put_first : Option (List (List Cause)) → List (List ℕ) → Option (List (List Cause))
+  put_first rest bodies = option_map (λ lists. causes_of f bodies ∷ lists) rest
+
+  head_up : (journal : Option (List (List ℕ))) (rest : Option (List (List Cause))) (lists : List (List Cause)) (x : NodeWorld) → ShowsJournal journal x → option_and_then (put_first rest) journal ≡ Some lists
+      → (x.up ≡ true) × (more : List (List Cause)) × (rest ≡ Some more) × (lists ≡ causes_of f x.journal ∷ more)
+  head_up None rest lists x s is = cc
+  head_up (Some b) None lists x s is = cc
+  head_up (Some b) (Some more) lists x s is = (s.0, more, refl, sym (same_Some _ _ is) ∙ ap (λ l. causes_of f l ∷ more) (sym s.1))
+
+  head_down : (journal : Option (List (List ℕ))) (rest : Option (List (List Cause))) (x : NodeWorld) → ShowsJournal journal x → option_and_then (put_first rest) journal ≡ None → (x.up ≡ false) ⊎ (rest ≡ None)
+  head_down None rest x s is = inl s
+  head_down (Some b) None x s is = inr refl
+  head_down (Some b) (Some more) x s is = cc
+
+  abbrev ShowEach : List NodeSeen → List NodeWorld → Type 0
+  ShowEach ns xs = (p : ℕ) (n : NodeSeen) (x : NodeWorld) → slice_get ns p ≡ Some n → slice_get xs p ≡ Some x → ShowsJournal n.journal x
+
+  pub all_up : (ns : List NodeSeen) (xs : List NodeWorld) (lists : List (List Cause)) → length xs ≡ length ns → ShowEach ns xs → causes_up f ns ≡ Some lists
+      → (lists ≡ map (λ x. causes_of f x.journal) xs) × ((p : ℕ) (x : NodeWorld) → slice_get xs p ≡ Some x → x.up ≡ true)
+  all_up [] [] lists c each is = (sym (same_Some _ _ is), λ p x at. cc)
+  all_up [] (x ∷ xs) lists c each is = cc
+  all_up (n ∷ ns) [] lists c each is = cc
+  all_up (n ∷ ns) (x ∷ xs) lists c each is =
+      let h = head_up n.journal (causes_up f ns) lists x (each 0 n x refl refl) is in
+      let t = all_up ns xs h.1 (omega (arith, c)) (λ p m y at here. each (suc p) m y at here) h.2 in
+      (h.3 ∙ ap (λ l. causes_of f x.journal ∷ l) t.0, up_at h.0 t.1)
+    where
+      up_at : x.up ≡ true → ((p : ℕ) (y : NodeWorld) → slice_get xs p ≡ Some y → y.up ≡ true) → (p : ℕ) (y : NodeWorld) → slice_get (x ∷ xs) p ≡ Some y → y.up ≡ true
+      up_at here rest zero y at = rw (← same_Some _ _ at) here
+      up_at here rest (suc p) y at = rest p y at
+
+  pub one_down : (ns : List NodeSeen) (xs : List NodeWorld) → length xs ≡ length ns → ShowEach ns xs → causes_up f ns ≡ None → (p : ℕ) × (x : NodeWorld) × (slice_get xs p ≡ Some x) × (x.up ≡ false)
+  one_down [] xs c each is = cc
+  one_down (n ∷ ns) [] c each is = cc
+  one_down (n ∷ ns) (x ∷ xs) c each is = go (λ none. one_down ns xs (omega (arith, c)) (λ p m y at here. each (suc p) m y at here) none) (head_down n.journal (causes_up f ns) x (each 0 n x refl refl) is)
+    where
+      go : (causes_up f ns ≡ None → (p : ℕ) × (y : NodeWorld) × (slice_get xs p ≡ Some y) × (y.up ≡ false)) → (x.up ≡ false) ⊎ (causes_up f ns ≡ None) → (p : ℕ) × (y : NodeWorld) × (slice_get (x ∷ xs) p ≡ Some y) × (y.up ≡ false)
+      go rest (inl down) = (0, x, refl, down)
+      go rest (inr none) = let t = rest none in (suc t.0, t.1, t.2, t.3)
+
+  -- as many as there are nodes
+  up_count_of : (journal : Option (List (List ℕ))) (rest : Option (List (List Cause))) (lists : List (List Cause)) → option_and_then (put_first rest) journal ≡ Some lists
+      → (more : List (List Cause)) × (rest ≡ Some more) × (length lists ≡ suc (length more))
+  up_count_of None rest lists is = cc
+  up_count_of (Some b) None lists is = cc
+  up_count_of (Some b) (Some more) lists is = (more, refl, sym (ap length (same_Some _ _ is)))
+
+  pub up_count : (ns : List NodeSeen) (lists : List (List Cause)) → causes_up f ns ≡ Some lists → length lists ≡ length ns
+  up_count [] lists is = sym (ap length (same_Some _ _ is))
+  up_count (n ∷ ns) lists is = let h = up_count_of n.journal (causes_up f ns) lists is in h.2 ∙ ap suc (up_count ns h.0 h.1)
+
+  -- ---- one node after another
+
+  abbrev onto : List (List Cause) → List NodeSeen → Option (List (List Cause))
+  onto lists ns = option_map (λ rest. lists ++ rest) (causes_up f ns)
+
+  pub causes_none : (ns : List NodeSeen) → onto [] ns ≡ causes_up f ns
+  causes_none ns = go (causes_up f ns)
+    where
+      go : (o : Option (List (List Cause))) → option_map (λ (rest : List (List Cause)). [] ++ rest) o ≡ o
+      go None = refl
+      go (Some l) = refl
+
+  pub causes_step : (ns : List NodeSeen) (i : ℕ) (n : NodeSeen) (lists : List (List Cause)) (bodies : List (List ℕ)) → slice_get ns i ≡ Some n → n.journal ≡ Some bodies
+      → onto (lists ++ causes_of f bodies ∷ []) (drop (suc i) ns) ≡ onto lists (drop i ns)
+  causes_step ns i n lists bodies at up =
+      go (causes_up f (drop (suc i) ns)) ∙ sym (ap (onto lists) (drop_get ns i n at) ∙ ap (λ j. option_map (λ rest. lists ++ rest) (option_and_then (put_first (causes_up f (drop (suc i) ns))) j)) up)
+    where
+      go : (o : Option (List (List Cause))) → option_map (λ rest. (lists ++ causes_of f bodies ∷ []) ++ rest) o ≡ option_map (λ rest. lists ++ rest) (put_first o bodies)
+      go None = refl
+      go (Some l) = ap Some (append_assoc lists (causes_of f bodies ∷ []) l)
+
+  pub causes_stop : (ns : List NodeSeen) (i : ℕ) (n : NodeSeen) (lists : List (List Cause)) → slice_get ns i ≡ Some n → n.journal ≡ None → onto lists (drop i ns) ≡ None
+  causes_stop ns i n lists at down = ap (onto lists) (drop_get ns i n at) ∙ ap (λ j. option_map (λ rest. lists ++ rest) (option_and_then (put_first (causes_up f (drop (suc i) ns))) j)) down
+
+-- ---- the answers about a node
+
+-- an item that was read stands there
+pub found : {X : Type 0} (xs : List X) (p : ℕ) (d x : X) → p < length xs → x ≡ slice_index_or xs p d → slice_get xs p ≡ Some x
+found [] p d x few is = absurd (omega (arith, few))
+found (y ∷ ys) zero d x few is = ap Some (sym is)
+found (y ∷ ys) (suc p) d x few is = found ys p d x (omega (arith, few)) is
+
+module _ {F : Type 0} (e : Environment F) (net : NetSeen) (w : World) (shows : Shows e net w) (p : ℕ) (reply : Reply) (n : NodeSeen) (at : slice_get net.nodes p ≡ Some n) where
+  pub refused_down : (code : ℕ) → n.journal ≡ None → IsRefused 3 reply → AtNode w p reply (λ x. IsRefused code reply)
+  refused_down code down is = at_down e net w shows p reply (λ x. IsRefused code reply) n at down is
+
+  refused_journal : (code : ℕ) (journal : Option (List (List ℕ))) → n.journal ≡ journal → (journal ≡ None → ⊥) → IsRefused code reply → AtNode w p reply (λ x. IsRefused code reply)
+  refused_journal code None here up is = absurd (up refl)
+  refused_journal code (Some b) here up is = at_up e net w shows p reply (λ x. IsRefused code reply) n b at here (λ x a j. is)
+
+  pub refused_up : (code : ℕ) → (n.journal ≡ None → ⊥) → IsRefused code reply → AtNode w p reply (λ x. IsRefused code reply)
+  refused_up code up is = refused_journal code n.journal refl up is
+
+  pub flows_down : n.journal ≡ None → IsRefused 3 reply → AtNode w p reply (λ x. reply_text reply ≡ printed e (causes_in e w) (of_flows p))
+  flows_down down is = at_down e net w shows p reply (λ x. reply_text reply ≡ printed e (causes_in e w) (of_flows p)) n at down is
+
+  pub flow_down : (f : ℕ) → n.journal ≡ None → IsRefused 3 reply → AtNode w p reply (AsksFlow e w p f reply)
+  flow_down f down is = at_down e net w shows p reply (AsksFlow e w p f reply) n at down is
+
+  module _ (coherent : Coherent e w) (bodies : List (List ℕ)) (up : n.journal ≡ Some bodies) where
+    pub flows_up : reply_text reply ≡ flows_text (state_of e.frame_at bodies).flows → AtNode w p reply (λ x. reply_text reply ≡ printed e (causes_in e w) (of_flows p))
+    flows_up is =
+        at_up e net w shows p reply (λ x. reply_text reply ≡ printed e (causes_in e w) (of_flows p)) n bodies at up
+        (λ x here j. is ∙ ap (λ b. flows_text (state_of e.frame_at b).flows) (sym j) ∙ sym (flows_printed e w coherent p x here))
+
+    pub flow_none : (f : ℕ) → slice_get (state_of e.frame_at bodies).flows f ≡ None → IsRefused 11 reply → AtNode w p reply (AsksFlow e w p f reply)
+    flow_none f none is =
+        at_up e net w shows p reply (AsksFlow e w p f reply) n bodies at up
+        (λ x here j. inl (ap (λ b. slice_get (state_of e.frame_at b).flows f) j ∙ none, is))
+
+    pub flow_some : (f : ℕ) (flow : FlowState F) → slice_get (state_of e.frame_at bodies).flows f ≡ Some flow → reply_text reply ≡ flow_line f flow ++ 10 ∷ [] → AtNode w p reply (AsksFlow e w p f reply)
+    flow_some f flow some is =
+        at_up e net w shows p reply (AsksFlow e w p f reply) n bodies at up
+        (λ x here j. inr (is ∙ ap (λ o. flow_text f o) (sym some) ∙ ap (λ b. flow_text f (slice_get (state_of e.frame_at b).flows f)) (sym j) ∙ sym (flow_printed e w coherent p f x here)))
+
+-- the same, of a list that another is
+pub found_at : {X : Type 0} (ys xs : List X) (p : ℕ) (d x : X) → xs ≡ ys → nat_lt p (length xs) ≡ true → x ≡ slice_index_or xs p d → slice_get ys p ≡ Some x
+found_at ys xs p d x same few is = subst (λ l. slice_get l p ≡ Some x) same (found xs p d x (grind (arith, nat_tests, few)) is)
+
+-- a node that is not up has no journal
+pub down_none : {X : Type 0} (b : Bool) (journal : Option X) → ((IsTrue b → IsSome journal) × (IsSome journal → IsTrue b)) → b ≡ false → journal ≡ None
+down_none b None h is = refl
+down_none true (Some x) h is = cc
+down_none false (Some x) h is = let e : false ≡ true = h.1 refl in cc
+
+pub up_not_none : {X : Type 0} (b : Bool) (journal : Option X) → ((IsTrue b → IsSome journal) × (IsSome journal → IsTrue b)) → b ≡ true → journal ≡ None → ⊥
+up_not_none true None h is none = let e : false ≡ true = h.0 refl in cc
+up_not_none false None h is none = cc
+up_not_none b (Some x) h is none = cc

@@ -1,7 +1,0 @@
-use Rattle.std.proofs.Common.{◌≡◌, ◌++◌, drop, map, string_bytes}
-use Rattle.node_shell.specs.Script.{words_onto, words_of}
-use Rattle.node_shell.proofs.commands.words_of.Given as goal
-
--- the words so far, and those of what is left, are those of the line
-abbrev pub invariant-bytes : goal.invariant-bytes
-invariant-bytes l = map (λ s. string_bytes s) l.words.items ++ words_onto (string_bytes l.word) (drop l.b-index l.line) ≡ words_of l.line

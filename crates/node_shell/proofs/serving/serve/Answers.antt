@@ -1,0 +1,84 @@
+use Rattle.std.proofs.Common.{refl, map, string_bytes, option_map}
+use Rattle.network_core.specs.declared.steps.Step.TheVariants as step
+use Rattle.shell_words.specs.declared.commands.Command.TheVariants as command
+use Rattle.node_shell.specs.Serve.{place_of, flow_of}
+use Rattle.node_shell.proofs.Asked.{made, answered, asked_as}
+use Rattle.node_shell.proofs.serving.serve.Goals as goal
+
+pub returns-in-Clock-clause-serves : goal.returns-in-Clock-clause-serves
+returns-in-Clock-clause-serves g c =
+    let m = g.F.FlowSet.machine in
+    let f = g.F.Spelt.reading in
+    let ws = map (λ s. string_bytes s) c.args.words.now in
+    let asked = command.Clock c.in-Clock.to in
+    asked_as m f c.args.net.now c.make.new.net asked ws c.make.result c.in-Clock.ensures
+    (made m f c.args.net.now c.make.new.net asked ws (step.Clock (record { 0 = c.in-Clock.to })) c.make.result (λ id. refl) c.make.ensures.serves)
+
+pub returns-in-Start-clause-serves : goal.returns-in-Start-clause-serves
+returns-in-Start-clause-serves g c =
+    let ws = map (λ s. string_bytes s) c.args.words.now in
+    asked_as g.F.FlowSet.machine g.F.Spelt.reading c.args.net.now c.start.new.net (command.Start c.in-Start.node) ws c.start.result c.in-Start.ensures c.start.ensures.serves
+
+pub returns-in-Turn-clause-serves : goal.returns-in-Turn-clause-serves
+returns-in-Turn-clause-serves g c =
+    let m = g.F.FlowSet.machine in
+    let f = g.F.Spelt.reading in
+    let ws = map (λ s. string_bytes s) c.args.words.now in
+    let asked = command.Turn c.in-Turn.node c.in-Turn.pick in
+    asked_as m f c.args.net.now c.make-in-Turn.new.net asked ws c.make-in-Turn.result c.in-Turn.ensures
+    (made m f c.args.net.now c.make-in-Turn.new.net asked ws (step.Turn (place_of c.in-Turn.node) (option_map flow_of c.in-Turn.pick)) c.make-in-Turn.result (λ id. refl)
+    (rw (c.place_of.ensures, c.pick_of.ensures) at c.make-in-Turn.ensures.serves))
+
+pub returns-in-Cut-clause-serves : goal.returns-in-Cut-clause-serves
+returns-in-Cut-clause-serves g c =
+    let m = g.F.FlowSet.machine in
+    let f = g.F.Spelt.reading in
+    let ws = map (λ s. string_bytes s) c.args.words.now in
+    let asked = command.Cut c.in-Cut.node c.in-Cut.calls c.in-Cut.outcome in
+    asked_as m f c.args.net.now c.make-in-Cut.new.net asked ws c.make-in-Cut.result c.in-Cut.ensures
+    (made m f c.args.net.now c.make-in-Cut.new.net asked ws (step.Cut (place_of c.in-Cut.node) c.in-Cut.calls c.in-Cut.outcome) c.make-in-Cut.result (λ id. refl)
+    (rw c.place_of-in-Cut.ensures at c.make-in-Cut.ensures.serves))
+
+pub returns-in-Boot-clause-serves : goal.returns-in-Boot-clause-serves
+returns-in-Boot-clause-serves g c =
+    let m = g.F.FlowSet.machine in
+    let f = g.F.Spelt.reading in
+    let ws = map (λ s. string_bytes s) c.args.words.now in
+    let asked = command.Boot c.in-Boot.node in
+    asked_as m f c.args.net.now c.make-in-Boot.new.net asked ws c.make-in-Boot.result c.in-Boot.ensures
+    (made m f c.args.net.now c.make-in-Boot.new.net asked ws (step.Boot (place_of c.in-Boot.node)) c.make-in-Boot.result (λ id. refl)
+    (rw c.place_of-in-Boot.ensures at c.make-in-Boot.ensures.serves))
+
+pub returns-in-Drain-clause-serves : goal.returns-in-Drain-clause-serves
+returns-in-Drain-clause-serves g c =
+    let m = g.F.FlowSet.machine in
+    let f = g.F.Spelt.reading in
+    let ws = map (λ s. string_bytes s) c.args.words.now in
+    asked_as m f c.args.net.now c.make-in-Drain.new.net command.Drain ws c.make-in-Drain.result c.in-Drain.ensures
+    (made m f c.args.net.now c.make-in-Drain.new.net command.Drain ws step.Drain c.make-in-Drain.result (λ id. refl) c.make-in-Drain.ensures.serves)
+
+pub returns-in-Flows-clause-serves : goal.returns-in-Flows-clause-serves
+returns-in-Flows-clause-serves g c =
+    let m = g.F.FlowSet.machine in
+    let f = g.F.Spelt.reading in
+    let ws = map (λ s. string_bytes s) c.args.words.now in
+    let asked = command.Flows c.in-Flows.node in
+    asked_as m f c.args.net.now c.args.net.now asked ws c.print_flows.result c.in-Flows.ensures
+    (answered m f c.args.net.now asked ws c.print_flows.result (λ id. refl) (rw c.place_of-in-Flows.ensures at c.print_flows.ensures.asks))
+
+pub returns-in-Flow-clause-serves : goal.returns-in-Flow-clause-serves
+returns-in-Flow-clause-serves g c =
+    let m = g.F.FlowSet.machine in
+    let f = g.F.Spelt.reading in
+    let ws = map (λ s. string_bytes s) c.args.words.now in
+    let asked = command.Flow c.in-Flow.node c.in-Flow.flow in
+    asked_as m f c.args.net.now c.args.net.now asked ws c.print_flow.result c.in-Flow.ensures
+    (answered m f c.args.net.now asked ws c.print_flow.result (λ id. refl) (rw (c.place_of-in-Flow.ensures, c.flow_of.ensures) at c.print_flow.ensures.asks))
+
+pub returns-in-History-clause-serves : goal.returns-in-History-clause-serves
+returns-in-History-clause-serves g c =
+    let m = g.F.FlowSet.machine in
+    let f = g.F.Spelt.reading in
+    let ws = map (λ s. string_bytes s) c.args.words.now in
+    asked_as m f c.args.net.now c.args.net.now command.History ws c.print_history.result c.in-History.ensures
+    (answered m f c.args.net.now command.History ws c.print_history.result (λ id. refl) c.print_history.ensures.asks)

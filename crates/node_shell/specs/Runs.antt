@@ -1,0 +1,141 @@
+-- A whole run: how the network opened, and how the script went.
+use Rattle.std.specs.Prelude.{◌≡◌, ◌⊎◌, ℕ, ◌<◌, List, [], ◌∷◌, ◌++◌, length, map, Option, Some, codes, decimal, false, slice_get, ⊤}
+use Rattle.std.specs.Io.KnownBytes.{Appends}
+use Rattle.outside.specs.Disk.{DiskView}
+use Rattle.net_model.specs.Environment.{Environment, environment, party}
+use Rattle.net_model.specs.Runs.{IsFaithful, network_of}
+use Rattle.flow_machine.specs.Machine.{Machine}
+use Rattle.node_core.specs.Journals.{Reads, records_of, state_of, causes_of}
+use Rattle.node_core.specs.declared.faults.BootFault.{BootFault}
+use Rattle.node_core.specs.declared.faults.BootFault.TheVariants as boot
+use Rattle.network_core.specs.Worlds.{World, NodeWorld, NetSeen, MaySpell, Shows, Coherent, Choice}
+use Rattle.network_core.specs.Begins.{member, net_over, Begun}
+use Rattle.node_shell.specs.declared.statuses.Status.{Status}
+use Rattle.node_shell.specs.declared.statuses.Status.TheVariants as status
+use Rattle.node_shell.specs.Story.{ScriptRun, IsScriptStatus}
+
+-- the number of a status
+abbrev pub number_of_status : Status → ℕ
+number_of_status status.Finished = 0
+number_of_status status.BadWords = 2
+number_of_status status.TooLong = 3
+number_of_status status.ReadFault = 4
+number_of_status status.WriteFault = 5
+number_of_status status.DiskFault = 6
+number_of_status status.NoMemory = 7
+number_of_status status.BadJournal = 8
+
+-- a network of one node, which is the notary too
+abbrev pub alone : {F : Type 0} → Machine F → Reads F → Environment F
+alone m frame_at = environment m frame_at (member 1 (party 0) 0)
+
+-- the network of one node that is down over a disk, at a moment
+abbrev pub over : ℕ → DiskView → NetSeen
+over now disk = net_over 1 (party 0) now (disk ∷ [])
+
+-- a world whose nodes are all down
+abbrev pub all_down : World → World
+all_down w = record w { nodes = map (λ (x : NodeWorld). record x { up = false }) w.nodes }
+
+-- a world with the disks' counts of faults, which alone a making ready changes
+abbrev pub with_faults : ℕ → World → World
+with_faults n w = record w { nodes = map (λ (x : NodeWorld). record x { faults = n }) w.nodes }
+
+-- the disk shows a coherent world, and whichever journals a power cut leaves of it are those of one run of the network
+pub record Rests {F : Type 0} (e : Environment F) (disk : DiskView) (w : World) : Type 0 where
+  pub shows : Shows e (over w.now disk) w
+  pub coherent : Coherent e w
+  pub faithful : (lists : List (List (List ℕ))) → Choice w lists → IsFaithful e (map (records_of e.frame_at) lists) × (network_of e (map (causes_of e.frame_at) lists) ≡ Some (map (state_of e.frame_at) lists))
+
+-- the node opened, and its script went from the opening world to the last, in which its disk rests
+pub record Plays {F : Type 0} (e : Environment F) (w : World) (disk : DiskView) (left0 left1 written0 written1 : Option (List ℕ)) (count : ℕ) (status : Status) : Type 0 where
+  pub is_script : IsScriptStatus status
+  pub faults : ℕ
+  pub start : World
+  pub begins : Begun e (with_faults faults w) start
+  pub last : World
+  pub script : ScriptRun e start left0 left1 written0 written1 count last status
+  pub rests : Rests e disk (all_down last)
+
+-- the line for a node's first opening that found no sound journal of its own
+abbrev pub journal_line : ℕ → BootFault → List ℕ
+journal_line node (boot.Damaged at) = codes "! journal " ++ decimal node ++ codes " damaged " ++ decimal at ++ 10 ∷ []
+journal_line node boot.NotAJournal = codes "! journal " ++ decimal node ++ codes " foreign\n"
+journal_line node (boot.WrongNode found) = codes "! journal " ++ decimal node ++ codes " wrong\n"
+journal_line node boot.Fault = []
+journal_line node boot.Memory = []
+
+-- the line is written and the status says so; or memory runs out; or a proper front of it is written
+abbrev pub Writes : List ℕ → Option (List ℕ) → Option (List ℕ) → Status → Type 0
+Writes line written0 written1 status.BadJournal = Appends written0 written1 line
+Writes line written0 written1 status.NoMemory = written1 ≡ written0
+Writes line written0 written1 status.WriteFault = (front missing : List ℕ) × (line ≡ front ++ missing) × (0 < length missing) × Appends written0 written1 front
+Writes line written0 written1 status.Finished = ⊥
+Writes line written0 written1 status.BadWords = ⊥
+Writes line written0 written1 status.TooLong = ⊥
+Writes line written0 written1 status.ReadFault = ⊥
+Writes line written0 written1 status.DiskFault = ⊥
+
+-- the first opening was refused so: what is written, and the status
+abbrev pub RefusedWith : ℕ → BootFault → Option (List ℕ) → Option (List ℕ) → Status → Type 0
+RefusedWith node boot.Fault written0 written1 s = (s ≡ status.DiskFault) × (written1 ≡ written0)
+RefusedWith node boot.Memory written0 written1 s = (s ≡ status.NoMemory) × (written1 ≡ written0)
+RefusedWith node boot.NotAJournal written0 written1 s = Writes (journal_line node boot.NotAJournal) written0 written1 s
+RefusedWith node (boot.WrongNode found) written0 written1 s = Writes (journal_line node (boot.WrongNode found)) written0 written1 s
+RefusedWith node (boot.Damaged at) written0 written1 s = Writes (journal_line node (boot.Damaged at)) written0 written1 s
+
+-- no journal is there that a power cut might not have left before
+abbrev pub LeavesFewer : World → World → Type 0
+LeavesFewer w v = (p : ℕ) (x y : NodeWorld) (l : List (List ℕ)) → slice_get w.nodes p ≡ Some x → slice_get v.nodes p ≡ Some y → MaySpell y l → MaySpell x l
+
+-- the node did not open: nothing was read, and the disk rests on a journal that it may have left before; what was written says why
+pub record Refuses {F : Type 0} (e : Environment F) (w : World) (disk : DiskView) (left0 left1 written0 written1 : Option (List ℕ)) (count : ℕ) (s : Status) : Type 0 where
+  pub unread : left1 ≡ left0
+  pub none : count ≡ 0
+  pub world : World
+  pub rests : Rests e disk world
+  pub fewer : LeavesFewer w world
+  pub why : ((s ≡ status.DiskFault) × (written1 ≡ written0)) ⊎ (((s ≡ status.NoMemory) × (written1 ≡ written0)) ⊎ ((fault : BootFault) × RefusedWith 0 fault written0 written1 s))
+
+-- a run over a disk that shows this world while its node is down: the node opened and its script was played, or it did not open
+pub record RunsAs {F : Type 0} (e : Environment F) (w : World) (disk : DiskView) (left0 left1 written0 written1 : Option (List ℕ)) (count number : ℕ) : Type 0 where
+  pub status : Status
+  pub is : number ≡ number_of_status status
+  pub ran : Plays e w disk left0 left1 written0 written1 count status ⊎ Refuses e w disk left0 left1 written0 written1 count status
+
+-- the statuses of a disk that was not made ready
+abbrev pub IsOpeningStatus : Status → Type 0
+IsOpeningStatus status.DiskFault = ⊤
+IsOpeningStatus status.NoMemory = ⊤
+IsOpeningStatus status.Finished = ⊥
+IsOpeningStatus status.BadWords = ⊥
+IsOpeningStatus status.TooLong = ⊥
+IsOpeningStatus status.ReadFault = ⊥
+IsOpeningStatus status.WriteFault = ⊥
+IsOpeningStatus status.BadJournal = ⊥
+
+-- the statuses of a first opening that was refused
+abbrev pub IsRefusedStatus : Status → Type 0
+IsRefusedStatus status.DiskFault = ⊤
+IsRefusedStatus status.NoMemory = ⊤
+IsRefusedStatus status.WriteFault = ⊤
+IsRefusedStatus status.BadJournal = ⊤
+IsRefusedStatus status.Finished = ⊥
+IsRefusedStatus status.BadWords = ⊥
+IsRefusedStatus status.TooLong = ⊥
+IsRefusedStatus status.ReadFault = ⊥
+
+-- every status but that of refused words
+abbrev pub IsRunStatus : Status → Type 0
+IsRunStatus status.BadWords = ⊥
+IsRunStatus status.DiskFault = ⊤
+IsRunStatus status.NoMemory = ⊤
+IsRunStatus status.WriteFault = ⊤
+IsRunStatus status.BadJournal = ⊤
+IsRunStatus status.Finished = ⊤
+IsRunStatus status.TooLong = ⊤
+IsRunStatus status.ReadFault = ⊤
+
+-- the node opened and its script was played, or it did not open
+abbrev pub PlaysOrRefuses : {F : Type 0} → Environment F → World → DiskView → Option (List ℕ) → Option (List ℕ) → Option (List ℕ) → Option (List ℕ) → ℕ → Status → Type 0
+PlaysOrRefuses e w disk left0 left1 written0 written1 count s = Plays e w disk left0 left1 written0 written1 count s ⊎ Refuses e w disk left0 left1 written0 written1 count s

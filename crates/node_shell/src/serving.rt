@@ -1,0 +1,256 @@
+//! What the words of a line do to the network.
+
+ghost use Rattle.std.specs.Prelude.{◌≡◌, ◌<◌, ◌≤◌, IfOk, map, string_bytes, List, ℕ, min, ◌-◌, ◌^◌, length, drop, slice_index_or, [], Option, Some, None, option_map, false};
+ghost use Rattle.network_core.specs.Worlds.{KeepsWorld};
+ghost use Rattle.shell_words.specs.Script.{command_of, is_quit, has_mark};
+ghost use Rattle.shell_words.specs.declared.commands.Command.TheVariants as command;
+ghost use Rattle.flow_machine.specs.Flows.{GivesWords};
+ghost use Rattle.net_model.specs.Print.{printed, of_flows};
+ghost use Rattle.node_shell.specs.Serve.{Comes, LineComes, StepComes, InWorld, AtNode, AsksFlow, AsksHistory, IsRefused, causes_in, causes_up, unmarked, place_of, flow_of, is_end, is_quit_command, reply_text};
+
+use super::replies::Reply;
+use flow_machine::{FlowSet, WordFault};
+use net_base::{ByteList, CauseList, Moment};
+use network_core::{Net, Outcome, Step};
+use node_core::Node;
+use outside::Bay;
+use shell_report::{copy_causes, flow_text, flows_text, history_text};
+use shell_words::{Command, command_of, has_mark, has_no_answer, is_readable, words_of};
+use std::alloc::{AllocError, Global};
+
+/// The place of a node of this number; one that is too great is none's.
+fn place_of(node: u64) -> u8
+    ensures { result ≡ place_of node }
+{
+    node.min(255) as u8
+}
+
+/// The number of a flow; one that is too great is none's.
+fn flow_of(flow: u64) -> u32
+    ensures { result ≡ flow_of flow }
+{
+    flow.min(u32::MAX as u64) as u32
+}
+
+/// The pick of a turn.
+fn pick_of(pick: Option<u64>) -> Option<u32>
+    ensures { result ≡ option_map flow_of pick }
+{
+    match pick {
+        Some(flow) => Some(flow_of(flow)),
+        None => None,
+    }
+}
+
+/// A refusal.
+fn refused(code: u8) -> Reply
+    ensures { IsRefused code result }
+{
+    Reply::Told(Outcome::Refused { code })
+}
+
+/// Makes a step, and tells its outcome.
+fn make<B: Bay, F: FlowSet>(
+    alloc: Global,
+    net: &mut Net<B, F>,
+    step: &Step,
+) -> Result<Reply, AllocError>
+    ensures serves { KeepsWorld F.machine F.reading net.old net.new (λ e w v. StepComes e w step.now result v) }
+    ensures count { length net.new.nodes ≡ length net.old.nodes }
+    ensures goes_on { IfOk result (λ reply. is_end reply ≡ false) }
+{
+    Ok(Reply::Told(net.apply(alloc, step)?))
+}
+
+/// The class and the arguments that the words of a start ask for.
+fn started_by<F: FlowSet>(alloc: Global, words: &[String]) -> Result<(u16, ByteList), WordFault>
+    requires { 2 < length words.now }
+    ensures { let ws = map (λ s. string_bytes s) words.now in GivesWords result (unmarked (has_mark (drop 3 ws)) (F.machine.worded (slice_index_or ws 2 []) (drop 3 ws))) }
+{
+    let args = &words[3..];
+    match F::read_words(alloc, words[2].as_str(), args) {
+        Ok(_) if has_mark(args) => Err(WordFault::BadArgs),
+        Ok(named) => Ok(named),
+        Err(fault) => Err(fault),
+    }
+}
+
+/// A refusal of a command at a node that is there and up.
+fn refuse_at<B: Bay, F: FlowSet>(net: &Net<B, F>, place: u8, code: u8) -> Reply
+    ensures asks { InWorld F.machine F.reading net.entry.now (λ e w. AtNode w place result (λ x. IsRefused code result)) }
+    ensures goes_on { is_end result ≡ false }
+{
+    match net.nodes().get(place as usize) {
+        None => refused(2),
+        Some(node) => refused(if node.is_up() { code } else { 3 }),
+    }
+}
+
+/// Starts the flow that the words name.
+fn start<B: Bay, F: FlowSet>(
+    alloc: Global,
+    net: &mut Net<B, F>,
+    node: u64,
+    words: &[String],
+) -> Result<Reply, AllocError>
+    requires { 2 < length words.now }
+    ensures serves { KeepsWorld F.machine F.reading net.old net.new (λ e w v. Comes e w (command.Start node) (map (λ s. string_bytes s) words.now) result v) }
+    ensures count { length net.new.nodes ≡ length net.old.nodes }
+    ensures goes_on { IfOk result (λ reply. is_end reply ≡ false) }
+{
+    let place = place_of(node);
+    match started_by::<F>(alloc, words) {
+        Ok((class, args)) => {
+            let step = Step::Start {
+                node: place,
+                class,
+                args,
+            };
+            make(alloc, net, &step)
+        }
+        Err(WordFault::Memory) => Err(AllocError),
+        Err(WordFault::UnknownClass) => Ok(refuse_at(net, place, 5)),
+        Err(WordFault::BadArgs) => Ok(refuse_at(net, place, 6)),
+    }
+}
+
+/// The lines of a node's flows.
+fn print_flows<B: Bay, F: FlowSet>(
+    alloc: Global,
+    net: &Net<B, F>,
+    place: u8,
+) -> Result<Reply, AllocError>
+    ensures asks { InWorld F.machine F.reading net.entry.now (λ e w. IfOk result (λ reply. AtNode w place reply (λ x. reply_text reply ≡ printed e (causes_in e w) (of_flows place)))) }
+    ensures goes_on { IfOk result (λ reply. is_end reply ≡ false) }
+{
+    let Some(node) = net.nodes().get(place as usize) else {
+        return Ok(refused(2));
+    };
+    match node.flows() {
+        None => Ok(refused(3)),
+        Some(flows) => Ok(Reply::Printed(flows_text(alloc, flows)?)),
+    }
+}
+
+/// The line of a node's flow.
+fn print_flow<B: Bay, F: FlowSet>(
+    alloc: Global,
+    net: &Net<B, F>,
+    place: u8,
+    flow: u32,
+) -> Result<Reply, AllocError>
+    ensures asks { InWorld F.machine F.reading net.entry.now (λ e w. IfOk result (λ reply. AtNode w place reply (AsksFlow e w place flow reply))) }
+    ensures goes_on { IfOk result (λ reply. is_end reply ≡ false) }
+{
+    let Some(node) = net.nodes().get(place as usize) else {
+        return Ok(refused(2));
+    };
+    match node.flows() {
+        None => Ok(refused(3)),
+        Some(flows) => match flow_text(alloc, flows, flow)? {
+            None => Ok(refused(11)),
+            Some(line) => Ok(Reply::Printed(line)),
+        },
+    }
+}
+
+/// The causes of all nodes' journals; `None` where a node is down.
+fn all_causes<B: Bay, F: FlowSet>(
+    alloc: Global,
+    nodes: &[Node<B, F>],
+) -> Result<Option<Vec<CauseList>>, AllocError>
+    ensures { IfOk result (λ r. option_map (λ lists. lists.items) r ≡ causes_up F.reading nodes.now) }
+{
+    let mut lists = Vec::with_capacity(alloc, nodes.len())?;
+    for node in nodes {
+        let Some(causes) = node.causes() else {
+            return Ok(None);
+        };
+        lists.push(copy_causes(alloc, causes)?)?;
+    }
+    Ok(Some(lists))
+}
+
+/// The merged causes of all nodes.
+fn print_history<B: Bay, F: FlowSet>(alloc: Global, net: &Net<B, F>) -> Result<Reply, AllocError>
+    ensures asks { InWorld F.machine F.reading net.entry.now (λ e w. IfOk result (λ reply. AsksHistory e w reply)) }
+    ensures goes_on { IfOk result (λ reply. is_end reply ≡ false) }
+{
+    match all_causes(alloc, net.nodes())? {
+        None => Ok(refused(3)),
+        Some(lists) => Ok(Reply::Printed(history_text(alloc, lists.as_slice())?)),
+    }
+}
+
+/// Does what the words of a line ask for.
+fn serve<B: Bay, F: FlowSet>(
+    alloc: Global,
+    net: &mut Net<B, F>,
+    words: &[String],
+) -> Result<Reply, AllocError>
+    ensures serves { let ws = map (λ s. string_bytes s) words.now in KeepsWorld F.machine F.reading net.old net.new (λ e w v. Comes e w (command_of ws) ws result v) }
+    ensures count { length net.new.nodes ≡ length net.old.nodes }
+    ensures end { IfOk result (λ reply. is_end reply ≡ is_quit_command (command_of (map (λ s. string_bytes s) words.now))) }
+{
+    match command_of(words) {
+        Command::Clock { to } => make(alloc, net, &Step::Clock { to: Moment(to) }),
+        Command::Start { node } => start(alloc, net, node, words),
+        Command::Turn { node, pick } => {
+            let step = Step::Turn {
+                node: place_of(node),
+                pick: pick_of(pick),
+            };
+            make(alloc, net, &step)
+        }
+        Command::Cut {
+            node,
+            calls,
+            outcome,
+        } => {
+            let step = Step::Cut {
+                node: place_of(node),
+                calls,
+                outcome,
+            };
+            make(alloc, net, &step)
+        }
+        Command::Boot { node } => make(
+            alloc,
+            net,
+            &Step::Boot {
+                node: place_of(node),
+            },
+        ),
+        Command::Drain => make(alloc, net, &Step::Drain),
+        Command::Flows { node } => print_flows(alloc, net, place_of(node)),
+        Command::Flow { node, flow } => print_flow(alloc, net, place_of(node), flow_of(flow)),
+        Command::History => print_history(alloc, net),
+        Command::Quit => Ok(Reply::Quit),
+        Command::Unknown => Ok(refused(1)),
+    }
+}
+
+/// The reply to a line, once what it asks for is done.
+///
+/// # Errors
+///
+/// `AllocError` for want of memory. Nothing has changed then, but that a drain keeps the turns that it made, and that a node which was
+/// to be booted has its power back.
+pub fn reply_to<B: Bay, F: FlowSet>(
+    alloc: Global,
+    net: &mut Net<B, F>,
+    line: &[u8],
+) -> Result<Reply, AllocError>
+    ensures replies { KeepsWorld F.machine F.reading net.old net.new (λ e w v. LineComes e w line.now result v) }
+    ensures count { length net.new.nodes ≡ length net.old.nodes }
+    ensures end { IfOk result (λ reply. is_end reply ≡ is_quit line.now) }
+{
+    if has_no_answer(line) {
+        return Ok(Reply::Silence);
+    }
+    if !is_readable(line) {
+        return Ok(refused(1));
+    }
+    let words = words_of(alloc, line)?;
+    serve(alloc, net, words.as_slice())
+}

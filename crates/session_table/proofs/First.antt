@@ -1,0 +1,35 @@
+-- The first session of party 0, with party 1.
+use Rattle.std.proofs.Common.{ℕ, List, [], ◌∷◌, Some, None, refl, arith}
+use Rattle.net_base.specs.declared.names.Key.{Key}
+use Rattle.net_base.specs.declared.values.Party.{Party}
+use Rattle.ledger_types.specs.declared.value.Value.TheVariants.{Number}
+use Rattle.session_wire.specs.declared.body.Body.TheVariants.{Init}
+use Rattle.session_wire.specs.declared.change.SentItem.{SentItem}
+use Rattle.session_wire.specs.declared.change.SessionChange.{SessionChange}
+use Rattle.session_wire.specs.Sessions.{new_session}
+use Rattle.session_table.specs.Changes.{IsFitting}
+
+abbrev me : Party
+me = record { 0 = 0 }
+
+abbrev peer : Party
+peer = record { 0 = 1 }
+
+abbrev key : Key
+key = record { initiator = me; number = 0 }
+
+abbrev pub first_sent : List SentItem
+first_sent = record { key = key; direction = 0; seq = 0; body = Init 2 (Number 9) } ∷ []
+
+-- it is opened, and these items are sent
+abbrev pub first_change : List SentItem → SessionChange
+first_change sent = record { opened = Some (key, peer); owner = 5; sent = sent; came = None; came_key = None; taken = None }
+
+-- such a change fits where there is no session
+pub fits_first : (stamp : ℕ) → IsFitting me stamp [] (first_change first_sent)
+fits_first stamp = record {
+  came = tt;
+  opened = record { own = refl; next = refl; other = λ e. omega (arith, e); init = refl };
+  sent = (record { session = new_session key peer (Some 5) []; stands = refl; outgoing = refl; next = refl; lawful = refl }, tt);
+  taken = tt;
+}

@@ -1,0 +1,116 @@
+//! A session that is opened on a table that has none.
+
+ghost use Rattle.std.specs.Prelude.{◌≡◌, [], ◌∷◌, IfOk};
+ghost use Rattle.ledger_types.specs.declared.value.Value.TheVariants.{Number};
+ghost use Rattle.session_wire.specs.declared.body.Body.TheVariants.{Init};
+
+use crate::{Item, Sessions};
+use ledger_types::Value;
+use net_base::{Key, ListOf, Party};
+use session_wire::{Body, SentItem, SentList, SessionChange};
+use std::alloc::{AllocError, Global};
+use std::test::Fail;
+
+const KEY: Key = Key {
+    initiator: Party(0),
+    number: 0,
+};
+
+/// The `Init` of the session.
+fn first_item(alloc: Global) -> Result<SentList, AllocError>
+    ensures { IfOk result (λ items. items ≡ record { key = record { initiator = record { 0 = 0 }; number = 0 }; direction = 0; seq = 0; body = Init 2 (Number 9) } ∷ []) }
+{
+    let mut sent = Vec::new(alloc);
+    sent.push(SentItem {
+        key: KEY,
+        direction: 0,
+        seq: 0,
+        body: Body::Init {
+            class: 2,
+            first: Value::Number(9),
+        },
+    })?;
+    Ok(ListOf::from_vec(sent))
+}
+
+/// Opens the session with party 1 for flow 5, at stamp 7.
+fn open_first(alloc: Global, sessions: &mut Sessions) -> Result<(), AllocError>
+    requires party { sessions.old.party.0 ≡ 0 }
+    requires list { sessions.old.list ≡ [] }
+{
+    let change = SessionChange {
+        opened: Some((KEY, Party(1))),
+        owner: 5,
+        sent: first_item(alloc)?,
+        came: None,
+        came_key: None,
+        taken: None,
+    };
+    sessions.make_room(alloc, &change)?;
+    sessions.apply(change, 7);
+    Ok(())
+}
+
+/// A table of party 0 with the session.
+fn opened(alloc: Global) -> Result<Sessions, AllocError> {
+    let mut sessions = Sessions::new(alloc, Party(0));
+    open_first(alloc, &mut sessions)?;
+    Ok(sessions)
+}
+
+/// Whether this is the session's `Init`, as it is sent again.
+fn is_first(item: &Item) -> bool {
+    item.peer == Party(1)
+        && item.key == KEY
+        && item.direction == 0
+        && item.number == 0
+        && item.stamp == 7
+        && matches!(item.body, Body::Init { class: 2, .. })
+}
+
+/// How many items aren't acknowledged, and whether the first is the session's.
+fn unacked(alloc: Global, sessions: &Sessions) -> Result<(usize, bool), AllocError> {
+    let items = sessions.unacked(alloc)?;
+    let shown = match items.as_slice().first() {
+        Some(item) => (items.len(), is_first(item)),
+        None => (0, false),
+    };
+    std::mem::forget(items);
+    Ok(shown)
+}
+
+/// Acknowledges the session's item.
+fn acknowledge(sessions: &mut Sessions, direction: u8) {
+    if sessions.sent(&KEY) == Some(1) {
+        sessions.acknowledge(&KEY, direction, 1);
+    }
+}
+
+#[test]
+fn an_opened_session_is_there(rt: HostRuntime) -> Result<(), Fail> {
+    let sessions = opened(rt.alloc())?;
+    assert_eq!(rt; sessions.next_number(), 1);
+    assert_eq!(rt; sessions.peer(&KEY), Some(Party(1)));
+    assert_eq!(rt; sessions.owner(&KEY), Some(5));
+    assert_eq!(rt; sessions.sent(&KEY), Some(1));
+    assert_eq!(rt; sessions.taken(&KEY), Some(0));
+    assert_eq!(rt; sessions.expected(&KEY, 1), Some(0));
+    assert_eq!(rt; sessions.item_place(&KEY), None);
+    assert_eq!(rt; sessions.of_flow(5, 0), Some(KEY));
+    assert_eq!(rt; sessions.of_flow(5, 1), None);
+    assert_eq!(rt; sessions.of_flow(4, 0), None);
+    Ok(())
+}
+
+/// An acknowledgement counts in the direction in which the item was sent alone.
+#[test]
+fn an_acknowledged_item_is_not_listed(rt: HostRuntime) -> Result<(), Fail> {
+    let mut sessions = opened(rt.alloc())?;
+    assert_eq!(rt; unacked(rt.alloc(), &sessions)?, (1, true));
+    acknowledge(&mut sessions, 1);
+    assert_eq!(rt; unacked(rt.alloc(), &sessions)?, (1, true));
+    acknowledge(&mut sessions, 0);
+    assert_eq!(rt; unacked(rt.alloc(), &sessions)?, (0, false));
+    assert_eq!(rt; sessions.sent(&KEY), Some(1));
+    Ok(())
+}

@@ -1,0 +1,3 @@
+mod FiveWords
+mod Marks
+pub mod Splitting

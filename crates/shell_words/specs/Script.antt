@@ -1,0 +1,199 @@
+-- The script: its lines, their words, and what the words ask for; and the words that the program is started with.
+use Rattle.std.specs.Prelude.{◌≡◌, ◌≢◌, ℕ, ◌-◌, List, [], ◌∷◌, ◌++◌, Bool, true, false, Option, Some, None, is_some, All, nat_lt, nat_le, ◌==◌, ◌&&◌, ◌||◌, not, if◌then◌else◌, length, codes, take, slice_index, map}
+use Rattle.std.specs.List.{list_all, list_any, flat_map}
+use Rattle.std.specs.Str.{bytes_eq}
+use Rattle.net_base.specs.Numbers.{number_of}
+use Rattle.shell_words.specs.declared.commands.Command.{Command}
+use Rattle.shell_words.specs.declared.commands.Command.TheVariants.{Clock, Start, Turn, Cut, Boot, Drain, Flows, Flow, History, Quit, Unknown}
+
+-- ---- lines
+
+-- a line with the LF that ends it
+abbrev pub ended_line : List ℕ → List ℕ
+ended_line line = line ++ 10 ∷ []
+
+-- no byte of it is LF
+abbrev pub HasNoEnd : List ℕ → Type 0
+HasNoEnd bytes = All (λ b. b ≢ 10) bytes
+
+-- the bytes are these whole lines, each with its LF, and then a rest without an LF
+pub record AreLines (bytes : List ℕ) (lines : List (List ℕ)) (rest : List ℕ) : Type 0 where
+  pub whole : bytes ≡ flat_map ended_line lines ++ rest
+  pub each : All HasNoEnd lines
+  pub open_rest : HasNoEnd rest
+
+-- a line without a CR at its end
+abbrev pub without_cr : List ℕ → List ℕ
+without_cr line = if (nat_lt 0 (length line) && (slice_index line (length line - 1) == 13)) then take (length line - 1) line else line
+
+-- the whole lines, each without a CR before its LF
+abbrev pub whole_lines : List (List ℕ) → List (List ℕ)
+whole_lines lines = map without_cr lines
+
+-- a last line that no LF ends, where there is one
+abbrev pub last_line : List ℕ → List (List ℕ)
+last_line [] = []
+last_line (b ∷ bs) = (b ∷ bs) ∷ []
+
+-- ---- words
+
+-- a space or a tab
+abbrev pub is_blank : ℕ → Bool
+is_blank b = (b == 32) || (b == 9)
+
+-- printable ASCII, or a tab
+abbrev pub is_plain : ℕ → Bool
+is_plain b = (nat_le 32 b && nat_lt b 127) || (b == 9)
+
+-- a line that begins with `#`
+abbrev pub is_comment : List ℕ → Bool
+is_comment [] = false
+is_comment (b ∷ bs) = b == 35
+
+-- a comment, or a line without a word: it has no answer
+abbrev pub has_no_answer : List ℕ → Bool
+has_no_answer line = is_comment line || list_all is_blank line
+
+-- at most 4,096 bytes, each of them plain
+abbrev pub is_readable : List ℕ → Bool
+is_readable line = nat_le (length line) 4096 && list_all is_plain line
+
+-- a word that has come to its end
+abbrev pub ended : List ℕ → List (List ℕ)
+ended [] = []
+ended (b ∷ bs) = (b ∷ bs) ∷ []
+
+-- the words of bytes that follow these of a word
+abbrev pub words_onto : List ℕ → List ℕ → List (List ℕ)
+words_onto word [] = ended word
+words_onto word (b ∷ bs) = if is_blank b then ended word ++ words_onto [] bs else words_onto (word ++ b ∷ []) bs
+
+-- the words of a line, between blanks
+abbrev pub words_of : List ℕ → List (List ℕ)
+words_of line = words_onto [] line
+
+-- ---- commands
+
+-- `clock` with a moment
+abbrev pub clock_of : Option ℕ → Command
+clock_of None = Unknown
+clock_of (Some to) = Clock to
+
+-- `start` with a node
+abbrev pub start_of : Option ℕ → Command
+start_of None = Unknown
+start_of (Some node) = Start node
+
+-- `turn` with a node, the flow left open
+abbrev pub turn_of : Option ℕ → Command
+turn_of None = Unknown
+turn_of (Some node) = Turn node None
+
+-- `turn` with a node and one of its flows
+abbrev pub picked_turn_of : Option ℕ → Option ℕ → Command
+picked_turn_of None flow = Unknown
+picked_turn_of (Some node) None = Unknown
+picked_turn_of (Some node) (Some flow) = Turn node (Some flow)
+
+-- `cut` with a node, a count of calls and an outcome of at most 3
+abbrev pub cut_of : Option ℕ → Option ℕ → Option ℕ → Command
+cut_of None calls outcome = Unknown
+cut_of (Some node) None outcome = Unknown
+cut_of (Some node) (Some calls) None = Unknown
+cut_of (Some node) (Some calls) (Some outcome) = if nat_le outcome 3 then Cut node calls outcome else Unknown
+
+-- `boot` with a node
+abbrev pub boot_of : Option ℕ → Command
+boot_of None = Unknown
+boot_of (Some node) = Boot node
+
+-- `flows` with a node
+abbrev pub flows_of : Option ℕ → Command
+flows_of None = Unknown
+flows_of (Some node) = Flows node
+
+-- `flow` with a node and one of its flows
+abbrev pub flow_of : Option ℕ → Option ℕ → Command
+flow_of None flow = Unknown
+flow_of (Some node) None = Unknown
+flow_of (Some node) (Some flow) = Flow node flow
+
+-- what one word asks for: `drain`, `history` or `quit`
+abbrev pub one_word : List ℕ → Command
+one_word w = if bytes_eq w (codes "drain") then Drain else if bytes_eq w (codes "history") then History else if bytes_eq w (codes "quit") then Quit else Unknown
+
+-- what two words ask for: `clock T`, `turn N`, `boot N` or `flows N`
+abbrev pub two_words : List ℕ → List ℕ → Command
+two_words w n = if bytes_eq w (codes "clock") then clock_of (number_of n) else if bytes_eq w (codes "turn") then turn_of (number_of n) else if bytes_eq w (codes "boot") then boot_of (number_of n) else if bytes_eq w (codes "flows") then flows_of (number_of n) else Unknown
+
+-- what three and more words ask for where no other command has so many: `start N CLASS ARGS..`
+abbrev pub many_words : List ℕ → List ℕ → Command
+many_words w n = if bytes_eq w (codes "start") then start_of (number_of n) else Unknown
+
+-- what three words ask for: `turn N F`, `flow N F` or `start N CLASS`
+abbrev pub three_words : List ℕ → List ℕ → List ℕ → Command
+three_words w n m = if bytes_eq w (codes "turn") then picked_turn_of (number_of n) (number_of m) else if bytes_eq w (codes "flow") then flow_of (number_of n) (number_of m) else many_words w n
+
+-- what four words ask for: `cut N CALLS OUTCOME` or `start N CLASS ARG`
+abbrev pub four_words : List ℕ → List ℕ → List ℕ → List ℕ → Command
+four_words w n m k = if bytes_eq w (codes "cut") then cut_of (number_of n) (number_of m) (number_of k) else many_words w n
+
+-- what words ask for, by their count
+abbrev pub command_of : List (List ℕ) → Command
+command_of [] = Unknown
+command_of (w ∷ []) = one_word w
+command_of (w ∷ n ∷ []) = two_words w n
+command_of (w ∷ n ∷ m ∷ []) = three_words w n m
+command_of (w ∷ n ∷ m ∷ k ∷ []) = four_words w n m k
+command_of (w ∷ n ∷ m ∷ k ∷ x ∷ more) = many_words w n
+
+-- what a line asks for: nothing that is known where it has no answer or can't be read
+abbrev pub asked_by : List ℕ → Command
+asked_by line = if has_no_answer line || not (is_readable line) then Unknown else command_of (words_of line)
+
+-- the command is `quit`
+abbrev pub asks_quit : Command → Bool
+asks_quit (Clock to) = false
+asks_quit (Start node) = false
+asks_quit (Turn node pick) = false
+asks_quit (Cut node calls outcome) = false
+asks_quit (Boot node) = false
+asks_quit Drain = false
+asks_quit (Flows node) = false
+asks_quit (Flow node flow) = false
+asks_quit History = false
+asks_quit Quit = true
+asks_quit Unknown = false
+
+-- a line that asks for `quit`
+abbrev pub is_quit : List ℕ → Bool
+is_quit line = asks_quit (asked_by line)
+
+-- ---- marks
+
+-- what follows a first `#`
+abbrev pub after_hash : List ℕ → Option (List ℕ)
+after_hash [] = None
+after_hash (b ∷ bs) = if b == 35 then Some bs else None
+
+-- there are bytes, and they are a number
+abbrev pub is_number : Option (List ℕ) → Bool
+is_number None = false
+is_number (Some bytes) = is_some (number_of bytes)
+
+-- `#` with a number behind it, as `#k` names a recorded transaction
+abbrev pub is_mark : List ℕ → Bool
+is_mark word = is_number (after_hash word)
+
+-- some word is such a mark
+abbrev pub has_mark : List (List ℕ) → Bool
+has_mark args = list_any is_mark args
+
+-- ---- the program's words
+
+-- the words are exactly `--nodes 1`
+abbrev pub is_one_node : List (List ℕ) → Bool
+is_one_node [] = false
+is_one_node (w ∷ []) = false
+is_one_node (w ∷ n ∷ []) = bytes_eq w (codes "--nodes") && bytes_eq n (codes "1")
+is_one_node (w ∷ n ∷ x ∷ xs) = false

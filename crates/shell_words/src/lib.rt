@@ -1,0 +1,15 @@
+//! The words of the shell: the lines of a script, their words, what the words ask for, and the words that the
+//! program is started with. The definitions stand in `specs/Script.antt`.
+#![tactic(auto)]
+
+mod commands;
+mod lines;
+mod program;
+#[cfg(test)]
+mod tests;
+mod words;
+
+pub use commands::{Command, command_of};
+pub use lines::{has_no_answer, is_readable, without_cr};
+pub use program::is_one_node;
+pub use words::{has_mark, is_blank, is_plain, words_of};

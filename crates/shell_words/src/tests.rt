@@ -1,0 +1,74 @@
+use super::{Command, command_of, has_mark, has_no_answer, is_one_node, is_readable, words_of};
+use std::test::Fail;
+
+#[test]
+fn the_words_of_each_command(rt: HostRuntime) -> Result<(), Fail> {
+    let alloc = rt.alloc();
+    let rows = [
+        (
+            "clock 18446744073709551615",
+            Command::Clock { to: u64::MAX },
+        ),
+        ("clock 18446744073709551616", Command::Unknown),
+        ("start 0 count 3", Command::Start { node: 0 }),
+        ("\tstart  16 count", Command::Start { node: 16 }),
+        ("start 1 issue a b c d", Command::Start { node: 1 }),
+        ("start 1", Command::Unknown),
+        (
+            "turn 2",
+            Command::Turn {
+                node: 2,
+                pick: None,
+            },
+        ),
+        (
+            "turn 2 5",
+            Command::Turn {
+                node: 2,
+                pick: Some(5),
+            },
+        ),
+        ("turn 2 05", Command::Unknown),
+        (
+            "cut 1 7 3",
+            Command::Cut {
+                node: 1,
+                calls: 7,
+                outcome: 3,
+            },
+        ),
+        ("cut 1 7 4", Command::Unknown),
+        ("boot 3", Command::Boot { node: 3 }),
+        ("drain", Command::Drain),
+        ("drain 0", Command::Unknown),
+        ("flows 0", Command::Flows { node: 0 }),
+        ("flow 0 4", Command::Flow { node: 0, flow: 4 }),
+        ("history", Command::History),
+        ("quit", Command::Quit),
+        ("Quit", Command::Unknown),
+    ];
+    for (line, command) in rows {
+        assert!(rt; is_readable(line.as_bytes()) && !has_no_answer(line.as_bytes()));
+        let words = words_of(alloc, line.as_bytes())?;
+        assert_eq!(rt; command_of(words.as_slice()), command, "{line}");
+    }
+    Ok(())
+}
+
+#[test]
+fn marks_and_the_words_of_the_program(rt: HostRuntime) -> Result<(), Fail> {
+    let alloc = rt.alloc();
+    let rows = [
+        ("a #0", true),
+        ("# 0", false),
+        ("#01 a#1", false),
+        ("", false),
+    ];
+    for (line, marked) in rows {
+        let words = words_of(alloc, line.as_bytes())?;
+        assert_eq!(rt; has_mark(words.as_slice()), marked, "{line}");
+    }
+    let words = words_of(alloc, b"--nodes 1")?;
+    assert!(rt; is_one_node(words.as_slice()));
+    Ok(())
+}
