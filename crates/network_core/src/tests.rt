@@ -1,157 +1,195 @@
-use super::{Net, Outcome, Step, coherent_is_faithful};
+use super::{BeginRefused, Net, Outcome, Step, coherent_is_faithful};
 use disk_mem::MemDisk;
-use flow_machine::{Counter, FlowSet};
-use net_base::{Moment, Party};
+use flow_machine::Counter;
+use net_base::{ByteList, Moment, Party};
 use node_core::BootFault;
 use outside::Bay;
 use std::alloc::Global;
 use std::test::Fail;
 
-// The step by which node 0 starts a flow that counts.
-fn count(alloc: Global, word: &str) -> Result<Step, Fail> {
-    let mut words = Vec::new(alloc);
-    words.push(String::from_str(alloc, word)?)?;
-    match Counter::read_words(alloc, "count", words.as_slice()) {
-        Ok((class, args)) => Ok(Step::Start {
+// What is asked of node 0, or of the network.
+#[derive(Clone, Copy, Debug, PartialEq, Eq)]
+enum Asked {
+    Clock(u64),
+    // A flow that counts sleeps so many times.
+    Count(u32),
+    Turn { node: u8, pick: Option<u32> },
+    Cut { calls: u64, outcome: u8 },
+    Boot,
+    Drain,
+}
+
+// The step that asks it.
+fn step_of(alloc: Global, asked: Asked) -> Result<Step, Fail> {
+    Ok(match asked {
+        Asked::Clock(to) => Step::Clock { to: Moment(to) },
+        Asked::Count(sleeps) => Step::Start {
             node: 0,
-            class,
-            args,
-        }),
-        Err(_) => Err(Fail::new("refused")),
+            class: 1,
+            args: ByteList::from_vec(sleeps.to_be_bytes().to_vec(alloc)?),
+        },
+        Asked::Turn { node, pick } => Step::Turn { node, pick },
+        Asked::Cut { calls, outcome } => Step::Cut {
+            node: 0,
+            calls,
+            outcome,
+        },
+        Asked::Boot => Step::Boot { node: 0 },
+        Asked::Drain => Step::Drain,
+    })
+}
+
+// What the network answers.
+fn answer(alloc: Global, net: &mut Net<MemDisk, Counter>, asked: Asked) -> Result<Outcome, Fail> {
+    let step = step_of(alloc, asked)?;
+    Ok(net.apply(alloc, &step)?)
+}
+
+// Asks in order, up to the first that is not answered as it must be.
+fn ask(
+    alloc: Global,
+    net: &mut Net<MemDisk, Counter>,
+    rows: &[(Asked, Outcome)],
+) -> Result<(), Fail> {
+    for &(asked, wanted) in rows {
+        if answer(alloc, net, asked)? != wanted {
+            return Err(Fail::new("another outcome"));
+        }
     }
+    Ok(())
+}
+
+type Begun = Result<Net<MemDisk, Counter>, BeginRefused<MemDisk>>;
+
+// A network of one node over this disk.
+fn begin_over(alloc: Global, disks: Vec<MemDisk>) -> Result<Begun, Fail> {
+    if disks.len() != 1 {
+        return Err(Fail::new("another number of disks"));
+    }
+    Ok(Net::begin(alloc, 1, Party(0), disks))
 }
 
 // A network of one node over a fresh disk.
-fn one_node(alloc: Global) -> Result<Net<MemDisk, Counter>, Fail> {
-    let mut disks = Vec::new(alloc);
+fn begin(alloc: Global) -> Result<Net<MemDisk, Counter>, Fail> {
+    let mut disks = Vec::with_capacity(alloc, 1)?;
     disks.push(MemDisk::new(alloc))?;
-    match Net::begin(alloc, 1, Party(0), disks) {
+    match begin_over(alloc, disks)? {
         Ok(net) => Ok(net),
         Err(_) => Err(Fail::new("refused")),
     }
 }
 
-// What each step answers, in order.
-fn serve(
-    alloc: Global,
-    net: &mut Net<MemDisk, Counter>,
-    steps: &[Step],
-) -> Result<Vec<Outcome>, Fail> {
-    let mut outcomes = Vec::with_capacity(alloc, steps.len())?;
-    if !net.apply_all(alloc, steps, &mut outcomes) {
-        return Err(Fail::new("out of memory"));
-    }
-    Ok(outcomes)
+const TURN: Asked = Asked::Turn {
+    node: 0,
+    pick: None,
+};
+
+fn cut(calls: u64, outcome: u8) -> Asked {
+    Asked::Cut { calls, outcome }
 }
 
 #[test]
-fn a_node_runs_and_is_cut(rt: HostRuntime) -> Result<(), Fail> {
+fn a_node_runs(rt: HostRuntime) -> Result<(), Fail> {
     let alloc = rt.alloc();
-    let mut net = one_node(alloc)?;
     coherent_is_faithful::<Counter>();
+    let mut net = begin(alloc)?;
     assert_eq!(rt; net.nodes().len(), 1);
-    let mut steps = Vec::new(alloc);
-    let mut wanted = Vec::new(alloc);
     let rows = [
-        (Step::Clock { to: Moment(5) }, Outcome::Fine),
-        (Step::Clock { to: Moment(4) }, Outcome::Refused { code: 10 }),
-        (count(alloc, "1")?, Outcome::Started { flow: 0 }),
+        (Asked::Clock(5), Outcome::Fine),
+        (Asked::Clock(4), Outcome::Refused { code: 10 }),
+        (Asked::Count(1), Outcome::Started { flow: 0 }),
         (
-            Step::Turn {
+            Asked::Turn {
                 node: 0,
                 pick: Some(1),
             },
             Outcome::Idle,
         ),
+        (TURN, Outcome::Moved { flow: 0 }),
         (
-            Step::Turn {
-                node: 0,
-                pick: None,
-            },
-            Outcome::Moved { flow: 0 },
-        ),
-        (
-            Step::Turn {
+            Asked::Turn {
                 node: 1,
                 pick: None,
             },
             Outcome::Refused { code: 2 },
         ),
-        (Step::Drain, Outcome::Drained { full: false }),
-        (Step::Boot { node: 0 }, Outcome::Refused { code: 4 }),
-        // The power goes before the record stands, and after it.
-        (
-            Step::Cut {
-                node: 0,
-                calls: 1,
-                outcome: 0,
-            },
-            Outcome::Armed,
-        ),
-        (count(alloc, "2")?, Outcome::Fault),
-        (count(alloc, "2")?, Outcome::Refused { code: 3 }),
-        (Step::Boot { node: 0 }, Outcome::Booted),
-        (count(alloc, "2")?, Outcome::Started { flow: 1 }),
-        (
-            Step::Cut {
-                node: 0,
-                calls: 4,
-                outcome: 1,
-            },
-            Outcome::Armed,
-        ),
-        (
-            Step::Turn {
-                node: 0,
-                pick: None,
-            },
-            Outcome::Fault,
-        ),
-        (Step::Boot { node: 0 }, Outcome::Booted),
-        (
-            Step::Turn {
-                node: 0,
-                pick: None,
-            },
-            Outcome::Moved { flow: 1 },
-        ),
-        (
-            Step::Cut {
-                node: 0,
-                calls: 0,
-                outcome: 4,
-            },
-            Outcome::Refused { code: 1 },
-        ),
-        (
-            Step::Cut {
-                node: 0,
-                calls: 0,
-                outcome: 0,
-            },
-            Outcome::Down,
-        ),
-        (Step::Drain, Outcome::Drained { full: false }),
+        (Asked::Drain, Outcome::Drained { full: false }),
+        (TURN, Outcome::Idle),
+        (Asked::Boot, Outcome::Refused { code: 4 }),
     ];
-    for (step, outcome) in rows {
-        steps.push(step)?;
-        wanted.push(outcome)?;
-    }
-    let outcomes = serve(alloc, &mut net, steps.as_slice())?;
-    assert_eq!(rt; outcomes.as_slice(), wanted.as_slice());
-    assert_eq!(rt; net.now(), Moment(5));
+    ask(alloc, &mut net, rows.as_slice())
+}
 
-    // The disk is still without power, and its journal as it was: its last cause gives the moment.
-    let Err(refused) = Net::<MemDisk, Counter>::begin(alloc, 1, Party(0), net.into_disks()) else {
+#[test]
+fn a_node_is_cut(rt: HostRuntime) -> Result<(), Fail> {
+    let alloc = rt.alloc();
+    let mut net = begin(alloc)?;
+    let rows = [
+        // The power goes before the record stands, and after it.
+        (cut(1, 0), Outcome::Armed),
+        (Asked::Count(2), Outcome::Fault),
+        (Asked::Count(2), Outcome::Refused { code: 3 }),
+        (Asked::Boot, Outcome::Booted),
+        (Asked::Count(2), Outcome::Started { flow: 0 }),
+        (cut(4, 1), Outcome::Armed),
+        (TURN, Outcome::Fault),
+        (Asked::Boot, Outcome::Booted),
+        (TURN, Outcome::Moved { flow: 0 }),
+        (cut(0, 4), Outcome::Refused { code: 1 }),
+        (cut(0, 0), Outcome::Down),
+        (Asked::Drain, Outcome::Drained { full: false }),
+    ];
+    ask(alloc, &mut net, rows.as_slice())
+}
+
+// The disk of a network whose node lost its power after a flow began at moment 5.
+fn cut_disk(alloc: Global) -> Result<Vec<MemDisk>, Fail> {
+    let mut net = begin(alloc)?;
+    let rows = [
+        (Asked::Clock(5), Outcome::Fine),
+        (Asked::Count(0), Outcome::Started { flow: 0 }),
+        (cut(0, 0), Outcome::Down),
+    ];
+    ask(alloc, &mut net, rows.as_slice())?;
+    Ok(net.into_disks())
+}
+
+#[test]
+fn a_network_begins_again_with_power(rt: HostRuntime) -> Result<(), Fail> {
+    let alloc = rt.alloc();
+    let Err(refused) = begin_over(alloc, cut_disk(alloc)?)? else {
         return Err(Fail::new("begun"));
     };
     assert_eq!(rt; refused.node, 0);
     assert_eq!(rt; refused.why, BootFault::Fault);
     let mut disks = refused.disks;
-    disks[0].restore_power();
-    let Ok(again) = Net::<MemDisk, Counter>::begin(alloc, 1, Party(0), disks) else {
+    let Some(disk) = disks.first_mut() else {
+        return Err(Fail::new("the disk is gone"));
+    };
+    disk.restore_power();
+    let Ok(again) = begin_over(alloc, disks)? else {
         return Err(Fail::new("refused"));
     };
+
+    // The last cause of the journal gives the moment.
     assert_eq!(rt; again.now(), Moment(5));
+    Ok(())
+}
+
+#[test]
+fn steps_are_answered_in_order(rt: HostRuntime) -> Result<(), Fail> {
+    let alloc = rt.alloc();
+    let mut net = begin(alloc)?;
+    let mut steps = Vec::with_capacity(alloc, 2)?;
+    steps.push(Step::Drain)?;
+    steps.push(Step::Boot { node: 0 })?;
+    let mut outcomes = Vec::with_capacity(alloc, steps.len())?;
+    let all = net.apply_all(alloc, steps.as_slice(), &mut outcomes);
+    assert!(rt; all);
+    let wanted = [
+        Outcome::Drained { full: false },
+        Outcome::Refused { code: 4 },
+    ];
+    assert_eq!(rt; outcomes.as_slice(), wanted.as_slice());
     Ok(())
 }

@@ -3,12 +3,17 @@ use Rattle.std.proofs.Common.{◌≡◌, ◌⊎◌, inl, inr, ⊎_elim, ℕ, zer
 use Rattle.std.specs.Prelude.{codes, decimal, take, drop, slice_index_or, ◌<◌}
 use Rattle.std.specs.List.{slice_get}
 use Rattle.outside.specs.Disk.{DiskView}
+use Rattle.outside.specs.Faults.{Rose}
+use Rattle.disk_journal.specs.Journal.{refusal}
+use Rattle.disk_journal.specs.declared.fault.OpenFault.{OpenFault}
+use Rattle.disk_journal.specs.declared.fault.OpenFault.TheVariants as open_fault
 use Rattle.net_base.specs.declared.names.Identity.{Identity}
 use Rattle.flow_machine.specs.Machine.{Machine}
 use Rattle.net_model.specs.Environment.{environment, party}
 use Rattle.node_core.specs.Journals.{Reads}
 use Rattle.node_core.specs.Disks.{roomless}
-use Rattle.node_core.specs.Seen.{NodeSeen, BootsAs}
+use Rattle.node_core.specs.Fits.{misfit}
+use Rattle.node_core.specs.Seen.{NodeSeen, BootsAs, boot_of, Refuses as SeenRefuses, Unopened, Unfit, Unbooted}
 use Rattle.node_core.specs.declared.faults.BootFault.{BootFault}
 use Rattle.node_core.specs.declared.faults.BootFault.TheVariants as boot
 use Rattle.network_core.specs.Worlds.{World, NetSeen, Shows, Coherent}
@@ -16,8 +21,11 @@ use Rattle.network_core.specs.Begins.{member, node_over, no_boot, Begun, BeginsW
 use Rattle.node_shell.specs.declared.statuses.Status.{Status}
 use Rattle.node_shell.specs.declared.statuses.Status.TheVariants as status
 use Rattle.node_shell.specs.Story.{ScriptRun, IsScriptStatus, InSome}
-use Rattle.node_shell.specs.Runs.{alone, over, with_faults, number_of_status, Plays, Refuses, RunsAs, journal_line, PlaysOrRefuses, RefusedWith, IsOpeningStatus}
+use Rattle.node_shell.specs.Runs.{alone, over, with_faults, number_of_status, Plays, Refuses, RunsAs, journal_line, PlaysOrRefuses, RefusedWith, IsOpeningStatus, Fails, OneFails, HasCause, MisfitsAt, IsUnready, IsToldWhy}
 use Rattle.node_shell.proofs.Resting.{stands, rests, faulty_shows, faulty_coherent, same_faults, refused_rests, faults_again, down_fewer, same_fewer, from_faulty}
+
+no_memory : status.DiskFault ≡ status.NoMemory → ⊥
+no_memory same = cc
 
 only_first : {X : Type 0} (n : ℕ) (d x : X) → slice_get (d ∷ []) n ≡ Some x → n ≡ 0
 only_first zero d x at = refl
@@ -26,11 +34,63 @@ only_first (suc n) d x at = cc
 pub some_same : {X : Type 0} (a b : X) → Some a ≡ Some b → a ≡ b
 some_same a b same = cc
 
+-- ---- why
+
+-- a refused opening has its cause
+refuses_cause : {F : Type 0} (f : Reads F) (id : Identity) (fault : OpenFault) (d b : DiskView) → SeenRefuses id fault (roomless d) (roomless b) → HasCause f id d (boot_of fault) b
+refuses_cause f id open_fault.Fault d b r = record { rose = r.0; uneasy = r.1 }
+refuses_cause f id open_fault.Memory d b r = tt
+refuses_cause f id open_fault.NotAJournal d b r = r
+refuses_cause f id (open_fault.WrongNode found) d b r = r
+refuses_cause f id (open_fault.Damaged at) d b r = λ tells. inl (r tells)
+
+-- and so have records that do not fit
+unfit_cause : {F : Type 0} (f : Reads F) (id : Identity) (why : BootFault) (d b : DiskView) → Unfit f id (roomless d) why (roomless b) → HasCause f id d why b
+unfit_cause f id (boot.Damaged at) d b u = λ tells. inr (u.1.format tells, subst (λ l. misfit f l ≡ Some at) (u.1.told tells) u.2)
+unfit_cause f id boot.Memory d b u = tt
+unfit_cause f id boot.Fault d b u = absurd u
+unfit_cause f id boot.NotAJournal d b u = absurd u
+unfit_cause f id (boot.WrongNode found) d b u = absurd u
+
+-- a boot that was refused has its cause
+boot_cause : {F : Type 0} (f : Reads F) (id : Identity) (why : BootFault) (d b : DiskView) → Unbooted f id (roomless d) why (roomless b) → HasCause f id d why b
+boot_cause f id why d b u =
+    ⊎_elim (λ (o : Unopened id (roomless d) why (roomless b)). subst (λ y. HasCause f id d y b) (sym o.1) (refuses_cause f id o.0 d b o.2)) (unfit_cause f id why d b) u.cause
+
+-- a count that rose since it was raised rose
+rose_since : (a b c : ℕ) → a ≤ b → Rose b c → Rose a c
+rose_since a b c first then = omega (arith, first, then)
+
+fails_since : (d k b : DiskView) → k ≡ record d { faults = k.faults } → d.faults ≤ k.faults → Fails k b → Fails d b
+fails_since d k b same later f = record { rose = rose_since d.faults k.faults b.faults later f.rose; uneasy = λ calm. f.uneasy (ap (λ (x : DiskView). x.calm) same ∙ calm) }
+
+-- a making ready before changes no cause
+cause_since : {F : Type 0} (f : Reads F) (id : Identity) (why : BootFault) (d k b : DiskView) → k ≡ record d { faults = k.faults } → d.faults ≤ k.faults → HasCause f id k why b → HasCause f id d why b
+cause_since f id boot.Fault d k b same later h = fails_since d k b same later h
+cause_since f id boot.Memory d k b same later h = tt
+cause_since f id boot.NotAJournal d k b same later h = λ tells. subst (λ (x : DiskView). refusal id x.state.kept ≡ Some open_fault.NotAJournal) same (h (ap (λ (x : DiskView). x.tells) same ∙ tells))
+cause_since f id (boot.WrongNode found) d k b same later h = λ tells. subst (λ (x : DiskView). refusal id x.state.kept ≡ Some (open_fault.WrongNode found)) same (h (ap (λ (x : DiskView). x.tells) same ∙ tells))
+cause_since f id (boot.Damaged at) d k b same later h =
+    λ tells. subst (λ (x : DiskView). (refusal id x.state.kept ≡ Some (open_fault.Damaged at)) ⊎ MisfitsAt f id x.state.kept at) same (h (ap (λ (x : DiskView). x.tells) same ∙ tells))
+
+pub told_since : {F : Type 0} (f : Reads F) (d k b e : DiskView) (written0 written1 : Option (List ℕ)) (s : Status) → b ≡ e → k ≡ record d { faults = k.faults } → d.faults ≤ k.faults
+    → IsToldWhy f k b written0 written1 s → IsToldWhy f d e written0 written1 s
+told_since f d k b e written0 written1 s there same later t =
+    subst (λ x. IsToldWhy f d x written0 written1 s) there (record { why = t.why; cause = cause_since f (member 1 (party 0) 0) t.why d k b same later t.cause; told = t.told })
+
+-- a status that says that the disk failed tells of a fault
+told_of_fault : {F : Type 0} (f : Reads F) (id : Identity) (why : BootFault) (d b : DiskView) (node : ℕ) (written0 written1 : Option (List ℕ)) → HasCause f id d why b
+    → RefusedWith node why written0 written1 status.DiskFault → Fails d b
+told_of_fault f id boot.Fault d b node written0 written1 h r = h
+told_of_fault f id boot.Memory d b node written0 written1 h r = absurd (no_memory r.0)
+told_of_fault f id boot.NotAJournal d b node written0 written1 h r = absurd r
+told_of_fault f id (boot.WrongNode found) d b node written0 written1 h r = absurd r
+told_of_fault f id (boot.Damaged at) d b node written0 written1 h r = absurd r
+
 -- what an opening that failed is told by
-opening_why : (s : Status) (written0 written1 : Option (List ℕ)) → IsOpeningStatus s → written1 ≡ written0
-    → ((s ≡ status.DiskFault) × (written1 ≡ written0)) ⊎ (((s ≡ status.NoMemory) × (written1 ≡ written0)) ⊎ ((fault : BootFault) × RefusedWith 0 fault written0 written1 s))
-opening_why status.DiskFault written0 written1 is same = inl (refl, same)
-opening_why status.NoMemory written0 written1 is same = inr (inl (refl, same))
+opening_why : (s : Status) (written0 written1 : Option (List ℕ)) → IsOpeningStatus s → written1 ≡ written0 → IsUnready written0 written1 s
+opening_why status.DiskFault written0 written1 is same = (inl refl, same)
+opening_why status.NoMemory written0 written1 is same = (inr refl, same)
 opening_why status.Finished written0 written1 is same = absurd is
 opening_why status.BadWords written0 written1 is same = absurd is
 opening_why status.TooLong written0 written1 is same = absurd is
@@ -43,7 +103,7 @@ module _ {F : Type 0} (m : Machine F) (f : Reads F) where
       → IsScriptStatus s → BeginsWorld m f 1 (party 0) (d ∷ []) begun
       → ((id : Identity) (start : World) → Shows (environment m f id) begun start → Coherent (environment m f id) start → InSome (environment m f id) ended (λ v. ScriptRun (environment m f id) start left0 left1 written0 written1 count v s))
       → map (λ (n : NodeSeen). n.disk) ended.nodes ≡ roomless b ∷ []
-      → Shows (alone m f) (over w.now d) w → Coherent (alone m f) w → PlaysOrRefuses (alone m f) w b left0 left1 written0 written1 count s
+      → Shows (alone m f) (over w.now d) w → Coherent (alone m f) w → PlaysOrRefuses (alone m f) w d b left0 left1 written0 written1 count s
   played d b w begun ended left0 left1 written0 written1 count s script begins ran disks shows coherent =
       let start = begins w.now w shows coherent in
       let end = ran (member 1 (party 0) 0) start.0 start.1 start.2 in
@@ -62,31 +122,54 @@ module _ {F : Type 0} (m : Machine F) (f : Reads F) where
       ⊎_elim (λ (p : (why ≡ boot.Memory) × (node ≡ 0) × (b ∷ [] ≡ d ∷ [])). p.1)
       (λ (q : (x : DiskView) × (y : DiskView) × (slice_get (d ∷ []) node ≡ Some x) × (slice_get (b ∷ []) node ≡ Some y) × BootsAs f (node_over 1 (party 0) node x) (no_boot why) (node_over 1 (party 0) node y)). only_first node d q.0 q.2) r.refused
 
+  first_cause : (d b x y : DiskView) (node : ℕ) (why : BootFault) → node ≡ 0 → slice_get (d ∷ []) node ≡ Some x → slice_get (b ∷ []) node ≡ Some y
+      → BootsAs f (node_over 1 (party 0) node x) (no_boot why) (node_over 1 (party 0) node y) → HasCause f (member 1 (party 0) 0) d why b
+  first_cause d b x y zero why is at there boots =
+      let one : d ≡ x = cc in
+      let two : b ≡ y = cc in
+      subst (λ u. HasCause f (member 1 (party 0) 0) u why b) (sym one) (subst (HasCause f (member 1 (party 0) 0) x why) (sym two) (boot_cause f (member 1 (party 0) 0) why x y boots.2))
+  first_cause d b x y (suc node) why is at there boots = cc
+
+  refused_cause : (d b : DiskView) (node : ℕ) (why : BootFault) → IsRefused m f 1 (party 0) (d ∷ []) node why (b ∷ []) → HasCause f (member 1 (party 0) 0) d why b
+  refused_cause d b node why r =
+      ⊎_elim (λ (p : (why ≡ boot.Memory) × (node ≡ 0) × (b ∷ [] ≡ d ∷ [])). subst (λ y. HasCause f (member 1 (party 0) 0) d y b) (sym p.0) tt)
+      (λ (q : (x : DiskView) × (y : DiskView) × (slice_get (d ∷ []) node ≡ Some x) × (slice_get (b ∷ []) node ≡ Some y) × BootsAs f (node_over 1 (party 0) node x) (no_boot why) (node_over 1 (party 0) node y)).
+          first_cause d b q.0 q.1 node why (only_first node d q.0 q.2) q.2 q.3 q.4) r.refused
+
+  pub told_why : (d b : DiskView) (node : ℕ) (why : BootFault) (written0 written1 : Option (List ℕ)) (s : Status) → IsRefused m f 1 (party 0) (d ∷ []) node why (b ∷ [])
+      → RefusedWith node why written0 written1 s → IsToldWhy f d b written0 written1 s
+  told_why d b node why written0 written1 s r told =
+      record { why = why; cause = refused_cause d b node why r; told = subst (λ n. RefusedWith n why written0 written1 s) (refused_first d b node why r) told }
+
+  pub fault_why : (d b : DiskView) (node : ℕ) (why : BootFault) (written0 written1 : Option (List ℕ)) (s : Status) → IsRefused m f 1 (party 0) (d ∷ []) node why (b ∷ [])
+      → RefusedWith node why written0 written1 s → s ≡ status.DiskFault → Fails d b
+  fault_why d b node why written0 written1 s r told is =
+      told_of_fault f (member 1 (party 0) 0) why d b node written0 written1 (refused_cause d b node why r) (subst (RefusedWith node why written0 written1) is told)
+
   pub refused : (d b : DiskView) (w : World) (node : ℕ) (why : BootFault) (left written0 written1 : Option (List ℕ)) (s : Status)
       → IsRefused m f 1 (party 0) (d ∷ []) node why (b ∷ []) → RefusedWith node why written0 written1 s
-      → Shows (alone m f) (over w.now d) w → Coherent (alone m f) w → PlaysOrRefuses (alone m f) w b left left written0 written1 0 s
+      → Shows (alone m f) (over w.now d) w → Coherent (alone m f) w → PlaysOrRefuses (alone m f) w d b left left written0 written1 0 s
   refused d b w node why left written0 written1 s r told shows coherent =
       let v = r.world w.now w shows coherent in
-      let first : node ≡ 0 = refused_first d b node why r in
       inr (record {
         unread = refl;
         none = refl;
         world = v.0;
         rests = refused_rests m f why w v.0 b v.1 v.2;
         fewer = down_fewer why w v.0 v.3;
-        why = inr (inr (why, subst (λ n. RefusedWith n why written0 written1 s) first told));
+        why = inr (told_why d b node why written0 written1 s r told);
       })
 
   -- the disk was not made ready, or there was no memory for that
   pub unready : (d e : DiskView) (w : World) (left written : Option (List ℕ)) (s : Status) → IsOpeningStatus s → e ≡ record d { faults = e.faults }
-      → Shows (alone m f) (over w.now d) w → Coherent (alone m f) w → PlaysOrRefuses (alone m f) w e left left written written 0 s
+      → Shows (alone m f) (over w.now d) w → Coherent (alone m f) w → PlaysOrRefuses (alone m f) w d e left left written written 0 s
   unready d e w left written s is same shows coherent = inr (record {
     unread = refl;
     none = refl;
     world = with_faults e.faults w;
     rests = stands m f (with_faults e.faults w) e (faulty_shows m f w d e same shows) (faulty_coherent m f e.faults w coherent);
     fewer = same_fewer e.faults w;
-    why = opening_why s written written is refl;
+    why = inl (opening_why s written written is refl);
   })
 
   plays_with : (n : ℕ) (w : World) (b : DiskView) (left0 left1 written0 written1 : Option (List ℕ)) (count : ℕ) (s : Status)
@@ -101,35 +184,35 @@ module _ {F : Type 0} (m : Machine F) (f : Reads F) where
     rests = p.rests;
   }
 
-  refuses_with : (n : ℕ) (w : World) (b : DiskView) (left0 left1 written0 written1 : Option (List ℕ)) (count : ℕ) (s : Status)
-      → Refuses (alone m f) (with_faults n w) b left0 left1 written0 written1 count s → Refuses (alone m f) w b left0 left1 written0 written1 count s
-  refuses_with n w b left0 left1 written0 written1 count s r = record {
+  refuses_with : (n : ℕ) (w : World) (d k b : DiskView) (left0 left1 written0 written1 : Option (List ℕ)) (count : ℕ) (s : Status) → k ≡ record d { faults = k.faults } → d.faults ≤ k.faults
+      → Refuses (alone m f) (with_faults n w) k b left0 left1 written0 written1 count s → Refuses (alone m f) w d b left0 left1 written0 written1 count s
+  refuses_with n w d k b left0 left1 written0 written1 count s same later r = record {
     unread = r.unread;
     none = r.none;
     world = r.world;
     rests = r.rests;
     fewer = from_faulty n w r.world r.fewer;
-    why = r.why;
+    why = ⊎_elim (λ (u : IsUnready written0 written1 s). inl u) (λ (t : IsToldWhy f k b written0 written1 s). inr (told_since f d k b b written0 written1 s refl same later t)) r.why;
   }
 
   -- the disk was made ready, and then its node opened or did not
-  pub ready : (d k b : DiskView) (w : World) (left0 left1 written0 written1 : Option (List ℕ)) (count : ℕ) (s : Status) → k ≡ record d { faults = k.faults }
-      → ((v : World) → Shows (alone m f) (over v.now k) v → Coherent (alone m f) v → PlaysOrRefuses (alone m f) v b left0 left1 written0 written1 count s)
-      → Shows (alone m f) (over w.now d) w → Coherent (alone m f) w → PlaysOrRefuses (alone m f) w b left0 left1 written0 written1 count s
-  ready d k b w left0 left1 written0 written1 count s same runs shows coherent =
+  pub ready : (d k b : DiskView) (w : World) (left0 left1 written0 written1 : Option (List ℕ)) (count : ℕ) (s : Status) → k ≡ record d { faults = k.faults } → d.faults ≤ k.faults
+      → ((v : World) → Shows (alone m f) (over v.now k) v → Coherent (alone m f) v → PlaysOrRefuses (alone m f) v k b left0 left1 written0 written1 count s)
+      → Shows (alone m f) (over w.now d) w → Coherent (alone m f) w → PlaysOrRefuses (alone m f) w d b left0 left1 written0 written1 count s
+  ready d k b w left0 left1 written0 written1 count s same later runs shows coherent =
       ⊎_elim (λ (p : Plays (alone m f) (with_faults k.faults w) b left0 left1 written0 written1 count s). inl (plays_with k.faults w b left0 left1 written0 written1 count s p))
-      (λ (r : Refuses (alone m f) (with_faults k.faults w) b left0 left1 written0 written1 count s). inr (refuses_with k.faults w b left0 left1 written0 written1 count s r))
+      (λ (r : Refuses (alone m f) (with_faults k.faults w) k b left0 left1 written0 written1 count s). inr (refuses_with k.faults w d k b left0 left1 written0 written1 count s same later r))
       (runs (with_faults k.faults w) (faulty_shows m f w d k same shows) (faulty_coherent m f k.faults w coherent))
 
-  pub ready_at : (d k b e : DiskView) (w : World) (left0 left1 written0 written1 : Option (List ℕ)) (count : ℕ) (s : Status) → b ≡ e → k ≡ record d { faults = k.faults }
-      → ((v : World) → Shows (alone m f) (over v.now k) v → Coherent (alone m f) v → PlaysOrRefuses (alone m f) v b left0 left1 written0 written1 count s)
-      → Shows (alone m f) (over w.now d) w → Coherent (alone m f) w → PlaysOrRefuses (alone m f) w e left0 left1 written0 written1 count s
-  ready_at d k b e w left0 left1 written0 written1 count s there same runs shows coherent =
-      subst (λ x. PlaysOrRefuses (alone m f) w x left0 left1 written0 written1 count s) there (ready d k b w left0 left1 written0 written1 count s same runs shows coherent)
+  pub ready_at : (d k b e : DiskView) (w : World) (left0 left1 written0 written1 : Option (List ℕ)) (count : ℕ) (s : Status) → b ≡ e → k ≡ record d { faults = k.faults } → d.faults ≤ k.faults
+      → ((v : World) → Shows (alone m f) (over v.now k) v → Coherent (alone m f) v → PlaysOrRefuses (alone m f) v k b left0 left1 written0 written1 count s)
+      → Shows (alone m f) (over w.now d) w → Coherent (alone m f) w → PlaysOrRefuses (alone m f) w d e left0 left1 written0 written1 count s
+  ready_at d k b e w left0 left1 written0 written1 count s there same later runs shows coherent =
+      subst (λ x. PlaysOrRefuses (alone m f) w d x left0 left1 written0 written1 count s) there (ready d k b w left0 left1 written0 written1 count s same later runs shows coherent)
 
-  pub runs_as : (w : World) (b : DiskView) (left0 left1 written0 written1 : Option (List ℕ)) (count counted number : ℕ) (s : Status) → number ≡ number_of_status s → counted ≡ count
-      → PlaysOrRefuses (alone m f) w b left0 left1 written0 written1 count s → RunsAs (alone m f) w b left0 left1 written0 written1 counted number
-  runs_as w b left0 left1 written0 written1 count counted number s is same ran = record { status = s; is = is; ran = subst (λ n. PlaysOrRefuses (alone m f) w b left0 left1 written0 written1 n s) (sym same) ran }
+  pub runs_as : (w : World) (d b : DiskView) (left0 left1 written0 written1 : Option (List ℕ)) (count counted number : ℕ) (s : Status) → number ≡ number_of_status s → counted ≡ count
+      → PlaysOrRefuses (alone m f) w d b left0 left1 written0 written1 count s → RunsAs (alone m f) w d b left0 left1 written0 written1 counted number
+  runs_as w d b left0 left1 written0 written1 count counted number s is same ran = record { status = s; is = is; ran = subst (λ n. PlaysOrRefuses (alone m f) w d b left0 left1 written0 written1 n s) (sym same) ran }
 
 -- the line for a damaged journal
 pub damaged_line : (node at : ℕ) (why : BootFault) (line : List ℕ) → why ≡ boot.Damaged at → line ≡ codes "! journal " ++ (decimal node ++ (codes " damaged " ++ (decimal at ++ 10 ∷ []))) → line ≡ journal_line node why

@@ -1,10 +1,15 @@
 -- A whole run: how the network opened, and how the script went.
-use Rattle.std.specs.Prelude.{◌≡◌, ◌⊎◌, ℕ, ◌<◌, List, [], ◌∷◌, ◌++◌, length, map, Option, Some, codes, decimal, false, slice_get, ⊤}
+use Rattle.std.specs.Prelude.{◌≡◌, ◌⊎◌, ℕ, ◌<◌, List, [], ◌∷◌, ◌++◌, length, map, Option, Some, None, codes, decimal, true, false, slice_get, ⊤}
 use Rattle.std.specs.Io.KnownBytes.{Appends}
 use Rattle.outside.specs.Disk.{DiskView}
+use Rattle.outside.specs.Faults.{Rose}
+use Rattle.net_base.specs.declared.names.Identity.{Identity}
+use Rattle.disk_journal.specs.Journal.{journal_of, placed, refusal}
+use Rattle.disk_journal.specs.declared.fault.OpenFault.TheVariants as open_fault
 use Rattle.net_model.specs.Environment.{Environment, environment, party}
 use Rattle.net_model.specs.Runs.{IsFaithful, network_of}
 use Rattle.flow_machine.specs.Machine.{Machine}
+use Rattle.node_core.specs.Fits.{misfit}
 use Rattle.node_core.specs.Journals.{Reads, records_of, state_of, causes_of}
 use Rattle.node_core.specs.declared.faults.BootFault.{BootFault}
 use Rattle.node_core.specs.declared.faults.BootFault.TheVariants as boot
@@ -88,20 +93,58 @@ RefusedWith node (boot.Damaged at) written0 written1 s = Writes (journal_line no
 abbrev pub LeavesFewer : World → World → Type 0
 LeavesFewer w v = (p : ℕ) (x y : NodeWorld) (l : List (List ℕ)) → slice_get w.nodes p ≡ Some x → slice_get v.nodes p ≡ Some y → MaySpell y l → MaySpell x l
 
+-- the count of faults of a disk rose, and the disk was not calm
+pub record Fails (old new : DiskView) : Type 0 where
+  pub rose : Rose old.faults new.faults
+  pub uneasy : old.calm ≡ true → ⊥
+
+-- one of the first two of these disks failed
+pub record OneFails (old new : List DiskView) : Type 0 where
+  pub place : ℕ
+  pub own : place < 2
+  pub before : DiskView
+  pub after : DiskView
+  pub at : slice_get old place ≡ Some before
+  pub now : slice_get new place ≡ Some after
+  pub fails : Fails before after
+
+-- these bytes are those of a journal of this node whose records do not fit, the first of them at that place
+abbrev pub MisfitsAt : {F : Type 0} → Reads F → Identity → List ℕ → ℕ → Type 0
+MisfitsAt frame_at id bytes at = (refusal id bytes ≡ None) × (misfit frame_at (placed 16 (journal_of bytes)) ≡ Some at)
+
+-- why the first opening of a node over a disk was refused: the disk failed; or memory ran out; or it keeps no sound journal of the node's, or
+-- one whose records do not fit
+abbrev pub HasCause : {F : Type 0} → Reads F → Identity → DiskView → BootFault → DiskView → Type 0
+HasCause frame_at id old boot.Fault new = Fails old new
+HasCause frame_at id old boot.Memory new = ⊤
+HasCause frame_at id old boot.NotAJournal new = old.tells ≡ true → refusal id old.state.kept ≡ Some open_fault.NotAJournal
+HasCause frame_at id old (boot.WrongNode found) new = old.tells ≡ true → refusal id old.state.kept ≡ Some (open_fault.WrongNode found)
+HasCause frame_at id old (boot.Damaged at) new = old.tells ≡ true → (refusal id old.state.kept ≡ Some (open_fault.Damaged at)) ⊎ MisfitsAt frame_at id old.state.kept at
+
+-- the disks were not made ready: one failed, or memory ran out, and nothing was written
+abbrev pub IsUnready : Option (List ℕ) → Option (List ℕ) → Status → Type 0
+IsUnready written0 written1 s = ((s ≡ status.DiskFault) ⊎ (s ≡ status.NoMemory)) × (written1 ≡ written0)
+
+-- the first opening was refused for a cause, which what was written tells
+pub record IsToldWhy {F : Type 0} (frame_at : Reads F) (old new : DiskView) (written0 written1 : Option (List ℕ)) (s : Status) : Type 0 where
+  pub why : BootFault
+  pub cause : HasCause frame_at (member 1 (party 0) 0) old why new
+  pub told : RefusedWith 0 why written0 written1 s
+
 -- the node did not open: nothing was read, and the disk rests on a journal that it may have left before; what was written says why
-pub record Refuses {F : Type 0} (e : Environment F) (w : World) (disk : DiskView) (left0 left1 written0 written1 : Option (List ℕ)) (count : ℕ) (s : Status) : Type 0 where
+pub record Refuses {F : Type 0} (e : Environment F) (w : World) (old disk : DiskView) (left0 left1 written0 written1 : Option (List ℕ)) (count : ℕ) (s : Status) : Type 0 where
   pub unread : left1 ≡ left0
   pub none : count ≡ 0
   pub world : World
   pub rests : Rests e disk world
   pub fewer : LeavesFewer w world
-  pub why : ((s ≡ status.DiskFault) × (written1 ≡ written0)) ⊎ (((s ≡ status.NoMemory) × (written1 ≡ written0)) ⊎ ((fault : BootFault) × RefusedWith 0 fault written0 written1 s))
+  pub why : IsUnready written0 written1 s ⊎ IsToldWhy e.frame_at old disk written0 written1 s
 
 -- a run over a disk that shows this world while its node is down: the node opened and its script was played, or it did not open
-pub record RunsAs {F : Type 0} (e : Environment F) (w : World) (disk : DiskView) (left0 left1 written0 written1 : Option (List ℕ)) (count number : ℕ) : Type 0 where
+pub record RunsAs {F : Type 0} (e : Environment F) (w : World) (old disk : DiskView) (left0 left1 written0 written1 : Option (List ℕ)) (count number : ℕ) : Type 0 where
   pub status : Status
   pub is : number ≡ number_of_status status
-  pub ran : Plays e w disk left0 left1 written0 written1 count status ⊎ Refuses e w disk left0 left1 written0 written1 count status
+  pub ran : Plays e w disk left0 left1 written0 written1 count status ⊎ Refuses e w old disk left0 left1 written0 written1 count status
 
 -- the statuses of a disk that was not made ready
 abbrev pub IsOpeningStatus : Status → Type 0
@@ -137,5 +180,5 @@ IsRunStatus status.TooLong = ⊤
 IsRunStatus status.ReadFault = ⊤
 
 -- the node opened and its script was played, or it did not open
-abbrev pub PlaysOrRefuses : {F : Type 0} → Environment F → World → DiskView → Option (List ℕ) → Option (List ℕ) → Option (List ℕ) → Option (List ℕ) → ℕ → Status → Type 0
-PlaysOrRefuses e w disk left0 left1 written0 written1 count s = Plays e w disk left0 left1 written0 written1 count s ⊎ Refuses e w disk left0 left1 written0 written1 count s
+abbrev pub PlaysOrRefuses : {F : Type 0} → Environment F → World → DiskView → DiskView → Option (List ℕ) → Option (List ℕ) → Option (List ℕ) → Option (List ℕ) → ℕ → Status → Type 0
+PlaysOrRefuses e w old disk left0 left1 written0 written1 count s = Plays e w disk left0 left1 written0 written1 count s ⊎ Refuses e w old disk left0 left1 written0 written1 count s

@@ -3,7 +3,7 @@
 ghost use Rattle.std.specs.Prelude.{◌≡◌, ◌≤◌, ◌<◌, ◌∷◌, List, ℕ, length, drop, map, OnOk, OnErr, IfErr, IsErrOf, IfOk, slice_get, Some, true, string_bytes};
 ghost use Rattle.outside.specs.Disk.{DiskView};
 ghost use Rattle.outside.specs.Faults.{Rose};
-ghost use Rattle.node_shell.specs.Runs.{journal_line, RefusedWith, IsOpeningStatus, IsRefusedStatus};
+ghost use Rattle.node_shell.specs.Runs.{journal_line, RefusedWith, IsOpeningStatus, IsRefusedStatus, Fails, OneFails};
 
 use super::statuses::Status;
 use super::streams::write_all;
@@ -16,8 +16,7 @@ fn attach<B: Bay>(alloc: Global, disk: &mut B, name: &str) -> Result<(), Status>
     ensures same { B.seen disk.new ≡ record (B.seen disk.old) { faults = (B.seen disk.new).faults } }
     ensures later { (B.seen disk.old).faults ≤ (B.seen disk.new).faults }
     ensures kinds { IfErr result IsOpeningStatus }
-    ensures cause { IsErrOf result Status.DiskFault → Rose (B.seen disk.old).faults (B.seen disk.new).faults }
-    ensures calm { (B.seen disk.old).calm ≡ true → IsErrOf result Status.DiskFault → ⊥ }
+    ensures cause { IsErrOf result Status.DiskFault → Fails (B.seen disk.old) (B.seen disk.new) }
 {
     match disk.attach(alloc, None, name) {
         Ok(()) => Ok(()),
@@ -77,6 +76,7 @@ pub fn attach_both<B: Bay>(alloc: Global, disks: &mut [B]) -> Result<(), Status>
     ensures first { (d e : DiskView) → slice_get (map B.seen disks.old) 0 ≡ Some d → slice_get (map B.seen disks.new) 0 ≡ Some e → (e ≡ record d { faults = e.faults }) × (d.faults ≤ e.faults) }
     ensures second { (d e : DiskView) → slice_get (map B.seen disks.old) 1 ≡ Some d → slice_get (map B.seen disks.new) 1 ≡ Some e → (e ≡ record d { faults = e.faults }) × (d.faults ≤ e.faults) }
     ensures kinds { IfErr result IsOpeningStatus }
+    ensures cause { IsErrOf result Status.DiskFault → OneFails (map B.seen disks.old) (map B.seen disks.new) }
 {
     attach(alloc, &mut disks[0], "node-0.a")?;
     attach(alloc, &mut disks[1], "node-0.b")

@@ -2,8 +2,9 @@ use Rattle.std.proofs.Common.{[], ◌∷◌, map, length, sym, ◌∙◌, ap, su
 use Rattle.net_model.specs.Environment.{party}
 use Rattle.node_core.specs.Disks.{roomless}
 use Rattle.network_core.specs.Begins.{BeginsWorld, IsRefused}
+use Rattle.node_shell.specs.Runs.{IsToldWhy}
 use Rattle.node_shell.proofs.Resting.{map_count, map_seen}
-use Rattle.node_shell.proofs.Opening.{played, refused}
+use Rattle.node_shell.proofs.Opening.{played, refused, told_why, fault_why}
 use Rattle.node_shell.proofs.top.play.Goals as goal
 
 pub returns-in-Ok-clause-count : goal.returns-in-Ok-clause-count
@@ -24,3 +25,17 @@ returns-in-Err-clause-runs g c d e own back w shows coherent =
     let f = g.F.Spelt.reading in
     let r : IsRefused m f 1 (party 0) (d ∷ []) c.in-Err.refused.node c.in-Err.refused.why (e ∷ []) = rw (own, back) at c.in-Err.ensures.refused in
     refused m f d e w c.in-Err.refused.node c.in-Err.refused.why _ _ _ _ r c.refuse-status.ensures.refused shows coherent
+
+pub returns-in-Err-clause-disk_fault : goal.returns-in-Err-clause-disk_fault
+returns-in-Err-clause-disk_fault g c is d e own back =
+    let m = g.F.FlowSet.machine in
+    let f = g.F.Spelt.reading in
+    let r : IsRefused m f 1 (party 0) (d ∷ []) c.in-Err.refused.node c.in-Err.refused.why (e ∷ []) = rw (own, back) at c.in-Err.ensures.refused in
+    fault_why m f d e c.in-Err.refused.node c.in-Err.refused.why _ _ _ r c.refuse-status.ensures.refused is
+
+pub returns-in-Err-clause-bad_journal : goal.returns-in-Err-clause-bad_journal
+returns-in-Err-clause-bad_journal g c is d e own back =
+    let m = g.F.FlowSet.machine in
+    let f = g.F.Spelt.reading in
+    let r : IsRefused m f 1 (party 0) (d ∷ []) c.in-Err.refused.node c.in-Err.refused.why (e ∷ []) = rw (own, back) at c.in-Err.ensures.refused in
+    subst (IsToldWhy f d e _ _) is (told_why m f d e c.in-Err.refused.node c.in-Err.refused.why _ _ _ r c.refuse-status.ensures.refused)

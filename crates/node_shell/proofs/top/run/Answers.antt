@@ -13,7 +13,7 @@ returns-in_default-clause-story g c one d e at after w shows coherent =
     let end = c.end_with-in_default.ensures in
     let same : d ≡ e = some_same d e (sym at ∙ ap (λ v. slice_get (map g.B.Disk.seen v.items) 0) (sym end.1) ∙ after) in
     let counts : e ≡ record d { faults = e.faults } = subst (λ (x : DiskView). x ≡ record d { faults = x.faults }) same refl in
-    runs_as m f w e _ _ _ _ _ _ _ status.NoMemory end.0 end.2 (unready m f d e w _ _ status.NoMemory tt counts shows coherent)
+    runs_as m f w d e _ _ _ _ _ _ _ status.NoMemory end.0 end.2 (unready m f d e w _ _ status.NoMemory tt counts shows coherent)
 
 pub returns-in-Err-clause-story : goal.returns-in-Err-clause-story
 returns-in-Err-clause-story g c one d e at after w shows coherent =
@@ -24,7 +24,7 @@ returns-in-Err-clause-story g c one d e at after w shows coherent =
     let same = written_back c.args.disks.len c.attach_both.new.disks c.args.disks.items c.args.disks.ok.0 (c.attach_both.ensures.count ∙ ap length c.as_mut_slice.ensures.value) in
     let now = ap (λ l. slice_get (map g.B.Disk.seen l) 0) (sym same) ∙ ap (λ v. slice_get (map g.B.Disk.seen v.items) 0) (sym end.1) ∙ after in
     let counts = (c.attach_both.ensures.first d e before now).0 in
-    runs_as m f w e _ _ _ _ _ _ _ c.in-Err.status end.0 end.2 (unready m f d e w _ _ c.in-Err.status c.in-Err.ensures.kinds counts shows coherent)
+    runs_as m f w d e _ _ _ _ _ _ _ c.in-Err.status end.0 end.2 (unready m f d e w _ _ c.in-Err.status c.in-Err.ensures.kinds counts shows coherent)
 
 pub returns-clause-story : goal.returns-clause-story
 returns-clause-story g c one d e at after w shows coherent =
@@ -39,7 +39,7 @@ returns-clause-story g c one d e at after w shows coherent =
     let first : c.remove.result ≡ slice_index_or c.attach_both.new.disks 0 c.remove.result = subst (λ l. c.remove.result ≡ slice_index_or l 0 c.remove.result) same c.remove.ensures.value in
     let there = first_of g.B.Disk.seen c.attach_both.new.disks c.remove.result first (omega (arith, counted, c.requires)) in
     let before = ap (λ l. slice_get (map g.B.Disk.seen l) 0) c.as_mut_slice.ensures.value ∙ at in
-    let counts = (c.attach_both.ensures.first d (g.B.Disk.seen c.remove.result) before there).0 in
+    let counts = c.attach_both.ensures.first d (g.B.Disk.seen c.remove.result) before there in
     let ended = some_same (g.B.Disk.seen c.unwrap-2.result) e (sym put ∙ ap (λ v. slice_get (map g.B.Disk.seen v.items) 0) (sym end.1) ∙ after) in
     let runs = c.play-status.ensures.runs (g.B.Disk.seen c.remove.result) (g.B.Disk.seen c.unwrap-2.result) (ap (map g.B.Disk.seen) own) (ap (map g.B.Disk.seen) back) in
-    runs_as m f w e _ _ _ _ _ _ _ c.play-status.result.0 end.0 end.2 (ready_at m f d (g.B.Disk.seen c.remove.result) (g.B.Disk.seen c.unwrap-2.result) e w _ _ _ _ _ _ ended counts runs shows coherent)
+    runs_as m f w d e _ _ _ _ _ _ _ c.play-status.result.0 end.0 end.2 (ready_at m f d (g.B.Disk.seen c.remove.result) (g.B.Disk.seen c.unwrap-2.result) e w _ _ _ _ _ _ ended counts.0 counts.1 runs shows coherent)
