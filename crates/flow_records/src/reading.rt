@@ -11,9 +11,9 @@ ghost use Rattle.flow_records.specs.Alone.{alone};
 ghost use Rattle.flow_records.specs.Telling.{leaves_sessions_of, leaves_ledger_of, flow_alone, caused_by, TellsFlow};
 
 use crate::transition::Transition;
-use flow_machine::{Checkpoint, FlowSet, FlowState};
+use flow_machine::{Checkpoint, FlowState};
 use ledger_types::LedgerChange;
-use net_base::{Cause, DecodeFault, decode_whole};
+use net_base::{Cause, DecodeFault, Spelt, decode_whole};
 use session_wire::{Effect, FlowPart, SessionChange};
 use std::alloc::{AllocError, Global};
 use transition_record::decode_record;
@@ -36,7 +36,7 @@ fn leaves_ledger(change: &LedgerChange) -> bool
 }
 
 /// The checkpoint whose bytes these are, `None` where they are no checkpoint's of the flow set.
-fn read_checkpoint<F: FlowSet>(
+fn read_checkpoint<F: Spelt + Drop>(
     alloc: Global,
     bytes: &[u8],
 ) -> Result<Option<Checkpoint<F>>, AllocError>
@@ -58,7 +58,7 @@ fn live<F: Drop>(at: Checkpoint<F>) -> (u32, FlowState<F>)
 }
 
 /// The flow of which a part tells, and its number.
-fn flow_after<F: FlowSet>(
+fn flow_after<F: Spelt + Drop>(
     alloc: Global,
     part: FlowPart,
 ) -> Result<Option<(u32, FlowState<F>)>, AllocError>
@@ -86,7 +86,7 @@ fn flow_after<F: FlowSet>(
 }
 
 /// The flow of which an effect tells, and its number, where it changes nothing else.
-fn flow_alone<F: FlowSet>(
+fn flow_alone<F: Spelt + Drop>(
     alloc: Global,
     effect: Effect,
 ) -> Result<Option<(u32, FlowState<F>)>, AllocError>
@@ -129,7 +129,7 @@ fn caused<F: Drop>(cause: Cause, flow: Option<(u32, FlowState<F>)>) -> Option<Tr
 /// # Errors
 ///
 /// Want of memory.
-pub fn read<F: FlowSet>(alloc: Global, bytes: &[u8]) -> Result<Option<Transition<F>>, AllocError>
+pub fn read<F: Spelt + Drop>(alloc: Global, bytes: &[u8]) -> Result<Option<Transition<F>>, AllocError>
     ensures { IfOk result (λ r. MatchOption r (alone (record_of F.reading bytes.now) ≡ None) (λ t. (record_of F.reading bytes.now ≡ Some (record { cause = t.cause; effect = effect_to t.number t.state })) × IsCause t.cause × IsFlow F.within t.state × IsNumbered t.number t.state)) }
 {
     match decode_record(alloc, bytes) {
