@@ -14,7 +14,7 @@ use super::up::Up;
 use super::{BootFault, CutFault, StartFault, TurnFault, Turned};
 use checkpoints::Flows;
 use flow_machine::FlowSet;
-use net_base::{ByteList, Cause, Identity, Moment};
+use net_base::{ByteList, Cause, Identity, Moment, Spelt};
 use outside::{Bay, Disk};
 use std::alloc::Global;
 use std::marker::Model;
@@ -22,7 +22,7 @@ use std::mem;
 
 /// Where a node's disk is.
 #[derive(Drop)]
-pub enum State<D: Disk, F: FlowSet> {
+pub enum State<D: Disk, F: Spelt + Drop> {
     Down { disk: D },
     Up { up: Up<D, F> },
     /// Within a call, while the disk is on its way.
@@ -35,12 +35,12 @@ pub enum State<D: Disk, F: FlowSet> {
 /// these make. Each call that commits appends one record, and at every moment since the call began a power cut leaves the old
 /// records or these with the new one.
 #[derive(Drop)]
-pub struct Node<D: Disk, F: FlowSet> {
+pub struct Node<D: Disk, F: Spelt + Drop> {
     identity: Identity,
     state: State<D, F>,
 }
 
-impl<D: Disk, F: FlowSet> Model for Node<D, F> {
+impl<D: Disk, F: Spelt + Drop> Model for Node<D, F> {
     ghost use Rattle.node_core.specs.Seen.{NodeSeen};
 
     ghost Value = { NodeSeen };
@@ -53,7 +53,7 @@ impl<D: Disk, F: FlowSet> Model for Node<D, F> {
     ghost invariant = { λ n. IsMember n.identity × IsWhole n.identity n.state };
 }
 
-impl<D: Disk, F: FlowSet> Node<D, F> {
+impl<D: Disk, F: Spelt + Drop> Node<D, F> {
     /// A node that is down. Its party and its notary are nodes of its network, which has 1 to 16. Takes no memory.
     pub fn new(disk: D, identity: Identity) -> Node<D, F>
         requires { IsMember identity }
@@ -123,7 +123,8 @@ impl<D: Disk, F: FlowSet> Node<D, F> {
         }
     }
 
-    /// Opens the journal, and rebuilds the node from its records. The flows go on from their checkpoints; none is resumed.
+    /// Opens the journal, and rebuilds the node from its records. The flows go on from their checkpoints; none is resumed: a boot asks
+    /// nothing of frames but how they are spelt.
     ///
     /// # Errors
     ///
@@ -148,7 +149,9 @@ impl<D: Disk, F: FlowSet> Node<D, F> {
             _ => unreachable!(),
         }
     }
+}
 
+impl<D: Disk, F: FlowSet> Node<D, F> {
     /// Starts a flow of the class at a moment, which is no less than that of the last cause, and gives its number.
     ///
     /// # Errors
@@ -227,7 +230,7 @@ impl<D: Disk, F: FlowSet> Node<D, F> {
     }
 }
 
-impl<D: Bay, F: FlowSet> Node<D, F> {
+impl<D: Bay, F: Spelt + Drop> Node<D, F> {
     /// Cuts the disk's power now, where `calls` is 0, and takes the node down; or else lets it go at the write or sync that comes as
     /// number `calls` from now. The outcome, 0 to 3, says what is left of what was written since the last sync.
     ///
@@ -267,7 +270,7 @@ impl<D: Bay, F: FlowSet> Node<D, F> {
 }
 
 /// Cuts the power of a node's disk, which is no file.
-fn cut_now<D: Bay, F: FlowSet>(state: &mut State<D, F>, outcome: u8)
+fn cut_now<D: Bay, F: Spelt + Drop>(state: &mut State<D, F>, outcome: u8)
     requires outcome { outcome ≤ 3 }
     requires down { IsDown state.old }
     requires memory { (disk_in D.seen state.old).of_file ≡ false }
@@ -283,7 +286,7 @@ fn cut_now<D: Bay, F: FlowSet>(state: &mut State<D, F>, outcome: u8)
 }
 
 /// Takes a node down: its disk comes out of the journal.
-fn fall<D: Disk, F: FlowSet>(state: &mut State<D, F>)
+fn fall<D: Disk, F: Spelt + Drop>(state: &mut State<D, F>)
     requires { IsSome (journal_in state.old) }
     ensures disk { disk_in D.seen state.new ≡ disk_in D.seen state.old }
     ensures down { IsDown state.new }

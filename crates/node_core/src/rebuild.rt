@@ -7,8 +7,7 @@ ghost use Rattle.node_core.specs.Seen.{RebuildsAs, boot_of};
 use super::BootFault;
 use super::run::Run;
 use disk_journal::OpenFault;
-use flow_machine::FlowSet;
-use net_base::{ByteList, RecordList};
+use net_base::{ByteList, RecordList, Spelt};
 use std::alloc::Global;
 
 /// What a refused opening is at a boot.
@@ -24,12 +23,12 @@ pub fn boot_fault(why: OpenFault) -> BootFault
     }
 }
 
-/// The tables that these records make.
+/// The tables that these records make. Nothing is asked of frames but how they are spelt, so no flow is resumed.
 ///
 /// # Errors
 ///
 /// `Damaged` with the place of the first body that is no record of this flow set or doesn't fit, and `Memory`.
-pub fn rebuild<F: FlowSet>(alloc: Global, list: RecordList) -> Result<Run<F>, BootFault>
+pub fn rebuild<F: Spelt + Drop>(alloc: Global, list: RecordList) -> Result<Run<F>, BootFault>
     requires { length list ≤ 65536 }
     ensures { RebuildsAs F.reading list result }
 {

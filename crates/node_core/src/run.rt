@@ -19,7 +19,7 @@ use super::ready::{Ready, advance, begin, pick_event};
 use checkpoints::Flows;
 use flow_machine::{FlowSet, FlowState};
 use flow_records::Transition;
-use net_base::{ByteList, Cause, Event, Identity, Moment};
+use net_base::{ByteList, Cause, Event, Identity, Moment, Spelt};
 use std::alloc::{AllocError, Global};
 use std::marker::Model;
 
@@ -72,7 +72,7 @@ impl<T: Drop> Roomy<T> {
 
 /// The tables of a node, seen as the bodies of its records: all else is what these make.
 #[derive(Drop)]
-pub struct Run<F: FlowSet> {
+pub struct Run<F: Spelt + Drop> {
     bodies: Roomy<ByteList>,
     causes: Roomy<Cause>,
     flows: Flows<F>,
@@ -80,7 +80,7 @@ pub struct Run<F: FlowSet> {
     moment: Moment,
 }
 
-impl<F: FlowSet> Model for Run<F> {
+impl<F: Spelt + Drop> Model for Run<F> {
     ghost use Rattle.std.specs.Prelude.{◌&&◌, nat_lt};
     ghost use Rattle.node_core.specs.Seen.{RunSeen, Keeps};
 
@@ -91,7 +91,7 @@ impl<F: FlowSet> Model for Run<F> {
     ghost invariant = { λ r. Keeps F.reading F.within r.bodies.items r.causes.items r.flows.flows r.stamp r.moment.0 };
 }
 
-impl<F: FlowSet> Run<F> {
+impl<F: Spelt + Drop> Run<F> {
     /// The tables of a node to which nothing has happened. Takes no memory.
     pub fn new(alloc: Global) -> Run<F>
         ensures { result.bodies ≡ [] }
@@ -181,37 +181,6 @@ impl<F: FlowSet> Run<F> {
         pick_event(&self.flows, now, pick)
     }
 
-    /// What a turn by this event is about to commit.
-    pub fn advance(
-        &self,
-        alloc: Global,
-        identity: &Identity,
-        now: Moment,
-        event: Event,
-    ) -> Result<Ready<F>, AllocError>
-        requires identity { IsIdentity identity.now }
-        requires picked { (pick : Option ℕ) × (picked now.0 pick (state_of F.reading self.now.bodies).flows ≡ Some event) }
-        ensures event { IfOk result (λ n. n.event ≡ event) }
-        ensures next { IfOk result (λ n. IsNext (environment F.machine F.reading identity.now) identity.now.party.0 now.0 F.within (state_of F.reading self.now.bodies) n) }
-    {
-        advance(alloc, identity, &self.flows, now, event)
-    }
-
-    /// What a start is about to commit.
-    pub fn begin(
-        &self,
-        alloc: Global,
-        identity: &Identity,
-        now: Moment,
-        class: u16,
-        args: &ByteList,
-    ) -> Result<Ready<F>, StartFault>
-        requires { IsIdentity identity.now }
-        ensures { IsBegun (environment F.machine F.reading identity.now) identity.now.party.0 now.0 F.within (state_of F.reading self.now.bodies) class args.now result }
-    {
-        begin(alloc, identity, self.flows.count(), now, class, args)
-    }
-
     /// Whether the last stamp was given.
     pub fn is_late(&self) -> bool
         ensures { result ≡ nat_le (2 ^ 63 - 1) (state_of F.reading self.now.bodies).stamp }
@@ -255,5 +224,38 @@ impl<F: FlowSet> Run<F> {
         ensures numbered { AreNumbered 0 (state_of F.reading self.now.bodies).flows }
     {
         let _ = &self.bodies;
+    }
+}
+
+impl<F: FlowSet> Run<F> {
+    /// What a turn by this event is about to commit.
+    pub fn advance(
+        &self,
+        alloc: Global,
+        identity: &Identity,
+        now: Moment,
+        event: Event,
+    ) -> Result<Ready<F>, AllocError>
+        requires identity { IsIdentity identity.now }
+        requires picked { (pick : Option ℕ) × (picked now.0 pick (state_of F.reading self.now.bodies).flows ≡ Some event) }
+        ensures event { IfOk result (λ n. n.event ≡ event) }
+        ensures next { IfOk result (λ n. IsNext (environment F.machine F.reading identity.now) identity.now.party.0 now.0 F.within (state_of F.reading self.now.bodies) n) }
+    {
+        advance(alloc, identity, &self.flows, now, event)
+    }
+
+    /// What a start is about to commit.
+    pub fn begin(
+        &self,
+        alloc: Global,
+        identity: &Identity,
+        now: Moment,
+        class: u16,
+        args: &ByteList,
+    ) -> Result<Ready<F>, StartFault>
+        requires { IsIdentity identity.now }
+        ensures { IsBegun (environment F.machine F.reading identity.now) identity.now.party.0 now.0 F.within (state_of F.reading self.now.bodies) class args.now result }
+    {
+        begin(alloc, identity, self.flows.count(), now, class, args)
     }
 }

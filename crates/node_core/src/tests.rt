@@ -1,5 +1,6 @@
 use super::{BootFault, CutFault, Node, StartFault, TurnFault, Turned};
 use checkpoints::FlowView;
+use disk_journal::Journal;
 use disk_mem::MemDisk;
 use flow_machine::{Act, Counter};
 use ledger_types::Value;
@@ -218,6 +219,44 @@ fn a_node_boots_its_own_journal(rt: HostRuntime) -> Result<(), Fail> {
     let mut other = Node::new(node.into_disk(), OTHER);
     let refused = Answer::Booted(Err(BootFault::WrongNode { found: NODE }));
     assert_eq!(rt; boot(alloc, &mut other)?, refused);
+    Ok(())
+}
+
+/// A record that was worked out by hand: flow 0 of class 1 begins, and waits to return 0. Its frame is the number 2^17 + 7.
+const STARTED: &str =
+    "000000000000000100000000000000000100000000000100040000000001000000000000000000010e010000000000000000010002000700000000000000";
+
+// A disk whose journal has this record alone.
+fn disk_with(alloc: Global, body: &[u8]) -> Result<MemDisk, Fail> {
+    if body.len() > 100 {
+        return Err(Fail::new("a longer body"));
+    }
+    let Ok((mut journal, _)) = Journal::open(alloc, MemDisk::new(alloc), NODE) else {
+        return Err(Fail::new("not opened"));
+    };
+    journal.make_room(alloc, body.len())?;
+    match journal.append(body) {
+        Ok(()) => Ok(journal.into_disk()),
+        Err(_) => Err(Fail::new("not appended")),
+    }
+}
+
+// The frame at which a live flow stands.
+fn frame_of(node: &Node<MemDisk, u32>, flow: u32) -> Option<u32> {
+    match node.flows()?.get(flow)? {
+        FlowView::Live(at) => Some(*at.stack.top()),
+        _ => None,
+    }
+}
+
+// Plain numbers are the frames of no flow set: there is nothing that a boot could resume.
+#[test]
+fn a_boot_resumes_no_flow(rt: HostRuntime) -> Result<(), Fail> {
+    let alloc = rt.alloc();
+    let body = hex::decode(alloc, STARTED)?;
+    let mut node = Node::<MemDisk, u32>::new(disk_with(alloc, body.as_slice())?, NODE);
+    assert_eq!(rt; node.boot(alloc), Ok(()));
+    assert_eq!(rt; frame_of(&node, 0), Some(131_079));
     Ok(())
 }
 

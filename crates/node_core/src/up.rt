@@ -24,19 +24,19 @@ use checkpoints::Flows;
 use disk_journal::{AppendFault, Journal};
 use flow_machine::FlowSet;
 use flow_records::Transition;
-use net_base::{ByteList, Cause, Event, Identity, Moment};
+use net_base::{ByteList, Cause, Event, Identity, Moment, Spelt};
 use outside::{Bay, Disk, NoFuse};
 use std::alloc::{AllocError, Global};
 use std::marker::Model;
 
 /// A node that is up.
 #[derive(Drop)]
-pub struct Up<D: Disk, F: FlowSet> {
+pub struct Up<D: Disk, F: Spelt + Drop> {
     journal: Journal<D>,
     run: Run<F>,
 }
 
-impl<D: Disk, F: FlowSet> Model for Up<D, F> {
+impl<D: Disk, F: Spelt + Drop> Model for Up<D, F> {
     ghost use Rattle.node_core.specs.Seen.{UpSeen};
 
     ghost Value = { UpSeen };
@@ -51,7 +51,7 @@ pub struct BootRefused<D: Disk> {
     pub why: BootFault,
 }
 
-impl<D: Disk, F: FlowSet> Up<D, F> {
+impl<D: Disk, F: Spelt + Drop> Up<D, F> {
     /// Opens the journal, and rebuilds the tables from its records.
     pub fn open(alloc: Global, disk: D, identity: Identity) -> Result<Up<D, F>, BootRefused<D>>
         requires { IsIdentity identity }
@@ -90,6 +90,37 @@ impl<D: Disk, F: FlowSet> Up<D, F> {
         self.run.pick(now, pick)
     }
 
+    /// The disk; the node is up no more.
+    pub fn into_disk(self) -> D
+        ensures { D.seen result ≡ self.journal.disk }
+    {
+        let Up { journal, run: _ } = self;
+        journal.into_disk()
+    }
+
+    /// The moment of the last record, 0 before the first.
+    pub fn last_moment(&self) -> Moment
+        ensures { result.0 ≡ (state_of F.reading self.now.bodies).moment }
+    {
+        self.run.last_moment()
+    }
+
+    /// The flows, by number.
+    pub fn flows(&self) -> &Flows<F>
+        ensures { result.now.flows ≡ (state_of F.reading self.now.bodies).flows }
+    {
+        self.run.flows()
+    }
+
+    /// The causes, in order.
+    pub fn causes(&self) -> &[Cause]
+        ensures { result.now ≡ causes_of F.reading self.now.bodies }
+    {
+        self.run.causes()
+    }
+}
+
+impl<D: Disk, F: FlowSet> Up<D, F> {
     /// Lets a flow go on by this event.
     pub fn go_on(
         &mut self,
@@ -166,38 +197,9 @@ impl<D: Disk, F: FlowSet> Up<D, F> {
             }
         }
     }
-
-    /// The disk; the node is up no more.
-    pub fn into_disk(self) -> D
-        ensures { D.seen result ≡ self.journal.disk }
-    {
-        let Up { journal, run: _ } = self;
-        journal.into_disk()
-    }
-
-    /// The moment of the last record, 0 before the first.
-    pub fn last_moment(&self) -> Moment
-        ensures { result.0 ≡ (state_of F.reading self.now.bodies).moment }
-    {
-        self.run.last_moment()
-    }
-
-    /// The flows, by number.
-    pub fn flows(&self) -> &Flows<F>
-        ensures { result.now.flows ≡ (state_of F.reading self.now.bodies).flows }
-    {
-        self.run.flows()
-    }
-
-    /// The causes, in order.
-    pub fn causes(&self) -> &[Cause]
-        ensures { result.now ≡ causes_of F.reading self.now.bodies }
-    {
-        self.run.causes()
-    }
 }
 
-impl<D: Bay, F: FlowSet> Up<D, F> {
+impl<D: Bay, F: Spelt + Drop> Up<D, F> {
     /// Arms the fuse of the disk.
     pub fn arm(&mut self, calls: u64, outcome: u8) -> Result<(), NoFuse>
         requires calls { 0 < calls }
