@@ -129,7 +129,10 @@ fn caused<F: Drop>(cause: Cause, flow: Option<(u32, FlowState<F>)>) -> Option<Tr
 /// # Errors
 ///
 /// Want of memory.
-pub fn read<F: Spelt + Drop>(alloc: Global, bytes: &[u8]) -> Result<Option<Transition<F>>, AllocError>
+pub fn read<F: Spelt + Drop>(
+    alloc: Global,
+    bytes: &[u8],
+) -> Result<Option<Transition<F>>, AllocError>
     ensures { IfOk result (λ r. MatchOption r (alone (record_of F.reading bytes.now) ≡ None) (λ t. (record_of F.reading bytes.now ≡ Some (record { cause = t.cause; effect = effect_to t.number t.state })) × IsCause t.cause × IsFlow F.within t.state × IsNumbered t.number t.state)) }
 {
     match decode_record(alloc, bytes) {

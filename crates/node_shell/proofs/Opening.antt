@@ -1,6 +1,6 @@
 -- A whole run: the node opens and its script is played, or it does not open.
 use Rattle.std.proofs.Common.{◌≡◌, ◌⊎◌, inl, inr, ⊎_elim, ℕ, zero, suc, List, [], ◌∷◌, ◌++◌, length, map, Option, Some, refl, sym, ◌∙◌, ap, subst, arith, append_assoc}
-use Rattle.std.specs.Prelude.{codes, decimal, take, drop, slice_index_or, ◌<◌}
+use Rattle.std.specs.Prelude.{codes, decimal, take, drop, slice_index_or, true, None, ◌<◌, ◌≤◌}
 use Rattle.std.specs.List.{slice_get}
 use Rattle.outside.specs.Disk.{DiskView}
 use Rattle.outside.specs.Faults.{Rose}
@@ -61,8 +61,40 @@ boot_cause f id why d b u =
 rose_since : (a b c : ℕ) → a ≤ b → Rose b c → Rose a c
 rose_since a b c first then = omega (arith, first, then)
 
-fails_since : (d k b : DiskView) → k ≡ record d { faults = k.faults } → d.faults ≤ k.faults → Fails k b → Fails d b
+pub fails_since : (d k b : DiskView) → k ≡ record d { faults = k.faults } → d.faults ≤ k.faults → Fails k b → Fails d b
 fails_since d k b same later f = record { rose = rose_since d.faults k.faults b.faults later f.rose; uneasy = λ calm. f.uneasy (ap (λ (x : DiskView). x.calm) same ∙ calm) }
+
+-- the statuses of these numbers
+pub is_disk_fault : (s : Status) → number_of_status s ≡ 6 → s ≡ status.DiskFault
+is_disk_fault status.DiskFault is = refl
+is_disk_fault status.Finished is = cc
+is_disk_fault status.BadWords is = cc
+is_disk_fault status.TooLong is = cc
+is_disk_fault status.ReadFault is = cc
+is_disk_fault status.WriteFault is = cc
+is_disk_fault status.NoMemory is = cc
+is_disk_fault status.BadJournal is = cc
+
+pub is_bad_journal : (s : Status) → number_of_status s ≡ 8 → s ≡ status.BadJournal
+is_bad_journal status.BadJournal is = refl
+is_bad_journal status.Finished is = cc
+is_bad_journal status.BadWords is = cc
+is_bad_journal status.TooLong is = cc
+is_bad_journal status.ReadFault is = cc
+is_bad_journal status.WriteFault is = cc
+is_bad_journal status.DiskFault is = cc
+is_bad_journal status.NoMemory is = cc
+
+pub one_fails_again : {X : Type 0} (f : X → DiskView) (a b c d : List X) → a ≡ b → c ≡ d → OneFails (map f a) (map f c) → OneFails (map f b) (map f d)
+one_fails_again f a b c d one two fails = subst (λ l. OneFails (map f l) (map f d)) one (subst (λ l. OneFails (map f a) (map f l)) two fails)
+
+-- a list of 32 has a first
+pub has_first : {X : Type 0} (l : List X) → length l ≡ 32 → (x : X) × (slice_get l 0 ≡ Some x)
+has_first [] count = absurd (omega (arith, count))
+has_first (x ∷ xs) count = (x, refl)
+
+pub first_fails : (old new : List DiskView) (d k b : DiskView) → slice_get old 0 ≡ Some d → slice_get new 0 ≡ Some b → k ≡ record d { faults = k.faults } → d.faults ≤ k.faults → Fails k b → OneFails old new
+first_fails old new d k b at now same later f = record { place = 0; own = omega arith; before = d; after = b; at = at; now = now; fails = fails_since d k b same later f }
 
 -- a making ready before changes no cause
 cause_since : {F : Type 0} (f : Reads F) (id : Identity) (why : BootFault) (d k b : DiskView) → k ≡ record d { faults = k.faults } → d.faults ≤ k.faults → HasCause f id k why b → HasCause f id d why b
@@ -134,7 +166,7 @@ module _ {F : Type 0} (m : Machine F) (f : Reads F) where
   refused_cause d b node why r =
       ⊎_elim (λ (p : (why ≡ boot.Memory) × (node ≡ 0) × (b ∷ [] ≡ d ∷ [])). subst (λ y. HasCause f (member 1 (party 0) 0) d y b) (sym p.0) tt)
       (λ (q : (x : DiskView) × (y : DiskView) × (slice_get (d ∷ []) node ≡ Some x) × (slice_get (b ∷ []) node ≡ Some y) × BootsAs f (node_over 1 (party 0) node x) (no_boot why) (node_over 1 (party 0) node y)).
-          first_cause d b q.0 q.1 node why (only_first node d q.0 q.2) q.2 q.3 q.4) r.refused
+      first_cause d b q.0 q.1 node why (only_first node d q.0 q.2) q.2 q.3 q.4) r.refused
 
   pub told_why : (d b : DiskView) (node : ℕ) (why : BootFault) (written0 written1 : Option (List ℕ)) (s : Status) → IsRefused m f 1 (party 0) (d ∷ []) node why (b ∷ [])
       → RefusedWith node why written0 written1 s → IsToldWhy f d b written0 written1 s
