@@ -12,10 +12,10 @@ ghost use Rattle.flow_records.specs.Spelling.{lone, is_over, IsPartOf};
 
 use flow_machine::{Checkpoint, FlowSet, FlowState};
 use ledger_types::LedgerChange;
-use net_base::{ByteList, Cause, Event, Key, ListOf, Writer};
+use net_base::{ByteList, Cause, Event, Key, ListOf};
 use session_wire::{Effect, FlowPart, SessionChange};
 use std::alloc::{AllocError, Global};
-use transition_record::encode_record;
+use transition_record::{encode_record, writer_with_room};
 
 /// The session of the item that an event accepts.
 fn came_key(event: &Event) -> Option<Key>
@@ -43,7 +43,7 @@ fn spell_checkpoint<F: FlowSet>(alloc: Global, at: &Checkpoint<F>) -> Result<Byt
     requires { IsCheckpoint F.within at.now }
     ensures { IfOk result (λ bytes. bytes ≡ checkpoint_text F.spelling at.now) }
 {
-    let mut out = Writer::new(alloc);
+    let mut out = writer_with_room(alloc)?;
     at.encode(alloc, &mut out)?;
     Ok(out.into_bytes())
 }

@@ -1,6 +1,6 @@
 //! Records, both ways.
 
-ghost use Rattle.std.specs.Prelude.{◌≡◌, ◌<◌, ◌≤◌, ℕ, List, IfOk, length};
+ghost use Rattle.std.specs.Prelude.{◌≡◌, ◌<◌, ◌≤◌, [], ℕ, List, IfOk, length};
 ghost use Rattle.net_base.specs.Parts.{Gives, Writes};
 ghost use Rattle.net_base.specs.declared.causes.Cause.{Cause};
 ghost use Rattle.session_wire.specs.declared.effect.Effect.{Effect};
@@ -67,6 +67,20 @@ impl Spelt for Record {
     }
 }
 
+/// A writer of no bytes that has room for the record of most transitions, so that memory is taken once for each.
+///
+/// # Errors
+///
+/// Want of memory.
+pub fn writer_with_room(alloc: Global) -> Result<Writer, AllocError>
+    ensures { IfOk result (λ out. out ≡ []) }
+{
+    let mut out = Writer::new(alloc);
+    out.put_bytes(alloc, &[0; 96])?;
+    out.truncate(0);
+    Ok(out)
+}
+
 /// The bytes of the record of a cause and what it changed, at most `RECORD_LIMIT`.
 ///
 /// The bytes don't say which flow owns a session or a lock, whether the flow has ended, or which session an accepted item belongs
@@ -81,7 +95,7 @@ pub fn encode_record(alloc: Global, cause: &Cause, effect: &Effect) -> Result<By
     ensures text { IfOk result (λ bytes. bytes ≡ record_text cause.now effect.now) }
     ensures size { IfOk result (λ bytes. length bytes ≤ RECORD_LIMIT) }
 {
-    let mut out = Writer::new(alloc);
+    let mut out = writer_with_room(alloc)?;
     write_cause(alloc, cause, &mut out)?;
     write_effect(alloc, effect, &mut out)?;
     Ok(out.into_bytes())
