@@ -1,0 +1,4 @@
+pub mod Parts
+pub mod Ping
+pub mod Probe
+pub mod Echo
