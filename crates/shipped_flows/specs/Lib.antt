@@ -2,3 +2,12 @@ pub mod Parts
 pub mod Ping
 pub mod Probe
 pub mod Echo
+pub mod Count
+pub mod Lifting
+pub mod Shared
+pub mod PingLaws
+pub mod ProbeLaws
+pub mod EchoLaws
+pub mod Shipped
+pub mod CountLaws
+pub mod ShippedLaws

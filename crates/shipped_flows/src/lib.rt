@@ -4,11 +4,14 @@
 //! "Writing flows"). Each machine here is a frame of its own and what follows each result; `ShippedFlow` is the set of them.
 #![tactic(auto)]
 
+mod count;
 mod echo;
 mod parts;
 mod ping;
 mod probe;
+mod set;
 
 pub use echo::{Echo, EchoPhase};
 pub use ping::{Ping, PingPhase};
 pub use probe::{Probe, ProbePhase};
+pub use set::ShippedFlow;

@@ -84,7 +84,7 @@ fn args_of(bytes: &[u8]) -> Option<(u8, u32)>
 }
 
 impl Ping {
-    ghost use Rattle.shipped_flows.specs.Ping.{worded, begins, made, failed, receives, sends, counts, opened, received, sent, next, weight, content, IsPing, ping_at};
+    ghost use Rattle.shipped_flows.specs.Ping.{worded, begins, made, failed, receives, sends, counts, opened, received, sent, next, weight, content, size, IsPing, ping_at};
 
     /// The class and the arguments of `ping P K`: P in one byte, K in four.
     ///
@@ -255,6 +255,16 @@ impl Ping {
             PingPhase::Opening | PingPhase::Sending => more + 2,
             PingPhase::Receiving => more + 1,
             PingPhase::Returning | PingPhase::Failing => 0,
+        }
+    }
+
+    /// How many bytes the frame has.
+    pub(crate) fn size(&self) -> u16
+        ensures { result ≡ size self.now }
+    {
+        match self.key {
+            None => 16,
+            Some(_) => 21,
         }
     }
 

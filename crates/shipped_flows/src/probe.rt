@@ -76,7 +76,7 @@ fn args_of(bytes: &[u8]) -> Option<(u8, u16)>
 }
 
 impl Probe {
-    ghost use Rattle.shipped_flows.specs.Probe.{worded, begins, made, failed, opened, received, next, weight, content, IsProbe, probe_at};
+    ghost use Rattle.shipped_flows.specs.Probe.{worded, begins, made, failed, opened, received, next, weight, content, size, IsProbe, probe_at};
 
     /// The class and the arguments of `probe P CLASS`: P in one byte, CLASS in two.
     ///
@@ -197,6 +197,16 @@ impl Probe {
             ProbePhase::Opening => 2,
             ProbePhase::Receiving => 1,
             ProbePhase::Returning | ProbePhase::Failing => 0,
+        }
+    }
+
+    /// How many bytes the frame has.
+    pub(crate) fn size(&self) -> u16
+        ensures { result ≡ size self.now }
+    {
+        match self.key {
+            None => 6,
+            Some(_) => 11,
         }
     }
 
