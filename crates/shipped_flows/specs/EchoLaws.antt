@@ -22,7 +22,7 @@ use Rattle.shipped_flows.specs.declared.echo.Echo.{Echo}
 use Rattle.shipped_flows.specs.declared.echo.EchoPhase.{EchoPhase}
 use Rattle.shipped_flows.specs.declared.echo.EchoPhase.TheVariants.{Receiving, Sending, Returning, Failing}
 use Rattle.shipped_flows.specs.Lifting.{Weighs, SameOver, IsFair, HasFailed, AreLimited, IsBare}
-use Rattle.shipped_flows.specs.Shared.{code_small}
+use Rattle.shipped_flows.specs.SharedLaws.{code_small}
 use Rattle.shipped_flows.specs.Echo.{begins, begun, failed, one_more, answers, heard, received, sent, next, next_at, weight, weight_at, over, over_at, place_of, phase_of, content, IsEcho, echo_of, echo_at}
 
 -- ---- bytes

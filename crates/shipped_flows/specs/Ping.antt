@@ -23,7 +23,7 @@ use Rattle.flow_machine.specs.Unnamed.{unnamed_code}
 use Rattle.shipped_flows.specs.declared.ping.Ping.{Ping}
 use Rattle.shipped_flows.specs.declared.ping.PingPhase.{PingPhase}
 use Rattle.shipped_flows.specs.declared.ping.PingPhase.TheVariants.{Opening, Receiving, Sending, Returning, Failing}
-use Rattle.shipped_flows.specs.Parts.{word_below, party_and, is_peer, is_there, flagged_at}
+use Rattle.shipped_flows.specs.Shared.{word_below, party_and, is_peer, is_there, flagged_at}
 
 -- ---- how it begins
 

@@ -25,9 +25,9 @@ use Rattle.flow_machine.specs.Unnamed.{unnamed_code}
 use Rattle.shipped_flows.specs.declared.ping.Ping.{Ping}
 use Rattle.shipped_flows.specs.declared.ping.PingPhase.{PingPhase}
 use Rattle.shipped_flows.specs.declared.ping.PingPhase.TheVariants.{Opening, Receiving, Sending, Returning, Failing}
-use Rattle.shipped_flows.specs.Parts.{word_below, sized, beside, party_and, is_peer, is_there, IsFlagged, flagged_laws}
+use Rattle.shipped_flows.specs.Shared.{word_below, sized, beside, party_and, is_peer, is_there, IsFlagged, flagged_laws}
 use Rattle.shipped_flows.specs.Lifting.{Weighs, SameOver, IsFair, HasFailed, AreLimited, IsBare}
-use Rattle.shipped_flows.specs.Shared.{code_small, peer_small, party_long, given_one}
+use Rattle.shipped_flows.specs.SharedLaws.{code_small, peer_small, party_long, given_one}
 use Rattle.shipped_flows.specs.Ping.{worded, spelt_args, begins, made, made_of, failed, receives, sends, counts, opened, received, sent, next, next_at, weight, weight_at, over, over_at, place_of, phase_of, content, size_at, size, IsPing, ping_of, ping_at}
 
 -- ---- bytes

@@ -23,7 +23,7 @@ use Rattle.flow_machine.specs.Unnamed.{unnamed_code}
 use Rattle.shipped_flows.specs.declared.probe.Probe.{Probe}
 use Rattle.shipped_flows.specs.declared.probe.ProbePhase.{ProbePhase}
 use Rattle.shipped_flows.specs.declared.probe.ProbePhase.TheVariants.{Opening, Receiving, Returning, Failing}
-use Rattle.shipped_flows.specs.Parts.{word_below, party_and, is_peer, is_there, flagged_at}
+use Rattle.shipped_flows.specs.Shared.{word_below, party_and, is_peer, is_there, flagged_at}
 
 -- ---- how it begins
 

@@ -23,9 +23,9 @@ use Rattle.flow_machine.specs.Unnamed.{unnamed_code}
 use Rattle.shipped_flows.specs.declared.probe.Probe.{Probe}
 use Rattle.shipped_flows.specs.declared.probe.ProbePhase.{ProbePhase}
 use Rattle.shipped_flows.specs.declared.probe.ProbePhase.TheVariants.{Opening, Receiving, Returning, Failing}
-use Rattle.shipped_flows.specs.Parts.{word_below, party_and, is_peer, is_there, IsFlagged, flagged_laws}
+use Rattle.shipped_flows.specs.Shared.{word_below, party_and, is_peer, is_there, IsFlagged, flagged_laws}
 use Rattle.shipped_flows.specs.Lifting.{Weighs, SameOver, IsFair, HasFailed, AreLimited, IsBare}
-use Rattle.shipped_flows.specs.Shared.{code_small, peer_small, party_long, given_one, party_small}
+use Rattle.shipped_flows.specs.SharedLaws.{code_small, peer_small, party_long, given_one, party_small}
 use Rattle.shipped_flows.specs.Probe.{worded, spelt_args, begins, made, made_of, failed, opened, received, next, next_at, weight, weight_at, over, over_at, place_of, phase_of, content, size_at, size, IsProbe, probe_of, probe_at}
 
 -- ---- bytes

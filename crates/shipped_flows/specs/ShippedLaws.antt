@@ -26,8 +26,8 @@ use Rattle.shipped_flows.specs.declared.probe.Probe.{Probe}
 use Rattle.shipped_flows.specs.declared.echo.Echo.{Echo}
 use Rattle.shipped_flows.specs.declared.set.ShippedFlow.{ShippedFlow}
 use Rattle.shipped_flows.specs.declared.set.ShippedFlow.TheVariants as flow
-use Rattle.shipped_flows.specs.Parts.{is_there, IsFlagged, party_and}
-use Rattle.shipped_flows.specs.Shared.{party_long}
+use Rattle.shipped_flows.specs.Shared.{is_there, IsFlagged, party_and}
+use Rattle.shipped_flows.specs.SharedLaws.{party_long}
 use Rattle.shipped_flows.specs.Lifting.{seen}
 use Rattle.shipped_flows.specs.Count.{count_laws, count_long}
 use Rattle.shipped_flows.specs.CountLaws as count_law
@@ -350,11 +350,11 @@ of_ok Q (Err fault) x e h = absurd cc
 made_short : (class : ℕ) (args : List ℕ) (at : Place) → IfOk (made class args at) (λ begun. length args ≤ 65535)
 made_short class args at =
     if_made (length args ≤ 65535) (made class args at) (λ g e.
-      made_holds (λ _. length args ≤ 65535) class args at g
-      (λ q b. ping_law.begun_short args at q b)
-      (λ q b. probe_law.begun_short args at q b)
-      (λ q m. of_ok (length args ≤ 65535) (counter.made class args at) q m (counter_law.args_are_short.made class args at))
-      e)
+    made_holds (λ _. length args ≤ 65535) class args at g
+    (λ q b. ping_law.begun_short args at q b)
+    (λ q b. probe_law.begun_short args at q b)
+    (λ q m. of_ok (length args ≤ 65535) (counter.made class args at) q m (counter_law.args_are_short.made class args at))
+    e)
 
 pub args_are_short : ArgsAreShort machine
 args_are_short = record { worded = worded_short; made = made_short }

@@ -106,10 +106,13 @@ impl Echo {
             ..self
         };
         let value = Value::Number(self.last.saturating_add(1));
-        (frame, Act::Send {
-            key: self.key,
-            value,
-        })
+        (
+            frame,
+            Act::Send {
+                key: self.key,
+                value,
+            },
+        )
     }
 
     fn received<F>(self, with: &Resumed) -> (Echo, Act<F>)
@@ -176,9 +179,10 @@ impl Echo {
         }
     }
 
-    /// Reads a frame.
+    /// Reads a frame's own bytes, or tells how many bytes are left where no spelling goes on. After a fault the reader's
+    /// place is not stated.
     #[tactic(auto, unfolding(crate::specs::Echo::echo_at))]
-    pub(crate) fn read(alloc: Global, from: &mut Reader) -> Result<Echo, PartFault>
+    pub fn read(alloc: Global, from: &mut Reader) -> Result<Echo, PartFault>
         ensures { Gives (λ x. x) result from.old from.new (echo_at from.old.left) }
     {
         let _machine = read_between(from, 11, 12)?;
@@ -190,8 +194,8 @@ impl Echo {
         })
     }
 
-    /// Writes the frame's own bytes.
-    pub(crate) fn write(&self, alloc: Global, out: &mut Writer) -> Result<(), AllocError>
+    /// Writes the frame's own bytes: the machine, the place, and the fields in their order. After want of memory a front of them may stand in `out`.
+    pub fn write(&self, alloc: Global, out: &mut Writer) -> Result<(), AllocError>
         requires { IsEcho self.now }
         ensures { Writes (content self.now) result out.old out.new }
     {

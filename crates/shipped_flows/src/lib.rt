@@ -6,10 +6,12 @@
 
 mod count;
 mod echo;
-mod parts;
 mod ping;
 mod probe;
 mod set;
+mod shared;
+#[cfg(test)]
+mod tests;
 
 pub use echo::{Echo, EchoPhase};
 pub use ping::{Ping, PingPhase};

@@ -2,9 +2,9 @@ ghost use Rattle.std.specs.Prelude.{◌≡◌, map, string_bytes};
 ghost use Rattle.net_base.specs.Parts.{Gives, Writes};
 ghost use Rattle.flow_machine.specs.Flows.{GivesWords, GivesMade};
 ghost use Rattle.std.specs.Int.{w32};
-ghost use Rattle.shipped_flows.specs.Parts.{party_and};
+ghost use Rattle.shipped_flows.specs.Shared.{party_and};
 
-use crate::parts::{is_peer, read_flagged, u8_word, u32_of, u32_word};
+use crate::shared::{is_peer, read_flagged, u8_word, u32_of, u32_word};
 use flow_machine::{Act, MakeFault, Place, Resumed, WordFault};
 use ledger_types::Value;
 use net_base::{
@@ -259,7 +259,7 @@ impl Ping {
     }
 
     /// How many bytes the frame has.
-    pub(crate) fn size(&self) -> u16
+    pub fn size(&self) -> u16
         ensures { result ≡ size self.now }
     {
         match self.key {
@@ -268,9 +268,10 @@ impl Ping {
         }
     }
 
-    /// Reads a frame of which it is known whether its key is there.
+    /// Reads a frame's own bytes, where it is known whether its key is `there`, or tells how many bytes are left where no spelling goes on. After a fault the reader's
+    /// place is not stated.
     #[tactic(auto, unfolding(crate::specs::Ping::ping_at))]
-    pub(crate) fn read(alloc: Global, from: &mut Reader, there: bool) -> Result<Ping, PartFault>
+    pub fn read(alloc: Global, from: &mut Reader, there: bool) -> Result<Ping, PartFault>
         ensures { Gives (λ x. x) result from.old from.new (ping_at there from.old.left) }
     {
         let _machine = read_between(from, 2, 3)?;
@@ -283,8 +284,8 @@ impl Ping {
         })
     }
 
-    /// Writes the frame's own bytes.
-    pub(crate) fn write(&self, alloc: Global, out: &mut Writer) -> Result<(), AllocError>
+    /// Writes the frame's own bytes: the machine, the place, and the fields in their order. After want of memory a front of them may stand in `out`.
+    pub fn write(&self, alloc: Global, out: &mut Writer) -> Result<(), AllocError>
         requires { IsPing self.now }
         ensures { Writes (content self.now) result out.old out.new }
     {

@@ -75,10 +75,7 @@ impl Spelt for ShippedFlow {
     }
 }
 
-fn make_ping(
-    args: &ByteList,
-    place: &Place,
-) -> Result<(ShippedFlow, Act<ShippedFlow>), MakeFault>
+fn make_ping(args: &ByteList, place: &Place) -> Result<(ShippedFlow, Act<ShippedFlow>), MakeFault>
     ensures { GivesMade result (made_by (seen of_ping) (ping_words.made args.now place.entry.now)) }
 {
     match Ping::make(args, place) {
@@ -87,10 +84,7 @@ fn make_ping(
     }
 }
 
-fn make_probe(
-    args: &ByteList,
-    place: &Place,
-) -> Result<(ShippedFlow, Act<ShippedFlow>), MakeFault>
+fn make_probe(args: &ByteList, place: &Place) -> Result<(ShippedFlow, Act<ShippedFlow>), MakeFault>
     ensures { GivesMade result (made_by (seen of_probe) (probe_words.made args.now place.entry.now)) }
 {
     match Probe::make(args, place) {

@@ -3,7 +3,7 @@
 ghost use Rattle.std.specs.Prelude.{◌≡◌, ◌^◌, ◌==◌, length, Some, None, if◌then◌else◌};
 ghost use Rattle.std.specs.Int.{from_be_bytes, w16, w32};
 ghost use Rattle.net_base.specs.Parts.{Gives};
-ghost use Rattle.shipped_flows.specs.Parts.{word_below, sized, is_peer, flagged_at};
+ghost use Rattle.shipped_flows.specs.Shared.{word_below, sized, is_peer, flagged_at};
 
 use flow_machine::Place;
 use net_base::{PartFault, Reader, Spelt, number, read_between};
