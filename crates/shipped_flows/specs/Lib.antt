@@ -11,3 +11,5 @@ pub mod EchoLaws
 pub mod Shipped
 pub mod CountLaws
 pub mod ShippedLaws
+pub mod Meeting
+pub mod MeetingLaws

@@ -264,6 +264,7 @@ pub record Begun {F : Type 0} (args : List ℕ) (at : Place) (g : Ping × Act F)
   pub count : ℕ
   pub spelt : party_and 4 w32 args ≡ Some (to, count)
   pub peer : is_peer to at ≡ true
+  pub some : 1 ≤ count
   pub few : count ≤ 1000
   pub is : begins to count ≡ g
 
@@ -272,7 +273,8 @@ made_of_begins args None at g spelt e = absurd cc
 made_of_begins {F} args (Some p) at g spelt e =
     let given = given_one (is_peer p.0 at && (nat_le 1 p.1 && nat_le p.1 1000)) (begins p.0 p.1) g make.BadArgs e in
     let both = and_parts (is_peer p.0 at) (nat_le 1 p.1 && nat_le p.1 1000) given.0 in
-    record { to = p.0; count = p.1; spelt = spelt; peer = both.0; few = leb-true p.1 1000 (and_parts (nat_le 1 p.1) (nat_le p.1 1000) both.1).1; is = given.1 }
+    let range = and_parts (nat_le 1 p.1) (nat_le p.1 1000) both.1 in
+    record { to = p.0; count = p.1; spelt = spelt; peer = both.0; some = leb-true 1 p.1 range.0; few = leb-true p.1 1000 range.1; is = given.1 }
 
 -- what is made begins so
 pub made_begins : {F : Type 0} (args : List ℕ) (at : Place) (g : Ping × Act F) → made args at ≡ Ok g → Begun args at g

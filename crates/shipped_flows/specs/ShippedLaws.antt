@@ -200,7 +200,7 @@ by_test true r s x e = inl (refl, e)
 by_test false r s x e = inr (refl, e)
 
 -- what the set makes a machine makes
-of_made : {A B : Type 0} (see : A → B) (r : Result A MakeFault) (g : B) → made_by see r ≡ Ok g → (a : A) × ((r ≡ Ok a) × (see a ≡ g))
+pub of_made : {A B : Type 0} (see : A → B) (r : Result A MakeFault) (g : B) → made_by see r ≡ Ok g → (a : A) × ((r ≡ Ok a) × (see a ≡ g))
 of_made see (Ok a) g e = (a, (refl, cc))
 of_made see (Err fault) g e = absurd cc
 
@@ -227,7 +227,7 @@ of_begun see (Some a) g e = (a, (refl, cc))
 of_begun see None g e = absurd cc
 
 -- what holds of all that an echo begins holds of what the set begins
-begun_holds : (P : ShippedFlow × Act ShippedFlow → Type 0) (class : ℕ) (k : Key) (at : Place) (g : ShippedFlow × Act ShippedFlow)
+pub begun_holds : (P : ShippedFlow × Act ShippedFlow → Type 0) (class : ℕ) (k : Key) (at : Place) (g : ShippedFlow × Act ShippedFlow)
     → ((q : Echo × Act ShippedFlow) → class ≡ 2 → echo.begins k ≡ q → P (seen of_echo q))
     → begun class k at ≡ Some g → P g
 unfolding begun

@@ -6,6 +6,7 @@
 
 mod count;
 mod echo;
+mod meeting;
 mod ping;
 mod probe;
 mod set;
@@ -14,6 +15,7 @@ mod shared;
 mod tests;
 
 pub use echo::{Echo, EchoPhase};
+pub use meeting::a_ping_returns_its_count;
 pub use ping::{Ping, PingPhase};
 pub use probe::{Probe, ProbePhase};
 pub use set::ShippedFlow;
