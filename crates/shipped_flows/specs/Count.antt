@@ -1,5 +1,5 @@
 -- The counting flow's frames among those of the set: their own bytes, and their acts.
-use Rattle.std.specs.Prelude.{◌≡◌, ℕ, zero, suc, ◌<◌, ◌^◌, List, [], ◌∷◌, ◌++◌, length, Result, refl}
+use Rattle.std.specs.Prelude.{◌≡◌, ℕ, zero, suc, ◌<◌, List, ◌∷◌, ◌++◌, length, Result, refl}
 use Rattle.std.proofs.Common.{arith, ap}
 use Rattle.std.specs.Int.{w32}
 use Rattle.net_base.specs.Reading.{number}
@@ -8,7 +8,6 @@ use Rattle.net_base.specs.Laws.{Laws}
 use Rattle.net_base.specs.Kinds.{between_at, between_laws}
 use Rattle.net_base.specs.Combining.{mapped_at, mapped_laws, pair_at, pair_laws}
 use Rattle.net_base.specs.Fields.{below_laws, u32_laws}
-use Rattle.flow_machine.specs.declared.acts.Act.{Act}
 use Rattle.flow_machine.specs.declared.counter.Counter.{Counter}
 use Rattle.flow_machine.specs.declared.counter.Phase.{Phase}
 use Rattle.flow_machine.specs.declared.counter.Phase.TheVariants.{Sleeping, Returning, Failing}

@@ -1,7 +1,6 @@
 -- The laws of counting frames among those of the set, from the counting flow's own.
-use Rattle.std.specs.Prelude.{◌≡◌, ℕ, zero, suc, ◌+◌, ◌-◌, ◌≤◌, ◌<◌, List, Bool, true, false, refl, [], Ok, Result}
-use Rattle.std.specs.List.{list_all}
-use Rattle.std.proofs.Common.{arith, ap, subst, sym, ◌∙◌}
+use Rattle.std.specs.Prelude.{◌≡◌, ℕ, zero, suc, ◌+◌, ◌-◌, ◌≤◌, Bool, true, false, refl, []}
+use Rattle.std.proofs.Common.{◌∙◌}
 use Rattle.flow_machine.specs.declared.acts.Act.{Act}
 use Rattle.flow_machine.specs.declared.acts.Act.TheVariants as act
 use Rattle.flow_machine.specs.declared.acts.Place.{Place}
@@ -17,7 +16,6 @@ use Rattle.flow_machine.specs.Tags.{act_tags}
 use Rattle.flow_machine.specs.Counter.{next, next_at, woken, with_left, IsCounter}
 use Rattle.flow_machine.specs.Counter as counter
 use Rattle.flow_machine.specs.CounterLaws as counter_law
-use Rattle.shipped_flows.specs.declared.set.ShippedFlow.{ShippedFlow}
 use Rattle.shipped_flows.specs.Shipped as set
 use Rattle.shipped_flows.specs.Shipped.{of_count, seen_count, IsShipped}
 

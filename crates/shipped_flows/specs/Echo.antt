@@ -1,5 +1,5 @@
 -- The echo flow, which answers an Init of class 2: it sends each number that it receives back, greater by one, up to 1,000 times, until the other side ends.
-use Rattle.std.specs.Prelude.{◌<◌, ◌^◌, ℕ, zero, suc, ◌+◌, ◌*◌, ◌-◌, min, List, [], ◌∷◌, ◌++◌, Option, Some, None, Result, Bool, true, false, nat_le, ◌==◌, if◌then◌else◌}
+use Rattle.std.specs.Prelude.{◌<◌, ◌^◌, ℕ, zero, suc, ◌+◌, ◌*◌, ◌-◌, min, List, ◌∷◌, ◌++◌, Option, Some, None, Result, Bool, true, false, nat_le, ◌==◌, if◌then◌else◌}
 use Rattle.std.specs.Int.{w32, w64}
 use Rattle.net_base.specs.declared.names.Key.{Key}
 use Rattle.net_base.specs.Reading.{number}

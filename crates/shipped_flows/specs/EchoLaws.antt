@@ -1,5 +1,5 @@
 -- The laws of echo frames, proved.
-use Rattle.std.specs.Prelude.{◌≡◌, ℕ, zero, suc, ◌+◌, ◌*◌, ◌-◌, ◌<◌, ◌≤◌, ◌^◌, ◌==◌, not, nat_le, min, List, [], ◌∷◌, ◌++◌, length, Bool, true, false, refl, if◌then◌else◌, Some, None, Option}
+use Rattle.std.specs.Prelude.{◌≡◌, ℕ, zero, suc, ◌+◌, ◌*◌, ◌-◌, ◌<◌, ◌^◌, ◌==◌, not, nat_le, List, ◌∷◌, ◌++◌, length, Bool, true, false, refl, if◌then◌else◌, Some, None}
 use Rattle.std.proofs.Common.{arith, ap, subst}
 use Rattle.std.proofs.lemmas.Bool.{eqb-true, leb-true}
 use Rattle.std.specs.Int.{w32, w64}
@@ -17,13 +17,12 @@ use Rattle.flow_machine.specs.declared.acts.Resumed.{Resumed}
 use Rattle.flow_machine.specs.declared.acts.Resumed.TheVariants as resumed
 use Rattle.flow_machine.specs.Machine.{Machine}
 use Rattle.flow_machine.specs.Limits.{IsResumed}
-use Rattle.flow_machine.specs.Unnamed.{unnamed_code}
 use Rattle.shipped_flows.specs.declared.echo.Echo.{Echo}
 use Rattle.shipped_flows.specs.declared.echo.EchoPhase.{EchoPhase}
 use Rattle.shipped_flows.specs.declared.echo.EchoPhase.TheVariants.{Receiving, Sending, Returning, Failing}
 use Rattle.shipped_flows.specs.Lifting.{Weighs, SameOver, IsFair, HasFailed, AreLimited, IsBare}
 use Rattle.shipped_flows.specs.SharedLaws.{code_small}
-use Rattle.shipped_flows.specs.Echo.{begins, begun, failed, one_more, answers, heard, received, sent, next, next_at, weight, weight_at, over, over_at, place_of, phase_of, content, IsEcho, echo_of, echo_at}
+use Rattle.shipped_flows.specs.Echo.{begins, begun, one_more, answers, received, sent, next, next_at, weight, weight_at, over, over_at, place_of, phase_of, content, IsEcho, echo_of, echo_at}
 
 -- ---- bytes
 

@@ -1,5 +1,5 @@
 -- A ping and the echo that it initiates: the numbers that they hand to and fro in their session.
-use Rattle.std.specs.Prelude.{◌≡◌, ◌<◌, ◌^◌, ℕ, zero, suc, List, ◌∷◌, Option, Some, None, Ok}
+use Rattle.std.specs.Prelude.{◌≡◌, ◌<◌, ◌^◌, ℕ, zero, suc, ◌∷◌, Option, Some, None, Ok}
 use Rattle.std.specs.Int.{w32}
 use Rattle.net_base.specs.declared.names.Key.{Key}
 use Rattle.net_base.specs.Reading.{number}

@@ -1,5 +1,5 @@
 -- That a ping of an echo returns its count, proved.
-use Rattle.std.specs.Prelude.{◌≡◌, ℕ, zero, suc, ◌+◌, ◌-◌, ◌<◌, ◌≤◌, ◌^◌, nat_le, min, length, List, [], ◌∷◌, Bool, true, false, Option, Some, None, Ok, refl}
+use Rattle.std.specs.Prelude.{◌≡◌, ℕ, zero, suc, ◌+◌, ◌-◌, ◌<◌, ◌≤◌, ◌^◌, min, List, ◌∷◌, Some, Ok, refl}
 use Rattle.std.proofs.Common.{arith, ap, subst, sym, ◌∙◌}
 use Rattle.std.proofs.lemmas.Bool.{le-leb}
 use Rattle.std.specs.Int.{w32, from_be_bytes, to_be_bytes}
@@ -17,7 +17,7 @@ use Rattle.shipped_flows.specs.declared.ping.PingPhase.TheVariants as ping_phase
 use Rattle.shipped_flows.specs.declared.echo.Echo.{Echo}
 use Rattle.shipped_flows.specs.declared.echo.EchoPhase.TheVariants as echo_phase
 use Rattle.shipped_flows.specs.declared.set.ShippedFlow.{ShippedFlow}
-use Rattle.shipped_flows.specs.Shared.{sized, party_and}
+use Rattle.shipped_flows.specs.Shared.{party_and}
 use Rattle.shipped_flows.specs.Lifting.{seen}
 use Rattle.shipped_flows.specs.Ping as ping
 use Rattle.shipped_flows.specs.PingLaws as ping_law
@@ -25,7 +25,7 @@ use Rattle.shipped_flows.specs.Echo as echo
 use Rattle.shipped_flows.specs.Shipped as set
 use Rattle.shipped_flows.specs.Shipped.{of_ping, of_echo, next, machine}
 use Rattle.shipped_flows.specs.ShippedLaws.{of_made, begun_holds}
-use Rattle.shipped_flows.specs.Meeting.{sends_on, returns_or, talk, PingReturnsItsCount}
+use Rattle.shipped_flows.specs.Meeting.{talk, PingReturnsItsCount}
 
 -- a ping that receives
 abbrev waiting : Party → Key → ℕ → ℕ → ShippedFlow

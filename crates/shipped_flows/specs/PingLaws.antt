@@ -1,7 +1,7 @@
 -- The laws of ping frames, proved.
-use Rattle.std.specs.Prelude.{◌≡◌, ℕ, zero, suc, ◌+◌, ◌*◌, ◌-◌, ◌<◌, ◌≤◌, ◌^◌, ◌==◌, ◌&&◌, not, nat_le, List, [], ◌∷◌, ◌++◌, length, Bool, true, false, refl, if◌then◌else◌, Some, None, Option, Result, Ok, Err, IfOk, IfSome}
+use Rattle.std.specs.Prelude.{◌≡◌, ℕ, zero, suc, ◌+◌, ◌*◌, ◌-◌, ◌<◌, ◌≤◌, ◌^◌, ◌&&◌, not, nat_le, List, [], ◌∷◌, ◌++◌, length, Bool, true, false, refl, Some, None, Option, Ok, IfOk, IfSome}
 use Rattle.std.proofs.Common.{arith, ap, subst}
-use Rattle.std.proofs.lemmas.Bool.{eqb-true, and_parts, leb-true, ltb-true}
+use Rattle.std.proofs.lemmas.Bool.{and_parts, leb-true}
 use Rattle.std.specs.Int.{w32, w64}
 use Rattle.net_base.specs.declared.names.Key.{Key}
 use Rattle.net_base.specs.declared.names.Tag.{Tag}
@@ -21,11 +21,10 @@ use Rattle.ledger_types.specs.declared.value.Value.TheVariants as value
 use Rattle.flow_machine.specs.declared.flow_set.MakeFault.TheVariants as make
 use Rattle.flow_machine.specs.Machine.{Machine}
 use Rattle.flow_machine.specs.Limits.{IsResumed, IsPlace}
-use Rattle.flow_machine.specs.Unnamed.{unnamed_code}
 use Rattle.shipped_flows.specs.declared.ping.Ping.{Ping}
 use Rattle.shipped_flows.specs.declared.ping.PingPhase.{PingPhase}
 use Rattle.shipped_flows.specs.declared.ping.PingPhase.TheVariants.{Opening, Receiving, Sending, Returning, Failing}
-use Rattle.shipped_flows.specs.Shared.{word_below, sized, beside, party_and, is_peer, is_there, IsFlagged, flagged_laws}
+use Rattle.shipped_flows.specs.Shared.{word_below, party_and, is_peer, is_there, IsFlagged, flagged_laws}
 use Rattle.shipped_flows.specs.Lifting.{Weighs, SameOver, IsFair, HasFailed, AreLimited, IsBare}
 use Rattle.shipped_flows.specs.SharedLaws.{code_small, peer_small, party_long, given_one}
 use Rattle.shipped_flows.specs.Ping.{worded, spelt_args, begins, made, made_of, failed, receives, sends, counts, opened, received, sent, next, next_at, weight, weight_at, over, over_at, place_of, phase_of, content, size_at, size, IsPing, ping_of, ping_at}

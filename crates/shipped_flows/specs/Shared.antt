@@ -1,5 +1,5 @@
 -- What the flows share: numbers in words and in arguments, peers, and fields that may be absent.
-use Rattle.std.specs.Prelude.{◌≡◌, ◌<◌, ◌^◌, ℕ, Bool, true, false, nat_lt, ◌==◌, ◌&&◌, not, if◌then◌else◌, List, [], ◌∷◌, ◌++◌, length, Option, Some, None, Result, refl, IfSome}
+use Rattle.std.specs.Prelude.{◌≡◌, ℕ, Bool, true, false, nat_lt, ◌==◌, ◌&&◌, not, if◌then◌else◌, List, [], ◌∷◌, length, Option, Some, None, Result, refl, IfSome}
 use Rattle.std.proofs.Common.{ap, arith}
 use Rattle.std.specs.Int.{Width, from_be_bytes}
 use Rattle.net_base.specs.Numbers.{number_of}

@@ -1,5 +1,5 @@
 -- Lemmas that the laws of all machines share.
-use Rattle.std.specs.Prelude.{◌≡◌, ℕ, suc, ◌+◌, ◌<◌, ◌≤◌, ◌^◌, ◌==◌, ◌&&◌, not, nat_lt, List, [], ◌∷◌, length, Bool, true, false, refl, if◌then◌else◌, Some, None, Option, Result, Ok, Err}
+use Rattle.std.specs.Prelude.{◌≡◌, ℕ, suc, ◌+◌, ◌<◌, ◌^◌, ◌==◌, not, nat_lt, List, [], ◌∷◌, length, Bool, true, false, refl, if◌then◌else◌, Some, None, Option, Result, Ok, Err}
 use Rattle.std.proofs.Common.{arith, ap}
 use Rattle.std.proofs.lemmas.Bool.{eqb-true, and_parts, ltb-true}
 use Rattle.std.specs.Int.{Width, w16, from_be_bytes}

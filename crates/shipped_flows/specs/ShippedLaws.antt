@@ -1,24 +1,22 @@
 -- The laws of the flow set, proved machine by machine.
-use Rattle.std.specs.Prelude.{◌≡◌, ℕ, ◌+◌, ◌<◌, ◌≤◌, ◌^◌, ◌==◌, List, [], ◌∷◌, ◌++◌, length, Bool, true, false, refl, if◌then◌else◌, Some, None, Option, Result, Ok, Err, IfOk, IfSome, codes, nat_eq}
+use Rattle.std.specs.Prelude.{◌≡◌, ℕ, ◌+◌, ◌≤◌, ◌==◌, List, [], ◌∷◌, ◌++◌, length, Bool, true, false, refl, if◌then◌else◌, Some, None, Option, Result, Ok, Err, IfOk, codes, nat_eq}
 use Rattle.std.specs.List.{list_all, list_any}
 use Rattle.std.proofs.Common.{◌⊎◌, inl, inr, arith, ap, subst, sym, ◌∙◌}
 use Rattle.std.specs.Int.{w16}
 use Rattle.std.specs.Str.{bytes_eq}
 use Rattle.net_base.specs.declared.names.Key.{Key}
-use Rattle.net_base.specs.Reading.{number, IsBytes}
-use Rattle.net_base.specs.Forms.{bytes16}
+use Rattle.net_base.specs.Reading.{number}
 use Rattle.net_base.specs.Laws.{Laws}
 use Rattle.net_base.specs.Combining.{mapped_at, mapped_laws, pair_laws}
 use Rattle.net_base.specs.Kinds.{between_laws, cases_laws, kinds_of}
-use Rattle.net_base.specs.Names.{IsKey}
 use Rattle.flow_machine.specs.declared.acts.Act.{Act}
 use Rattle.flow_machine.specs.declared.acts.Place.{Place}
 use Rattle.flow_machine.specs.declared.acts.Resumed.{Resumed}
 use Rattle.flow_machine.specs.declared.flow_set.MakeFault.{MakeFault}
 use Rattle.flow_machine.specs.declared.counter.Counter.{Counter}
-use Rattle.flow_machine.specs.Flows.{Falls, LoadHolds, is_fair, OversHold, is_fail, OverFails, ArgsAreShort, SpellsContent, AreWithin, KeepsLimits, cost}
+use Rattle.flow_machine.specs.Flows.{Falls, LoadHolds, is_fair, OversHold, OverFails, ArgsAreShort, SpellsContent, AreWithin, KeepsLimits, cost}
 use Rattle.flow_machine.specs.Limits.{IsResumed, IsPlace}
-use Rattle.flow_machine.specs.Tags.{KeepsTags, BeginsBare, AreBare, act_tags, resumed_tags}
+use Rattle.flow_machine.specs.Tags.{KeepsTags, BeginsBare, AreBare, act_tags}
 use Rattle.flow_machine.specs.Counter as counter
 use Rattle.flow_machine.specs.CounterLaws as counter_law
 use Rattle.shipped_flows.specs.declared.ping.Ping.{Ping}
@@ -26,8 +24,7 @@ use Rattle.shipped_flows.specs.declared.probe.Probe.{Probe}
 use Rattle.shipped_flows.specs.declared.echo.Echo.{Echo}
 use Rattle.shipped_flows.specs.declared.set.ShippedFlow.{ShippedFlow}
 use Rattle.shipped_flows.specs.declared.set.ShippedFlow.TheVariants as flow
-use Rattle.shipped_flows.specs.Shared.{is_there, IsFlagged, party_and}
-use Rattle.shipped_flows.specs.SharedLaws.{party_long}
+use Rattle.shipped_flows.specs.Shared.{is_there}
 use Rattle.shipped_flows.specs.Lifting.{seen}
 use Rattle.shipped_flows.specs.Count.{count_laws, count_long}
 use Rattle.shipped_flows.specs.CountLaws as count_law
@@ -37,7 +34,7 @@ use Rattle.shipped_flows.specs.Probe as probe
 use Rattle.shipped_flows.specs.ProbeLaws as probe_law
 use Rattle.shipped_flows.specs.Echo as echo
 use Rattle.shipped_flows.specs.EchoLaws as echo_law
-use Rattle.shipped_flows.specs.Shipped.{of_count, of_ping, of_probe, of_echo, seen_count, worded, made, made_by, begun, begun_by, next, weight, over, load, content, size, shipped, IsShipped, arms, behind_high, shipped_at, machine}
+use Rattle.shipped_flows.specs.Shipped.{of_count, of_ping, of_probe, of_echo, seen_count, worded, made, made_by, begun, begun_by, next, weight, load, content, size, shipped, IsShipped, arms, behind_high, shipped_at, machine}
 
 -- ---- bytes
 
