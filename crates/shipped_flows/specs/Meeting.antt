@@ -2,6 +2,7 @@
 use Rattle.std.specs.Prelude.{◌≡◌, ◌<◌, ◌^◌, ℕ, zero, suc, ◌∷◌, Option, Some, None, Ok}
 use Rattle.std.specs.Int.{w32}
 use Rattle.net_base.specs.declared.names.Key.{Key}
+use Rattle.net_base.specs.declared.values.Party.{Party}
 use Rattle.net_base.specs.Reading.{number}
 use Rattle.ledger_types.specs.declared.value.Value.TheVariants as value
 use Rattle.flow_machine.specs.declared.acts.Act.{Act}
@@ -29,8 +30,8 @@ talk m p q (suc n) x first second =
     returns_or (m.next first (resumed.Got (value.Number y)) p).1 (λ z.
     talk m p q n z (m.next (m.next first (resumed.Got (value.Number y)) p).0 resumed.Sent p).0 (m.next (m.next second (resumed.Got (value.Number x)) q).0 resumed.Sent q).0))
 
--- A ping that is made with a count, once its session is open, and the flow that its Init begins, come in as many turns to the ping's return of that count.
+-- A ping that is made with a count opens a session with a number. Once the session is open, the ping and the flow that its Init begins come, from that number on, in as many turns to the ping's return of the count.
 abbrev pub PingReturnsItsCount : {F : Type 0} → Machine F → Type 0
 PingReturnsItsCount {F} m =
-    (to count : ℕ) (p q : Place) (k : Key) (ping echo : F × Act F) → count < 2 ^ 32 → m.made 2 (to ∷ number w32 count) p ≡ Ok ping → m.begun 2 k q ≡ Some echo
-    → talk m p q count 0 (m.next ping.0 (resumed.Opened k) p).0 echo.0 ≡ Some count
+    (to count : ℕ) (p q : Place) (k : Key) (peer : Party) (class x : ℕ) (ping echo : F × Act F) → count < 2 ^ 32 → m.made 2 (to ∷ number w32 count) p ≡ Ok ping → ping.1 ≡ act.Open peer class (value.Number x) → m.begun class k q ≡ Some echo
+    → talk m p q count x (m.next ping.0 (resumed.Opened k) p).0 echo.0 ≡ Some count

@@ -112,9 +112,18 @@ count_is to count a n small e =
     let pair : (to, from_be_bytes w32 (to_be_bytes w32 count)) ≡ (a, n) = some_is _ _ e in
     sym (wide32.again count small) ∙ ap (λ (z : ℕ × ℕ). z.1) pair
 
--- a ping of an echo returns its count
-pub ping_returns_its_count : PingReturnsItsCount machine
-ping_returns_its_count to count p q k first second small made begun =
+-- the act that opens a session with a number
+abbrev opening : Party → ℕ → ℕ → Act ShippedFlow
+opening to class x = act.Open to class (value.Number x)
+
+-- what a ping opens is a session of class 2, with 0
+opens : (to peer : Party) (class x : ℕ) → opening to 2 0 ≡ opening peer class x → (2 ≡ class) × (0 ≡ x)
+opens to peer class x e = (cc, cc)
+
+-- a ping of an echo returns its count, from 0
+from_zero : (to count : ℕ) (p q : Place) (k : Key) (first second : ShippedFlow × Act ShippedFlow) → count < 2 ^ 32 → set.made 2 (to ∷ number w32 count) p ≡ Ok first → set.begun 2 k q ≡ Some second
+    → talk machine p q count 0 (next first.0 (resumed.Opened k) p).0 second.0 ≡ Some count
+from_zero to count p q k first second small made begun =
     let m = ping_made (to ∷ number w32 count) p first made in
     let b = m.1.0 in
     let same : count ≡ b.count = count_is to count b.to b.count small b.spelt in
@@ -125,3 +134,12 @@ ping_returns_its_count to count p q k first second small made begun =
     begun_holds (λ h. talk machine p q count 0 (next first.0 (resumed.Opened k) p).0 h.0 ≡ Some count) 2 k q second
     (λ r two is. subst (λ (e : Echo × Act ShippedFlow). talk machine p q count 0 (next first.0 (resumed.Opened k) p).0 (of_echo e.0) ≡ Some count) is opened)
     begun
+
+-- a ping of an echo returns its count
+pub ping_returns_its_count : PingReturnsItsCount machine
+ping_returns_its_count to count p q k peer class x first second small made opened begun =
+    let m = ping_made (to ∷ number w32 count) p first made in
+    let first_act : first.1 ≡ act.Open (record { 0 = m.1.0.to }) 2 (value.Number 0) = ap (λ (g : ShippedFlow × Act ShippedFlow). g.1) (sym m.1.1) ∙ ap (λ (g : Ping × Act ShippedFlow). g.1) (sym m.1.0.is) in
+    let is = opens (record { 0 = m.1.0.to }) peer class x (sym first_act ∙ opened) in
+    let known : set.begun 2 k q ≡ Some second = subst (λ (c : ℕ). set.begun c k q ≡ Some second) (sym is.0) begun in
+    subst (λ (n : ℕ). talk machine p q count n (next first.0 (resumed.Opened k) p).0 second.0 ≡ Some count) is.1 (from_zero to count p q k first second small made known)
