@@ -1,9 +1,7 @@
 //! A ping and the echo that it initiates.
 
-ghost use Rattle.flow_machine.specs.Machine.{Machine};
 ghost use Rattle.shipped_flows.specs.Shipped.{machine};
 ghost use Rattle.shipped_flows.specs.Meeting.{PingReturnsItsCount};
-ghost use Rattle.shipped_flows.specs.MeetingLaws.{ping_returns_its_count};
 
 /// The law that a ping of K, once its session is open, and the echo that its Init begins there hand numbers to and fro until the ping returns K. It does
 /// nothing when it runs.
