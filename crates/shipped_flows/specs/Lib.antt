@@ -1,0 +1,15 @@
+pub mod Shared
+pub mod SharedLaws
+pub mod Lifting
+pub mod Count
+pub mod Ping
+pub mod PingLaws
+pub mod Probe
+pub mod ProbeLaws
+pub mod Echo
+pub mod EchoLaws
+pub mod Shipped
+pub mod CountLaws
+pub mod ShippedLaws
+pub mod Meeting
+pub mod MeetingLaws
