@@ -33,7 +33,7 @@ lookup_more {K} {V} test (e ∷ es) p x = by (test e.0) (lookup_more test es p x
     by false rest = rest
 
 -- numbers that are equal one up
-same_suc : (a b : ℕ) → nat_eq (suc a) (suc b) ≡ nat_eq a b
+pub same_suc : (a b : ℕ) → nat_eq (suc a) (suc b) ≡ nat_eq a b
 same_suc a b = by (nat_eq a b) refl
   where
     by : (t : Bool) → nat_eq a b ≡ t → nat_eq (suc a) (suc b) ≡ t

@@ -1,7 +1,12 @@
 -- What always holds of a table's parts is kept.
-use Rattle.std.proofs.Common.{◌≡◌, ℕ, ◌+◌, ◌<◌, Bool, true, false, not, ◌||◌, List, [], ◌∷◌, ◌++◌, Option, Some, None, refl, sym, ◌∙◌, ap, subst, cond, length, filter, arith, nat_lt}
+use Rattle.std.proofs.Common.{◌≡◌, ℕ, ◌+◌, ◌<◌, Bool, true, false, not, ◌||◌, List, [], ◌∷◌, ◌++◌, Option, Some, None, refl, sym, ◌∙◌, ap, subst, cond, length, filter, arith, is_some, nat_lt}
 use Rattle.std.proofs.lemmas.Bool.{and_parts, and_from, ltb-true, lt-ltb}
-use Rattle.std.specs.List.{list_all}
+use Rattle.std.proofs.lemmas.Cmp.{nat_eq_equiv, on_equiv, and_equiv}
+use Rattle.std.proofs.lemmas.List.{map-append}
+use Rattle.std.proofs.lemmas.Map.Keys.{IsDistinct-push}
+use Rattle.std.proofs.lemmas.Map.Made.{is_some-lookup}
+use Rattle.std.specs.Cmp.{IsEquivalence}
+use Rattle.std.specs.List.{IsDistinct, list_all}
 use Rattle.std.specs.Map.{lookup, set_value, keys_of}
 use Rattle.net_base.specs.declared.names.Key.{Key}
 use Rattle.net_base.specs.declared.values.Party.{Party}
@@ -16,8 +21,12 @@ use Rattle.session_table.proofs.Found.{count_is}
 use Rattle.session_table.proofs.Written.{map_set}
 use Rattle.session_table.proofs.Items.{numbered_more, counted_more, counted_same, counted_begun}
 
+-- no two keys are equal that aren't one
+pub key_laws : IsEquivalence key_eq
+key_laws = and_equiv (on_equiv (λ (k : Key). k.initiator.0) nat_eq_equiv) (on_equiv (λ (k : Key). k.number) nat_eq_equiv)
+
 -- the keys stay where one session stands otherwise
-keys_set : (k : Key) (lines : List (Key × Standing)) (v w : Standing) → Some v ≡ lookup (key_eq k) lines → keys_of (set_value (key_eq k) lines w) ≡ keys_of lines
+pub keys_set : (k : Key) (lines : List (Key × Standing)) (v w : Standing) → Some v ≡ lookup (key_eq k) lines → keys_of (set_value (key_eq k) lines w) ≡ keys_of lines
 keys_set k lines v w there = map_set (λ e. e.0) k lines v w (sym there) (λ q. refl)
 
 -- another item arrived
@@ -33,6 +42,7 @@ kept_came me opened lines after sent came k v x kept there rewrites =
       came_counted = counted_more (λ s. s.came) lines came k v.came x v w there refl kept.came_counted;
       opened_is = kept.opened_is ∙ ap (λ (l : List Key). length (filter (is_opened_by me) l)) (sym keys);
       below = ap (list_all (is_below me opened)) keys ∙ kept.below;
+      unique = subst (IsDistinct key_eq) (sym keys) kept.unique;
     })
 
 -- another item was sent
@@ -48,6 +58,7 @@ kept_sent me opened lines after sent came k v n x kept there at rewrites =
       came_counted = counted_same (λ s. s.came) lines came k v w there refl kept.came_counted;
       opened_is = kept.opened_is ∙ ap (λ (l : List Key). length (filter (is_opened_by me) l)) (sym keys);
       below = ap (list_all (is_below me opened)) keys ∙ kept.below;
+      unique = subst (IsDistinct key_eq) (sym keys) kept.unique;
     })
 
 -- neither an item arrived nor was one sent
@@ -67,6 +78,7 @@ kept_same me opened lines after sent came k change sends comes kept rewrites = b
           came_counted = counted_same (λ s. s.came) lines came k v w (sym is) (comes v) kept.came_counted;
           opened_is = kept.opened_is ∙ ap (λ (l : List Key). length (filter (is_opened_by me) l)) (sym keys);
           below = ap (list_all (is_below me opened)) keys ∙ kept.below;
+          unique = subst (IsDistinct key_eq) (sym keys) kept.unique;
         })
 
 -- how many were opened, with one session more
@@ -103,12 +115,13 @@ below_more me n m (e ∷ es) k w less own all =
 
 -- a session without items was made
 pub kept_begun : (me : Party) (opened : ℕ) (lines : List (Key × Standing)) (sent : List (Place × Posted)) (came : List (Place × Body)) (k : Key) (w : Standing)
-    → IsKept me opened lines sent came → (is_opened_by me k ≡ true → k.number ≡ opened) → w.sent ≡ 0 → w.came ≡ 0 → IsKept me (opened + cond (is_opened_by me k) 1 0) (lines ++ (k, w) ∷ []) sent came
-kept_begun me opened lines sent came k w kept next none_sent none_came = record {
+    → IsKept me opened lines sent came → lookup (key_eq k) lines ≡ None → (is_opened_by me k ≡ true → k.number ≡ opened) → w.sent ≡ 0 → w.came ≡ 0 → IsKept me (opened + cond (is_opened_by me k) 1 0) (lines ++ (k, w) ∷ []) sent came
+kept_begun me opened lines sent came k w kept free next none_sent none_came = record {
   sent_numbered = kept.sent_numbered;
   came_numbered = kept.came_numbered;
   sent_counted = counted_begun (λ s. s.sent) lines sent k w none_sent kept.sent_counted;
   came_counted = counted_begun (λ s. s.came) lines came k w none_came kept.came_counted;
   opened_is = ap (λ (n : ℕ). n + cond (is_opened_by me k) 1 0) kept.opened_is ∙ sym (opened_more me lines k w);
   below = below_more me opened (opened + cond (is_opened_by me k) 1 0) lines k w (omega arith) (λ own. let at = next own in rw own (omega (arith, at))) kept.below;
+  unique = subst (IsDistinct key_eq) (sym (map-append (λ (e : Key × Standing). e.0) lines ((k, w) ∷ []))) (IsDistinct-push key_laws (keys_of lines) k kept.unique (sym (is_some-lookup (key_eq k) lines) ∙ ap is_some free));
 }

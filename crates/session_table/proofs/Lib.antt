@@ -1,7 +1,9 @@
 pub mod First
 pub mod Found
+pub mod Gathering
 pub mod Items
 pub mod Keeping
+pub mod Listing
 pub mod Owning
 pub mod Raising
 pub mod Resending

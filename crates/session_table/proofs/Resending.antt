@@ -53,7 +53,7 @@ pub unacked_is : (me : Party) (s : Session) (n : ℕ) → items_from me s n (dro
 unacked_is me s n = sym (left_past me s n n 0 s.sent (omega arith))
 
 -- two values of each element, side by side
-zip_maps : {X A B : Type 0} (f : X → A) (g : X → B) (xs : List X) → zip (map f xs) (map g xs) ≡ map (λ x. (f x, g x)) xs
+pub zip_maps : {X A B : Type 0} (f : X → A) (g : X → B) (xs : List X) → zip (map f xs) (map g xs) ≡ map (λ x. (f x, g x)) xs
 zip_maps f g [] = refl
 zip_maps f g (x ∷ xs) = ap (λ l. (f x, g x) ∷ l) (zip_maps f g xs)
 

@@ -57,6 +57,7 @@ pub record IsKept (me : Party) (opened : ℕ) (lines : List (Key × Standing)) (
   pub came_counted : IsCounted (λ s. s.came) lines came
   pub opened_is : opened ≡ length (filter (is_opened_by me) (keys_of lines))
   pub below : list_all (is_below me opened) (keys_of lines) ≡ true
+  pub unique : IsDistinct key_eq (keys_of lines)
 
 -- how the session of the key stands is changed so, if there is one; no two sessions have one key
 pub record Rewrites (key : Key) (change : Standing → Standing) (old new : List (Key × Standing)) : Type 0 where

@@ -1,7 +1,7 @@
 -- What contracts see of a node's sessions, and what is asked of them.
 use Rattle.std.specs.Prelude.{ℕ, ◌==◌, ◌&&◌, ◌+◌, List, [], ◌∷◌, Option, Some, None, Bool, false, if◌then◌else◌, max, option_map, length, filter, slice_get, nat_le, zip, flat_map}
 use Rattle.std.specs.Borrow.{Bor}
-use Rattle.std.specs.Option.{option_and_then}
+use Rattle.std.specs.Option.{option_and_then, option_map_or}
 use Rattle.net_base.specs.declared.names.Key.{Key}
 use Rattle.net_base.specs.declared.values.Party.{Party}
 use Rattle.session_wire.specs.Sessions.{Session, Sent, key_eq, session_of, next_item}
@@ -67,3 +67,7 @@ unacked_in me p = filter (λ item. nat_le p.1 item.number) (items_from me p.0 0 
 -- the items that aren't acknowledged, by session in order of making and then by number
 abbrev pub unacked : Party → List Session → List ℕ → List Item
 unacked me sessions acked = flat_map (unacked_in me) (zip sessions acked)
+
+-- those of the session at this place
+abbrev pub unacked_at : Party → List Session → List ℕ → ℕ → List Item
+unacked_at me sessions acked place = option_map_or (unacked_in me) (slice_get (zip sessions acked) place) []

@@ -9,6 +9,7 @@ mod sessions;
 mod standing;
 #[cfg(test)]
 mod tests;
+mod waiting;
 
 pub use resent::{Item, ItemList};
 pub use sessions::Sessions;

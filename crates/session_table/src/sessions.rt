@@ -1,6 +1,6 @@
 //! The table of sessions.
 
-ghost use Rattle.std.specs.Prelude.{◌≡◌, ◌<◌, ◌≤◌, ◌+◌, ◌-◌, ◌^◌, ◌++◌, ◌∷◌, [], List, ℕ, length, drop, OnOk, IfOk, Option, Some, None, is_some, true, false, option_copied, option_map, slice_get, if◌then◌else◌, ◌==◌, nat_lt, zip};
+ghost use Rattle.std.specs.Prelude.{◌≡◌, ◌<◌, ◌≤◌, ◌+◌, ◌-◌, ◌^◌, ◌++◌, ◌∷◌, [], List, ℕ, length, drop, OnOk, IfOk, Option, Some, None, is_some, true, false, option_copied, option_map, if◌then◌else◌, ◌==◌, nat_lt};
 ghost use Rattle.std.specs.List.{list_all};
 ghost use Rattle.std.specs.Option.{option_and_then};
 ghost use Rattle.session_wire.specs.Sessions.{Session, session_of, changed_at, new_session, with_came, with_sent, with_taken, opened_on, sent_on, taken_on, next_item, first_item, ending_at};
@@ -8,12 +8,13 @@ ghost use Rattle.session_table.specs.Changes.{is_opened_by, opened_by, direction
 ghost use Rattle.session_wire.specs.declared.change.SessionChange.{SessionChange as Change};
 ghost use Rattle.net_base.specs.declared.names.Key.{Key as SessionKey};
 ghost use Rattle.session_wire.specs.declared.change.SentItem.{SentItem as Sending};
-ghost use Rattle.session_table.specs.Tables.{numbered, arrived_at, item_there, raised, of_flow, unacked, unacked_in, items_from};
+ghost use Rattle.session_table.specs.Tables.{numbered, arrived_at, item_there, raised, of_flow, unacked, unacked_at, items_from};
 
 use crate::lines::{count_came, count_sent, put_item, put_line, raise_acked, set_taken};
 use crate::owned::Owned;
 use crate::resent::{Item, ItemList};
 use crate::standing::{Place, Posted, Standing, ending_of, is_confirm, is_init};
+use crate::waiting::{Waiting, note_acked, note_sent};
 use indexmap::IndexMap;
 use net_base::{Key, ListOf, Party};
 use session_wire::{Body, SentItem, SentList, SessionChange};
@@ -31,6 +32,8 @@ pub struct Sessions {
     sent: IndexMap<Place, Posted>,
     came: IndexMap<Place, Body>,
     owned: Owned,
+    /// The sessions that have an item that isn't acknowledged.
+    waiting: Waiting,
 }
 
 impl Model for Sessions {
@@ -39,12 +42,13 @@ impl Model for Sessions {
     ghost use Rattle.session_table.specs.Tables.{Table};
     ghost use Rattle.session_table.specs.Owned.{owners};
     ghost use Rattle.session_table.specs.Kept.{session_at, owner_of, IsKept};
+    ghost use Rattle.session_table.specs.Waiting.{IsListed};
 
     ghost Value = { Table };
 
-    ghost view = { λ s. record { party = s.party; list = map (session_at s.sent.entries s.came.entries) s.lines.entries; acked = map (λ e. e.1.acked) s.lines.entries; room = min (spare s.lines) (min (spare s.sent) (min (spare s.came) s.owned.room)) } };
+    ghost view = { λ s. record { party = s.party; list = map (session_at s.sent.entries s.came.entries) s.lines.entries; acked = map (λ e. e.1.acked) s.lines.entries; room = min (spare s.lines) (min (spare s.sent) (min (spare s.came) (min s.owned.room s.waiting.room))) } };
 
-    ghost invariant = { λ s. IsKept s.party s.opened s.lines.entries s.sent.entries s.came.entries × (s.owned.list ≡ owners (map owner_of s.lines.entries)) };
+    ghost invariant = { λ s. IsKept s.party s.opened s.lines.entries s.sent.entries s.came.entries × (s.owned.list ≡ owners (map owner_of s.lines.entries)) × IsListed s.lines.entries s.waiting.list };
 }
 
 impl Sessions {
@@ -61,6 +65,7 @@ impl Sessions {
             sent: IndexMap::new(alloc),
             came: IndexMap::new(alloc),
             owned: Owned::new(alloc),
+            waiting: Waiting::new(alloc),
         }
     }
 
@@ -175,14 +180,16 @@ impl Sessions {
         None
     }
 
-    /// The items that were sent and aren't acknowledged, by session in order of making and then by number. It goes through the
-    /// sessions, and in each through the items that aren't acknowledged alone.
+    /// The items that were sent and aren't acknowledged, by session in order of making and then by number. Of n items it makes
+    /// n log n steps at most, however many sessions and acknowledged items there are: the sessions that have some are sorted,
+    /// and of each the items that aren't acknowledged are looked up.
     pub fn unacked(&self, alloc: Global) -> Result<ItemList, AllocError>
         ensures { IfOk result (λ list. list ≡ unacked self.now.party self.now.list self.now.acked) }
     {
+        let places = self.waiting.in_order(alloc)?;
         let mut items = Vec::new(alloc);
-        for place in 0..self.lines.len() {
-            self.add_unacked(alloc, place, &mut items)?;
+        for place in &places {
+            self.add_unacked(alloc, *place, &mut items)?;
         }
         Ok(ListOf::from_vec(items))
     }
@@ -195,7 +202,7 @@ impl Sessions {
         place: usize,
         items: &mut Vec<Item>,
     ) -> Result<(), AllocError>
-        ensures { OnOk result ((p : Session × ℕ) → slice_get (zip self.now.list self.now.acked) place ≡ Some p → items.new.items ≡ items.old.items ++ unacked_in self.now.party p) }
+        ensures { OnOk result (items.new.items ≡ items.old.items ++ unacked_at self.now.party self.now.list self.now.acked place) }
     {
         match self.lines.get_index(place) {
             Some((key, standing)) => {
@@ -253,7 +260,8 @@ impl Sessions {
         self.lines.reserve(items)?;
         self.sent.reserve(items)?;
         self.came.reserve(items)?;
-        self.owned.make_room(items)
+        self.owned.make_room(items)?;
+        self.waiting.make_room(items)
     }
 
     /// Makes a change, for which there is room: it takes no memory. First the item is accepted, then the session opened,
@@ -405,6 +413,7 @@ impl Sessions {
         ensures room { self.old.room ≤ self.new.room + 1 }
     {
         count_sent(&mut self.lines, &item.key);
+        note_sent(&self.lines, &mut self.waiting, &item.key);
         let place = Place {
             key: item.key,
             number: item.seq,
@@ -452,6 +461,7 @@ impl Sessions {
             return;
         }
         raise_acked(&mut self.lines, key, upto);
+        note_acked(&self.lines, &mut self.waiting, key);
     }
 }
 

@@ -1,6 +1,7 @@
-//! A table without sessions, and one whose only session was opened.
+//! A table without sessions, one whose only session was opened, and one of two sessions.
 
 mod opening;
+mod resending;
 
 use crate::Sessions;
 use net_base::{Key, Party};

@@ -1,7 +1,8 @@
 //! A session that is opened on a table that has none.
 
-ghost use Rattle.std.specs.Prelude.{◌≡◌, [], ◌∷◌, IfOk};
+ghost use Rattle.std.specs.Prelude.{◌≡◌, [], ◌∷◌, Some, IfOk, OnOk};
 ghost use Rattle.ledger_types.specs.declared.value.Value.TheVariants.{Number};
+ghost use Rattle.session_wire.specs.Sessions.{new_session, with_sent};
 ghost use Rattle.session_wire.specs.declared.body.Body.TheVariants.{Init};
 
 use crate::{Item, Sessions};
@@ -11,7 +12,7 @@ use session_wire::{Body, SentItem, SentList, SessionChange};
 use std::alloc::{AllocError, Global};
 use std::test::Fail;
 
-const KEY: Key = Key {
+pub(super) const KEY: Key = Key {
     initiator: Party(0),
     number: 0,
 };
@@ -34,9 +35,11 @@ fn first_item(alloc: Global) -> Result<SentList, AllocError>
 }
 
 /// Opens the session with party 1 for flow 5, at stamp 7.
-fn open_first(alloc: Global, sessions: &mut Sessions) -> Result<(), AllocError>
+pub(super) fn open_first(alloc: Global, sessions: &mut Sessions) -> Result<(), AllocError>
     requires party { sessions.old.party.0 ≡ 0 }
     requires list { sessions.old.list ≡ [] }
+    ensures party { sessions.new.party ≡ sessions.old.party }
+    ensures list { OnOk result (sessions.new.list ≡ with_sent (record { body = Init 2 (Number 9); stamp = 7 }) (new_session (record { initiator = record { 0 = 0 }; number = 0 }) (record { 0 = 1 }) (Some 5) []) ∷ []) }
 {
     let change = SessionChange {
         opened: Some((KEY, Party(1))),
@@ -80,7 +83,10 @@ fn unacked(alloc: Global, sessions: &Sessions) -> Result<(usize, bool), AllocErr
 }
 
 /// Acknowledges the session's item.
-fn acknowledge(sessions: &mut Sessions, direction: u8) {
+pub(super) fn acknowledge(sessions: &mut Sessions, direction: u8)
+    ensures party { sessions.new.party ≡ sessions.old.party }
+    ensures list { sessions.new.list ≡ sessions.old.list }
+{
     if sessions.sent(&KEY) == Some(1) {
         sessions.acknowledge(&KEY, direction, 1);
     }

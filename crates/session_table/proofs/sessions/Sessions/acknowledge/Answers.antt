@@ -8,6 +8,7 @@ use Rattle.session_table.proofs.Raising.{raised_apart, raised_after, listed_afte
 use Rattle.session_table.specs.Kept.{owner_of}
 use Rattle.session_table.specs.Owned.{owners}
 use Rattle.session_table.proofs.Owning.{map_rewritten}
+use Rattle.session_table.proofs.Listing.{listed_acked}
 use Rattle.session_table.proofs.sessions.Sessions.acknowledge.Goals as goal
 
 pub returns-then-direction-outgoing-clause-acked : goal.returns-then-direction-outgoing-clause-acked
@@ -21,6 +22,7 @@ pub invariant_of-self : goal.invariant_of-self
 invariant_of-self c = let s = c.self.inside in (
   kept_same s.party s.opened s.lines.entries c.raise_acked.new.lines.entries s.sent.entries s.came.entries c.args.key.now (acked_to c.args.upto) (λ v. refl) (λ v. refl) c.self.invariant.0 c.raise_acked.ensures.lines,
   c.self.invariant.1 ∙ sym (ap owners (map_rewritten owner_of c.args.key.now (acked_to c.args.upto) s.lines.entries c.raise_acked.new.lines.entries (λ q v. refl) c.raise_acked.ensures.lines)),
+  listed_acked c.args.key.now c.args.upto s.lines.entries c.raise_acked.new.lines.entries s.waiting.list c.note_acked.new.waiting.list c.raise_acked.ensures.lines c.self.invariant.2 c.note_acked.ensures.list,
 )
 
 pub returns-clause-list : goal.returns-clause-list

@@ -10,6 +10,7 @@ use Rattle.session_table.proofs.Stepping.{list_came, acks_set, stands_at}
 use Rattle.session_table.specs.Kept.{owner_of}
 use Rattle.session_table.specs.Owned.{owners}
 use Rattle.session_table.proofs.Owning.{map_rewritten}
+use Rattle.session_table.proofs.Listing.{listed_same}
 use Rattle.session_table.proofs.sessions.Sessions.add_came.Goals as goal
 
 pub count_came-number-requires : goal.count_came-number-requires
@@ -39,6 +40,7 @@ invariant_of-self c =
     let entries : c.put_item.new.items.entries ≡ s.came.entries ++ (place_of c.args.key at.0.came, c.args.body) ∷ [] = c.put_item.ensures.entries ∙ ap (λ (n : ℕ). s.came.entries ++ (place_of c.args.key n, c.args.body) ∷ []) (c.count_came-number.ensures.number at.0 at.1) in (
       subst (λ (l : List (Place × Body)). IsKept s.party s.opened c.count_came-number.new.lines.entries s.sent.entries l) (sym entries) (kept_came s.party s.opened s.lines.entries c.count_came-number.new.lines.entries s.sent.entries s.came.entries c.args.key at.0 c.args.body c.self.invariant.0 at.1 c.count_came-number.ensures.lines),
       c.self.invariant.1 ∙ sym (ap owners (map_rewritten owner_of c.args.key one_came s.lines.entries c.count_came-number.new.lines.entries (λ q v. refl) c.count_came-number.ensures.lines)),
+      listed_same c.args.key one_came s.lines.entries c.count_came-number.new.lines.entries s.waiting.list (λ q v. refl) c.count_came-number.ensures.lines c.self.invariant.2,
     )
 
 pub returns-clause-party : goal.returns-clause-party

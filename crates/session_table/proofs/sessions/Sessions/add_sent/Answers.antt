@@ -10,6 +10,7 @@ use Rattle.session_table.proofs.Stepping.{list_sent, acks_set, found_line, sent_
 use Rattle.session_table.specs.Kept.{owner_of}
 use Rattle.session_table.specs.Owned.{owners}
 use Rattle.session_table.proofs.Owning.{map_rewritten}
+use Rattle.session_table.proofs.Listing.{listed_sent}
 use Rattle.session_table.proofs.sessions.Sessions.add_sent.Goals as goal
 
 pub count_sent-requires : goal.count_sent-requires
@@ -39,6 +40,7 @@ invariant_of-self c =
     let seq : c.args.item.seq ≡ at.0.sent = c.requires.continues.next ∙ sent_count s.sent.entries s.came.entries s.lines.entries c.args.self.now.list c.args.item.key c.requires.continues.session at.0 same c.requires.continues.stands at.1.0 c.self.invariant.0.sent_counted in (
       subst (λ (l : List (Place × Posted)). IsKept s.party s.opened c.count_sent.new.lines.entries l s.came.entries) (sym c.put_item.ensures.entries) (kept_sent s.party s.opened s.lines.entries c.count_sent.new.lines.entries s.sent.entries s.came.entries c.args.item.key at.0 c.args.item.seq (record { body = c.args.item.body; stamp = c.args.stamp }) c.self.invariant.0 at.1.0 seq c.count_sent.ensures.lines),
       c.self.invariant.1 ∙ sym (ap owners (map_rewritten owner_of c.args.item.key one_sent s.lines.entries c.count_sent.new.lines.entries (λ q v. refl) c.count_sent.ensures.lines)),
+      listed_sent c.args.item.key s.lines.entries c.count_sent.new.lines.entries s.waiting.list c.note_sent.new.waiting.list c.count_sent.ensures.lines c.self.invariant.2 c.note_sent.ensures.list,
     )
 
 pub returns-clause-party : goal.returns-clause-party
@@ -63,4 +65,4 @@ returns-clause-acked c =
     acks_set s.lines.entries c.count_sent.new.lines.entries c.args.item.key one_sent at.0 (λ v. refl) at.1.0 c.count_sent.ensures.lines ∙ ap (λ t. t.acked) c.self.view_is
 
 pub returns-clause-room : goal.returns-clause-room
-returns-clause-room c = let room = ap (λ t. t.room) c.self.view_is in omega (arith, room, c.count_sent.ensures.room, c.put_item.ensures.room)
+returns-clause-room c = let room = ap (λ t. t.room) c.self.view_is in omega (arith, room, c.count_sent.ensures.room, c.note_sent.ensures.room, c.put_item.ensures.room)

@@ -1,10 +1,13 @@
-use Rattle.std.proofs.Common.{◌≡◌, sym, ◌∙◌, ap, refl, Some, None, List, slice_get, ◌++◌}
+use Rattle.std.proofs.Common.{◌≡◌, ℕ, sym, ◌∙◌, ap, refl, Option, Some, None, List, [], drop, slice_get, ◌++◌}
 use Rattle.std.specs.Prelude.{zip}
 use Rattle.std.proofs.lemmas.List.{length-map}
 use Rattle.session_table.specs.Kept.{session_at}
-use Rattle.session_table.specs.Tables.{unacked_in}
+use Rattle.std.specs.Option.{option_map_or}
+use Rattle.session_wire.specs.Sessions.{Session}
+use Rattle.session_table.specs.Tables.{items_from, unacked_at, unacked_in}
 use Rattle.session_table.specs.declared.resent.Item.{Item}
 use Rattle.session_table.proofs.Found.{present, count_is}
+use Rattle.session_table.proofs.Items.{append_nil}
 use Rattle.session_table.proofs.Resending.{follows, no_pair, pair_at, unacked_is}
 use Rattle.session_table.proofs.sessions.Sessions.add_unacked.Goals as goal
 
@@ -25,14 +28,11 @@ returns-in-Some c =
     let session = session_at s.sent.entries s.came.entries (key, v) in
     let found = present s.sent.entries s.came.entries s.lines.entries c.args.self.now.list key v (ap (λ t. t.list) c.self.view_is) (sym c.in-Some.ensures.value) in
     let pair : slice_get (zip c.args.self.now.list c.args.self.now.acked) c.args.place ≡ Some (session, v.acked) = sym (ap (λ t. slice_get (zip t.list t.acked) c.args.place) c.self.view_is) ∙ pair_at (session_at s.sent.entries s.came.entries) (λ e. e.1.acked) s.lines.entries c.args.place (key, v) (sym c.in-Some.ensures.entry) in
-    follows c.add_sent_items.result (λ h p at.
-    let one : Some (session, v.acked) ≡ Some p = sym pair ∙ at in
-    let same : (session, v.acked) ≡ p = cc one in
-    h session found ∙ ap (λ (l : List Item). c.args.items.now.items ++ l) (unacked_is c.args.self.now.party session v.acked ∙ ap (unacked_in c.args.self.now.party) same)) c.add_sent_items.ensures
+    let items : items_from c.args.self.now.party session v.acked (drop v.acked session.sent) ≡ unacked_at c.args.self.now.party c.args.self.now.list c.args.self.now.acked c.args.place = unacked_is c.args.self.now.party session v.acked ∙ ap (λ (o : Option (Session × ℕ)). option_map_or (unacked_in c.args.self.now.party) o []) (sym pair) in
+    follows c.add_sent_items.result (λ h. h session found ∙ ap (λ (l : List Item). c.args.items.now.items ++ l) items) c.add_sent_items.ensures
 
 pub returns-in-None : goal.returns-in-None
-returns-in-None c = λ p at.
+returns-in-None c =
     let s = c.self.inside in
-    let none = sym (ap (λ t. slice_get (zip t.list t.acked) c.args.place) c.self.view_is) ∙ no_pair (session_at s.sent.entries s.came.entries) (λ e. e.1.acked) s.lines.entries c.args.place (sym c.in-None.ensures.entry) in
-    let lost : None ≡ Some p = sym none ∙ at in
-    absurd (cc lost)
+    let none : slice_get (zip c.args.self.now.list c.args.self.now.acked) c.args.place ≡ None = sym (ap (λ t. slice_get (zip t.list t.acked) c.args.place) c.self.view_is) ∙ no_pair (session_at s.sent.entries s.came.entries) (λ e. e.1.acked) s.lines.entries c.args.place (sym c.in-None.ensures.entry) in
+    sym (append_nil c.args.items.now.items) ∙ ap (λ (o : Option (Session × ℕ)). c.args.items.now.items ++ option_map_or (unacked_in c.args.self.now.party) o []) (sym none)

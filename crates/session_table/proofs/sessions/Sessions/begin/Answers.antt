@@ -12,6 +12,8 @@ use Rattle.session_table.proofs.Stepping.{list_begun, new_line, filter_le}
 use Rattle.session_table.specs.Kept.{owner_of}
 use Rattle.session_table.specs.Owned.{owners, owner_pair}
 use Rattle.session_table.proofs.Owning.{owners_push, few_owners}
+use Rattle.session_table.specs.Waiting.{IsListed}
+use Rattle.session_table.proofs.Listing.{listed_begun}
 use Rattle.session_table.proofs.sessions.Sessions.begin.Goals as goal
 
 pub overflow_add-self : goal.overflow_add-self
@@ -60,13 +62,14 @@ invariant_of-self c =
     let party = ap (λ t. t.party) c.self.view_is in
     let number : is_opened_by s.party c.args.key ≡ true → c.args.key.number ≡ s.opened = λ own. c.requires.next (ap (λ p. is_opened_by p c.args.key) (sym party) ∙ own) ∙ ap (λ p. opened_by p c.args.self.now.list) (sym party) ∙ ap (opened_by s.party) (sym same) ∙ opened_keys s.sent.entries s.came.entries s.party s.lines.entries ∙ sym c.self.invariant.0.opened_is in
     let free = new_line s.party s.opened s.sent.entries s.came.entries s.lines.entries c.args.self.now.list c.args.key same c.self.invariant.0.below (λ other. c.requires.new (ap (λ p. is_opened_by p c.args.key) (sym party) ∙ other)) number in
-    let kept = kept_begun s.party s.opened s.lines.entries s.sent.entries s.came.entries c.args.key (record { peer = c.args.peer; owner = c.args.owner; sent = 0; came = 0; taken = 0; ending = None; acked = 0 }) c.self.invariant.0 number refl refl in (
+    let kept = kept_begun s.party s.opened s.lines.entries s.sent.entries s.came.entries c.args.key (record { peer = c.args.peer; owner = c.args.owner; sent = 0; came = 0; taken = 0; ending = None; acked = 0 }) c.self.invariant.0 free number refl refl in (
       subst (λ (l : List (Key × Standing)). IsKept s.party (s.opened + c.one_if_own.result) l s.sent.entries s.came.entries) (sym c.put_line.ensures.entries) (subst (λ (n : ℕ). IsKept s.party (s.opened + n) (s.lines.entries ++ (c.args.key, (record { peer = c.args.peer; owner = c.args.owner; sent = 0; came = 0; taken = 0; ending = None; acked = 0 })) ∷ []) s.sent.entries s.came.entries) (sym c.one_if_own.ensures) kept),
       c.note.ensures.list
           ∙ ap (λ (l : List (ℕ × Key)). l ++ owner_pair c.args.key c.args.owner) c.self.invariant.1
           ∙ sym (owners_push (map owner_of s.lines.entries) (c.args.key, c.args.owner))
           ∙ ap owners (sym (map-append owner_of s.lines.entries ((c.args.key, (record { peer = c.args.peer; owner = c.args.owner; sent = 0; came = 0; taken = 0; ending = None; acked = 0 })) ∷ [])))
           ∙ ap (λ (l : List (Key × Standing)). owners (map owner_of l)) (sym c.put_line.ensures.entries),
+      subst (λ (l : List (Key × Standing)). IsListed l s.waiting.list) (sym c.put_line.ensures.entries) (listed_begun s.lines.entries (c.args.key, record { peer = c.args.peer; owner = c.args.owner; sent = 0; came = 0; taken = 0; ending = None; acked = 0 }) s.waiting.list refl c.self.invariant.2),
     )
 
 pub returns-clause-party : goal.returns-clause-party

@@ -8,12 +8,14 @@ use Rattle.session_table.proofs.Stepping.{list_set, acks_set, stands_at}
 use Rattle.session_table.specs.Kept.{owner_of}
 use Rattle.session_table.specs.Owned.{owners}
 use Rattle.session_table.proofs.Owning.{map_rewritten}
+use Rattle.session_table.proofs.Listing.{listed_same}
 use Rattle.session_table.proofs.sessions.Sessions.set_taken.Goals as goal
 
 pub invariant_of-self : goal.invariant_of-self
 invariant_of-self c = let s = c.self.inside in (
   kept_same s.party s.opened s.lines.entries c.set_taken.new.lines.entries s.sent.entries s.came.entries c.args.key (taken_to c.args.taken c.ending_at-ending.result) (λ v. refl) (λ v. refl) c.self.invariant.0 c.set_taken.ensures.lines,
   c.self.invariant.1 ∙ sym (ap owners (map_rewritten owner_of c.args.key (taken_to c.args.taken c.ending_at-ending.result) s.lines.entries c.set_taken.new.lines.entries (λ q v. refl) c.set_taken.ensures.lines)),
+  listed_same c.args.key (taken_to c.args.taken c.ending_at-ending.result) s.lines.entries c.set_taken.new.lines.entries s.waiting.list (λ q v. refl) c.set_taken.ensures.lines c.self.invariant.2,
 )
 
 pub returns-clause-party : goal.returns-clause-party
