@@ -4,7 +4,7 @@ ghost use Rattle.std.specs.Prelude.{◌≡◌, ◌⊎◌, ◌≤◌, ◌<◌, Li
 ghost use Rattle.node_core.specs.Disks.{roomless};
 ghost use Rattle.network_core.specs.Worlds.{KeepsWorld};
 ghost use Rattle.network_core.specs.Answers.{AtPlace, StartServes, TurnServes, CutServes, BootServes, ClockServes, BootClock, said};
-ghost use Rattle.network_core.specs.Begins.{BeginsWorld, IsRefused};
+ghost use Rattle.network_core.specs.Begins.{BeginsWorld, IsRefused, BootsUpTo, nodes_over as over_disks};
 ghost use Rattle.network_core.specs.Drains.{Drains, Drives, QuietAt, Turns, room, turned};
 ghost use Rattle.network_core.specs.Served.{Serve, Follows};
 ghost use Rattle.network_core.specs.declared.net.Turning.TheVariants as turning;
@@ -62,6 +62,7 @@ impl<D: Bay, F: FlowSet> Net<D, F> {
         requires disks { length disks.items ≡ nodes }
         ensures count { IfOk result (λ net. length net.nodes ≡ nodes) }
         ensures ok { IfOk result (λ net. BeginsWorld F.machine F.reading nodes notary (map D.seen disks.items) net) }
+        ensures boots { IfOk result (λ net. BootsUpTo F.reading nodes net.now (over_disks nodes notary 0 (map D.seen disks.items)) net.nodes) }
         ensures refused { IfErr result (λ r. IsRefused F.machine F.reading nodes notary (map D.seen disks.items) r.node r.why (map D.seen r.disks.items)) }
     {
         let node = 0;

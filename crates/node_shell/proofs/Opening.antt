@@ -4,7 +4,7 @@ use Rattle.std.specs.Prelude.{codes, decimal, take, drop, slice_index_or, true, 
 use Rattle.std.specs.List.{slice_get}
 use Rattle.outside.specs.Disk.{DiskView}
 use Rattle.outside.specs.Faults.{Rose}
-use Rattle.disk_journal.specs.Journal.{refusal}
+use Rattle.disk_journal.specs.Journal.{journal_of, placed, refusal}
 use Rattle.disk_journal.specs.declared.fault.OpenFault.{OpenFault}
 use Rattle.disk_journal.specs.declared.fault.OpenFault.TheVariants as open_fault
 use Rattle.net_base.specs.declared.names.Identity.{Identity}
@@ -17,12 +17,12 @@ use Rattle.node_core.specs.Seen.{NodeSeen, BootsAs, boot_of, Refuses as SeenRefu
 use Rattle.node_core.specs.declared.faults.BootFault.{BootFault}
 use Rattle.node_core.specs.declared.faults.BootFault.TheVariants as boot
 use Rattle.network_core.specs.Worlds.{World, NetSeen, Shows, Coherent}
-use Rattle.network_core.specs.Begins.{member, node_over, no_boot, Begun, BeginsWorld, IsRefused}
+use Rattle.network_core.specs.Begins.{member, node_over, no_boot, Begun, BeginsWorld, IsRefused, BootsUpTo}
 use Rattle.node_shell.specs.declared.statuses.Status.{Status}
 use Rattle.node_shell.specs.declared.statuses.Status.TheVariants as status
 use Rattle.node_shell.specs.Story.{ScriptRun, IsScriptStatus, InSome}
-use Rattle.node_shell.specs.Runs.{alone, over, with_faults, number_of_status, Plays, Refuses, RunsAs, journal_line, PlaysOrRefuses, RefusedWith, IsOpeningStatus, Fails, OneFails, HasCause, MisfitsAt, IsUnready, IsToldWhy}
-use Rattle.node_shell.proofs.Resting.{stands, rests, faulty_shows, faulty_coherent, same_faults, refused_rests, faults_again, down_fewer, same_fewer, from_faulty}
+use Rattle.node_shell.specs.Runs.{alone, over, with_faults, number_of_status, Plays, Refuses, RunsAs, journal_line, PlaysOrRefuses, RefusedWith, IsOpeningStatus, Fails, OneFails, HasCause, MisfitsAt, IsUnready, IsToldWhy, KeepsOwn, IsPlayedStatus, IsPlayedNumber}
+use Rattle.node_shell.proofs.Resting.{stands, rests, faulty_shows, faulty_coherent, same_faults, refused_rests, faults_again, down_fewer, same_fewer, from_faulty, same_journals, journals_from}
 
 no_memory : status.DiskFault ≡ status.NoMemory → ⊥
 no_memory same = cc
@@ -64,7 +64,31 @@ rose_since a b c first then = omega (arith, first, then)
 pub fails_since : (d k b : DiskView) → k ≡ record d { faults = k.faults } → d.faults ≤ k.faults → Fails k b → Fails d b
 fails_since d k b same later f = record { rose = rose_since d.faults k.faults b.faults later f.rose; uneasy = λ calm. f.uneasy (ap (λ (x : DiskView). x.calm) same ∙ calm) }
 
+-- a making ready before changes nothing of what is kept
+pub own_since : {F : Type 0} (f : Reads F) (id : Identity) (d k : DiskView) → k ≡ record d { faults = k.faults } → KeepsOwn f id k → KeepsOwn f id d
+own_since f id d k same own = λ tells.
+    subst (λ (x : DiskView). (refusal id x.state.kept ≡ None) × (misfit f (placed 16 (journal_of x.state.kept)) ≡ None)) same (own (ap (λ (x : DiskView). x.tells) same ∙ tells))
+
+-- a node that came up over a disk opened its own journal
+pub boots_own : {F : Type 0} (f : Reads F) (d : DiskView) (now : ℕ) (new : List NodeSeen) → BootsUpTo f 1 now (node_over 1 (party 0) 0 d ∷ []) new → KeepsOwn f (member 1 (party 0) 0) d
+boots_own f d now [] r = absurd (omega (arith, r.count))
+boots_own f d now (k ∷ ks) r = let b = r.done 0 (node_over 1 (party 0) 0 d) k (omega arith) refl refl in λ tells. (b.3.opens.format tells, subst (λ l. misfit f l ≡ None) (b.3.opens.told tells) b.3.fits)
+
+-- a refused opening whose disk failed is told so
+status_of_fault : (node : ℕ) (why : BootFault) (written0 written1 : Option (List ℕ)) (s : Status) → why ≡ boot.Fault → RefusedWith node why written0 written1 s → s ≡ status.DiskFault
+status_of_fault node why written0 written1 s is told = (subst (λ y. RefusedWith node y written0 written1 s) is told).0
+
 -- the statuses of these numbers
+pub is_played : (s : Status) → IsPlayedNumber (number_of_status s) → IsPlayedStatus s
+is_played status.Finished is = tt
+is_played status.TooLong is = tt
+is_played status.ReadFault is = tt
+is_played status.BadWords is = absurd (⊎_elim (λ h. omega (arith, h)) (λ r. ⊎_elim (λ h. omega (arith, h)) (λ h. omega (arith, h)) r) is)
+is_played status.WriteFault is = absurd (⊎_elim (λ h. omega (arith, h)) (λ r. ⊎_elim (λ h. omega (arith, h)) (λ h. omega (arith, h)) r) is)
+is_played status.DiskFault is = absurd (⊎_elim (λ h. omega (arith, h)) (λ r. ⊎_elim (λ h. omega (arith, h)) (λ h. omega (arith, h)) r) is)
+is_played status.NoMemory is = absurd (⊎_elim (λ h. omega (arith, h)) (λ r. ⊎_elim (λ h. omega (arith, h)) (λ h. omega (arith, h)) r) is)
+is_played status.BadJournal is = absurd (⊎_elim (λ h. omega (arith, h)) (λ r. ⊎_elim (λ h. omega (arith, h)) (λ h. omega (arith, h)) r) is)
+
 pub is_disk_fault : (s : Status) → number_of_status s ≡ 6 → s ≡ status.DiskFault
 is_disk_fault status.DiskFault is = refl
 is_disk_fault status.Finished is = cc
@@ -132,16 +156,18 @@ opening_why status.BadJournal written0 written1 is same = absurd is
 
 module _ {F : Type 0} (m : Machine F) (f : Reads F) where
   pub played : (d b : DiskView) (w : World) (begun ended : NetSeen) (left0 left1 written0 written1 : Option (List ℕ)) (count : ℕ) (s : Status)
-      → IsScriptStatus s → BeginsWorld m f 1 (party 0) (d ∷ []) begun
+      → IsScriptStatus s → KeepsOwn f (member 1 (party 0) 0) d → BeginsWorld m f 1 (party 0) (d ∷ []) begun
       → ((id : Identity) (start : World) → Shows (environment m f id) begun start → Coherent (environment m f id) start → InSome (environment m f id) ended (λ v. ScriptRun (environment m f id) start left0 left1 written0 written1 count v s))
       → map (λ (n : NodeSeen). n.disk) ended.nodes ≡ roomless b ∷ []
       → Shows (alone m f) (over w.now d) w → Coherent (alone m f) w → PlaysOrRefuses (alone m f) w d b left0 left1 written0 written1 count s
-  played d b w begun ended left0 left1 written0 written1 count s script begins ran disks shows coherent =
+  played d b w begun ended left0 left1 written0 written1 count s script own begins ran disks shows coherent =
       let start = begins w.now w shows coherent in
       let end = ran (member 1 (party 0) 0) start.0 start.1 start.2 in
       inl (record {
         is_script = script;
+        own = own;
         faults = d.faults;
+        later = omega arith;
         start = start.0;
         begins = subst (λ x. Begun (alone m f) x start.0) (sym (same_faults m f w d shows)) start.3;
         last = end.world;
@@ -189,6 +215,7 @@ module _ {F : Type 0} (m : Machine F) (f : Reads F) where
         world = v.0;
         rests = refused_rests m f why w v.0 b v.1 v.2;
         fewer = down_fewer why w v.0 v.3;
+        kept = λ no p x y at there. (v.3.each p x y at there).kept (λ (is : why ≡ boot.Fault). no (status_of_fault node why written0 written1 s is told));
         why = inr (told_why d b node why written0 written1 s r told);
       })
 
@@ -201,14 +228,17 @@ module _ {F : Type 0} (m : Machine F) (f : Reads F) where
     world = with_faults e.faults w;
     rests = stands m f (with_faults e.faults w) e (faulty_shows m f w d e same shows) (faulty_coherent m f e.faults w coherent);
     fewer = same_fewer e.faults w;
+    kept = λ no. same_journals e.faults w;
     why = inl (opening_why s written written is refl);
   })
 
-  plays_with : (n : ℕ) (w : World) (b : DiskView) (left0 left1 written0 written1 : Option (List ℕ)) (count : ℕ) (s : Status)
-      → Plays (alone m f) (with_faults n w) b left0 left1 written0 written1 count s → Plays (alone m f) w b left0 left1 written0 written1 count s
-  plays_with n w b left0 left1 written0 written1 count s p = record {
+  plays_with : (n : ℕ) (w : World) (d k b : DiskView) (left0 left1 written0 written1 : Option (List ℕ)) (count : ℕ) (s : Status) → k ≡ record d { faults = k.faults } → d.faults ≤ k.faults
+      → Plays (alone m f) (with_faults n w) k b left0 left1 written0 written1 count s → Plays (alone m f) w d b left0 left1 written0 written1 count s
+  plays_with n w d k b left0 left1 written0 written1 count s same later p = record {
     is_script = p.is_script;
+    own = own_since f (member 1 (party 0) 0) d k same p.own;
     faults = p.faults;
+    later = omega (arith, later, p.later);
     start = p.start;
     begins = subst (λ x. Begun (alone m f) x p.start) (faults_again p.faults n w) p.begins;
     last = p.last;
@@ -224,6 +254,7 @@ module _ {F : Type 0} (m : Machine F) (f : Reads F) where
     world = r.world;
     rests = r.rests;
     fewer = from_faulty n w r.world r.fewer;
+    kept = λ no. journals_from n w r.world (r.kept no);
     why = ⊎_elim (λ (u : IsUnready written0 written1 s). inl u) (λ (t : IsToldWhy f k b written0 written1 s). inr (told_since f d k b b written0 written1 s refl same later t)) r.why;
   }
 
@@ -232,7 +263,7 @@ module _ {F : Type 0} (m : Machine F) (f : Reads F) where
       → ((v : World) → Shows (alone m f) (over v.now k) v → Coherent (alone m f) v → PlaysOrRefuses (alone m f) v k b left0 left1 written0 written1 count s)
       → Shows (alone m f) (over w.now d) w → Coherent (alone m f) w → PlaysOrRefuses (alone m f) w d b left0 left1 written0 written1 count s
   ready d k b w left0 left1 written0 written1 count s same later runs shows coherent =
-      ⊎_elim (λ (p : Plays (alone m f) (with_faults k.faults w) b left0 left1 written0 written1 count s). inl (plays_with k.faults w b left0 left1 written0 written1 count s p))
+      ⊎_elim (λ (p : Plays (alone m f) (with_faults k.faults w) k b left0 left1 written0 written1 count s). inl (plays_with k.faults w d k b left0 left1 written0 written1 count s same later p))
       (λ (r : Refuses (alone m f) (with_faults k.faults w) k b left0 left1 written0 written1 count s). inr (refuses_with k.faults w d k b left0 left1 written0 written1 count s same later r))
       (runs (with_faults k.faults w) (faulty_shows m f w d k same shows) (faulty_coherent m f k.faults w coherent))
 

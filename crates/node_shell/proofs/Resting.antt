@@ -12,7 +12,7 @@ use Rattle.node_core.specs.declared.faults.BootFault.{BootFault}
 use Rattle.network_core.specs.Worlds.{World, NodeWorld, NetSeen, MaySpell, NodeShows, Shows, NodeCoherent, Coherent}
 use Rattle.network_core.specs.Begins.{node_over, net_over, StayDown}
 use Rattle.network_core.proofs.Faithful.{coherent_is_faithful}
-use Rattle.node_shell.specs.Runs.{alone, over, all_down, with_faults, Rests, LeavesFewer}
+use Rattle.node_shell.specs.Runs.{alone, over, all_down, with_faults, Rests, LeavesFewer, KeepsJournals}
 
 -- ---- mapped lists
 
@@ -146,6 +146,16 @@ same_fewer n w p x y l at there may =
     let same : o.0 ≡ x = cc in
     let spells : MaySpell (faulty n o.0) l = subst (λ z. MaySpell z l) (sym o.2) may in
     subst (λ z. MaySpell z l) same spells
+
+-- what the disks keep does not change with a count of faults
+pub same_journals : (n : ℕ) (w : World) → KeepsJournals w (with_faults n w)
+same_journals n w p x y at there =
+    let o = of_map (faulty n) w.nodes p y there in
+    let same : o.0 ≡ x = cc in
+    ap (λ (z : NodeWorld). z.journal) (sym o.2) ∙ ap (λ (z : NodeWorld). z.journal) same
+
+pub journals_from : (n : ℕ) (w v : World) → KeepsJournals (with_faults n w) v → KeepsJournals w v
+journals_from n w v kept p x y at there = kept p (faulty n x) y (in_map (faulty n) w.nodes p x at) there
 
 pub from_faulty : (n : ℕ) (w v : World) → LeavesFewer (with_faults n w) v → LeavesFewer w v
 from_faulty n w v fewer p x y l at there may = fewer p (faulty n x) y l (in_map (faulty n) w.nodes p x at) there may

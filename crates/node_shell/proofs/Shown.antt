@@ -227,7 +227,7 @@ module _ {F : Type 0} (e : Environment F) (net : NetSeen) (w : World) (shows : S
     pub flow_some : (f : ℕ) (flow : FlowState F) → slice_get (state_of e.frame_at bodies).flows f ≡ Some flow → reply_text reply ≡ flow_line f flow ++ 10 ∷ [] → AtNode w p reply (AsksFlow e w p f reply)
     flow_some f flow some is =
         at_up e net w shows p reply (AsksFlow e w p f reply) n bodies at up
-        (λ x here j. inr (is ∙ ap (λ o. flow_text f o) (sym some) ∙ ap (λ b. flow_text f (slice_get (state_of e.frame_at b).flows f)) (sym j) ∙ sym (flow_printed e w coherent p f x here)))
+        (λ x here j. inr ((flow, ap (λ b. slice_get (state_of e.frame_at b).flows f) j ∙ some), is ∙ ap (λ o. flow_text f o) (sym some) ∙ ap (λ b. flow_text f (slice_get (state_of e.frame_at b).flows f)) (sym j) ∙ sym (flow_printed e w coherent p f x here)))
 
 -- the same, of a list that another is
 pub found_at : {X : Type 0} (ys xs : List X) (p : ℕ) (d x : X) → xs ≡ ys → nat_lt p (length xs) ≡ true → x ≡ slice_index_or xs p d → slice_get ys p ≡ Some x

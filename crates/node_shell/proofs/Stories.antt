@@ -90,7 +90,7 @@ module _ {F : Type 0} {w : Environment F} {start : World} where
 
     -- a read failed
     pub run_unread : {left2 : Option (List ℕ)} → Keeps left1 left2 → count ≤ 16777216 → ScriptRun w start left0 left2 written0 written1 count old status.ReadFault
-    run_unread k small = ends_here status.ReadFault k small r.answered
+    run_unread k small = ends_here status.ReadFault k small (r.open_end, r.answered)
 
     -- a byte too many came
     pub run_long : {left2 : Option (List ℕ)} → (b : ℕ) → Consumes left1 left2 (b ∷ []) → count ≡ 16777216 → ScriptRun w start left0 left2 written0 written1 (count + 1) old status.TooLong
@@ -101,12 +101,12 @@ module _ {F : Type 0} {w : Environment F} {start : World} where
       consumed = Consumes-trans left0 left1 left2 _ _ r.consumed c;
       counted = omega (arith, length-append r.read (b ∷ []), r.counted);
       split = subst (λ bytes. AreLines bytes r.lines rest) (sym (take_known 16777216 r.read (b ∷ []) (r.counted ∙ full))) r.split;
-      ends = (omega (arith, full), r.answered);
+      ends = (omega (arith, full), r.open_end, r.answered);
     }
 
     -- there is no memory for a byte of a line
     pub run_unkept : {left2 : Option (List ℕ)} → (b : ℕ) → Consumes left1 left2 (b ∷ []) → b ≢ 10 → count < 16777216 → ScriptRun w start left0 left2 written0 written1 (count + 1) old status.NoMemory
-    run_unkept b c open_b small = ends_after b status.NoMemory r.lines (rest ++ b ∷ []) c small (lines_byte r.split b open_b) (inr (omega (arith, length-append rest (b ∷ [])), r.answered))
+    run_unkept b c open_b small = ends_after b status.NoMemory r.lines (rest ++ b ∷ []) c small (lines_byte r.split b open_b) (inr (omega (arith, length-append rest (b ∷ [])), r.open_end, r.answered))
 
     -- the input ended, and what it ended with was answered
     pub run_finished : {left2 : Option (List ℕ)} {written2 : Option (List ℕ)} {new : World} → Keeps left1 left2 → IsAtEnd left2 → count ≤ 16777216 → Answered w start written0 written2 (whole_lines r.lines ++ last_line rest) new → ScriptRun w start left0 left2 written0 written2 count new status.Finished

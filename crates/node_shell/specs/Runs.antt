@@ -1,5 +1,5 @@
 -- A whole run: how the network opened, and how the script went.
-use Rattle.std.specs.Prelude.{◌≡◌, ◌⊎◌, ℕ, ◌<◌, List, [], ◌∷◌, ◌++◌, length, map, Option, Some, None, codes, decimal, true, false, slice_get, ⊤}
+use Rattle.std.specs.Prelude.{◌≡◌, ◌⊎◌, ℕ, ◌<◌, ◌≤◌, List, [], ◌∷◌, ◌++◌, length, map, Option, Some, None, codes, decimal, true, false, slice_get, ⊤}
 use Rattle.std.specs.Io.KnownBytes.{Appends}
 use Rattle.outside.specs.Disk.{DiskView}
 use Rattle.outside.specs.Faults.{Rose}
@@ -52,10 +52,16 @@ pub record Rests {F : Type 0} (e : Environment F) (disk : DiskView) (w : World) 
   pub coherent : Coherent e w
   pub faithful : (lists : List (List (List ℕ))) → Choice w lists → IsFaithful e (map (records_of e.frame_at) lists) × (network_of e (map (causes_of e.frame_at) lists) ≡ Some (map (state_of e.frame_at) lists))
 
--- the node opened, and its script went from the opening world to the last, in which its disk rests
-pub record Plays {F : Type 0} (e : Environment F) (w : World) (disk : DiskView) (left0 left1 written0 written1 : Option (List ℕ)) (count : ℕ) (status : Status) : Type 0 where
+-- where a disk tells its content, no opening of this node refuses it: it keeps no begun journal, or a sound one of the node's own whose records fit
+abbrev pub KeepsOwn : {F : Type 0} → Reads F → Identity → DiskView → Type 0
+KeepsOwn frame_at id disk = disk.tells ≡ true → (refusal id disk.state.kept ≡ None) × (misfit frame_at (placed 16 (journal_of disk.state.kept)) ≡ None)
+
+-- the node opened its own journal, and its script went from the opening world to the last, in which its disk rests
+pub record Plays {F : Type 0} (e : Environment F) (w : World) (old disk : DiskView) (left0 left1 written0 written1 : Option (List ℕ)) (count : ℕ) (status : Status) : Type 0 where
   pub is_script : IsScriptStatus status
+  pub own : KeepsOwn e.frame_at (member 1 (party 0) 0) old
   pub faults : ℕ
+  pub later : old.faults ≤ faults
   pub start : World
   pub begins : Begun e (with_faults faults w) start
   pub last : World
@@ -92,6 +98,10 @@ RefusedWith node (boot.Damaged at) written0 written1 s = Writes (journal_line no
 -- no journal is there that a power cut might not have left before
 abbrev pub LeavesFewer : World → World → Type 0
 LeavesFewer w v = (p : ℕ) (x y : NodeWorld) (l : List (List ℕ)) → slice_get w.nodes p ≡ Some x → slice_get v.nodes p ≡ Some y → MaySpell y l → MaySpell x l
+
+-- what the disks keep is as before
+abbrev pub KeepsJournals : World → World → Type 0
+KeepsJournals w v = (p : ℕ) (x y : NodeWorld) → slice_get w.nodes p ≡ Some x → slice_get v.nodes p ≡ Some y → y.journal ≡ x.journal
 
 -- the count of faults of a disk rose, and the disk was not calm
 pub record Fails (old new : DiskView) : Type 0 where
@@ -138,13 +148,14 @@ pub record Refuses {F : Type 0} (e : Environment F) (w : World) (old disk : Disk
   pub world : World
   pub rests : Rests e disk world
   pub fewer : LeavesFewer w world
+  pub kept : (s ≡ status.DiskFault → ⊥) → KeepsJournals w world
   pub why : IsUnready written0 written1 s ⊎ IsToldWhy e.frame_at old disk written0 written1 s
 
 -- a run over a disk that shows this world while its node is down: the node opened and its script was played, or it did not open
 pub record RunsAs {F : Type 0} (e : Environment F) (w : World) (old disk : DiskView) (left0 left1 written0 written1 : Option (List ℕ)) (count number : ℕ) : Type 0 where
   pub status : Status
   pub is : number ≡ number_of_status status
-  pub ran : Plays e w disk left0 left1 written0 written1 count status ⊎ Refuses e w old disk left0 left1 written0 written1 count status
+  pub ran : Plays e w old disk left0 left1 written0 written1 count status ⊎ Refuses e w old disk left0 left1 written0 written1 count status
 
 -- the statuses of a disk that was not made ready
 abbrev pub IsOpeningStatus : Status → Type 0
@@ -181,4 +192,23 @@ IsRunStatus status.ReadFault = ⊤
 
 -- the node opened and its script was played, or it did not open
 abbrev pub PlaysOrRefuses : {F : Type 0} → Environment F → World → DiskView → DiskView → Option (List ℕ) → Option (List ℕ) → Option (List ℕ) → Option (List ℕ) → ℕ → Status → Type 0
-PlaysOrRefuses e w old disk left0 left1 written0 written1 count s = Plays e w disk left0 left1 written0 written1 count s ⊎ Refuses e w old disk left0 left1 written0 written1 count s
+PlaysOrRefuses e w old disk left0 left1 written0 written1 count s = Plays e w old disk left0 left1 written0 written1 count s ⊎ Refuses e w old disk left0 left1 written0 written1 count s
+
+-- the statuses that come only once the node has opened
+abbrev pub IsPlayedStatus : Status → Type 0
+IsPlayedStatus status.Finished = ⊤
+IsPlayedStatus status.TooLong = ⊤
+IsPlayedStatus status.ReadFault = ⊤
+IsPlayedStatus status.BadWords = ⊥
+IsPlayedStatus status.WriteFault = ⊥
+IsPlayedStatus status.DiskFault = ⊥
+IsPlayedStatus status.NoMemory = ⊥
+IsPlayedStatus status.BadJournal = ⊥
+
+-- the numbers of these statuses
+abbrev pub IsPlayedNumber : ℕ → Type 0
+IsPlayedNumber number = (number ≡ 0) ⊎ ((number ≡ 3) ⊎ (number ≡ 4))
+
+-- a disk is as before but for its count of faults, which has not fallen
+abbrev pub StaysBut : DiskView → DiskView → Type 0
+StaysBut old new = (new ≡ record old { faults = new.faults }) × (old.faults ≤ new.faults)

@@ -1,6 +1,7 @@
 -- What a line is answered with, and what it makes of the world.
 use Rattle.std.specs.Prelude.{◌≡◌, ◌⊎◌, ℕ, ◌==◌, ◌-◌, ◌^◌, min, List, [], ◌∷◌, ◌++◌, map, Option, Some, None, Result, Ok, Err, Bool, true, false, codes, decimal, MatchBool, drop, slice_get, slice_index_or, string_bytes, if◌then◌else◌, option_map, option_and_then}
 use Rattle.net_base.specs.declared.causes.Cause.{Cause}
+use Rattle.flow_machine.specs.declared.flows.FlowState.{FlowState}
 use Rattle.flow_machine.specs.declared.flow_set.WordFault.{WordFault}
 use Rattle.flow_machine.specs.declared.flow_set.WordFault.TheVariants as word
 use Rattle.net_base.specs.declared.names.Identity.{Identity}
@@ -132,11 +133,11 @@ abbrev pub RefusesWords : World → ℕ → Result (ℕ × List ℕ) WordFault �
 RefusesWords w p (Ok words) reply = ⊥
 RefusesWords w p (Err fault) reply = AtNode w p reply (λ x. IsRefused (word_code fault) reply)
 
--- the lines of a flow, or that there is none
+-- the line of a flow, or that there is none
 abbrev pub AsksFlow : {F : Type 0} → Environment F → World → ℕ → ℕ → Reply → NodeWorld → Type 0
-AsksFlow e w p f reply x =
+AsksFlow {F} e w p f reply x =
     ((slice_get (state_of e.frame_at x.journal).flows f ≡ None) × IsRefused 11 reply)
-    ⊎ (reply_text reply ≡ printed e (causes_in e w) (of_flow p f))
+    ⊎ (((flow : FlowState F) × (slice_get (state_of e.frame_at x.journal).flows f ≡ Some flow)) × (reply_text reply ≡ printed e (causes_in e w) (of_flow p f)))
 
 -- the merged causes of all nodes, or that one is down
 abbrev pub AsksHistory : {F : Type 0} → Environment F → World → Reply → Type 0

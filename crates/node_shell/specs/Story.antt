@@ -92,11 +92,11 @@ pub record Quits (lines : List (List ℕ)) (rest : List ℕ) : Type 0 where
 abbrev pub EndsWith : {F : Type 0} → Environment F → World → Option (List ℕ) → Option (List ℕ) → Option (List ℕ) → ℕ → List (List ℕ) → List ℕ → World → Status → Type 0
 EndsWith e start left written0 written1 count lines rest world status.Finished = (IsAtEnd left ⊎ Quits (whole_lines lines) rest) × Answered e start written0 written1 (all_lines lines rest) world
 EndsWith e start left written0 written1 count lines rest world status.BadWords = ⊥
-EndsWith e start left written0 written1 count lines rest world status.TooLong = (count ≡ 16777217) × Answered e start written0 written1 (whole_lines lines) world
-EndsWith e start left written0 written1 count lines rest world status.ReadFault = Answered e start written0 written1 (whole_lines lines) world
+EndsWith e start left written0 written1 count lines rest world status.TooLong = (count ≡ 16777217) × NoneQuits (whole_lines lines) × Answered e start written0 written1 (whole_lines lines) world
+EndsWith e start left written0 written1 count lines rest world status.ReadFault = NoneQuits (whole_lines lines) × Answered e start written0 written1 (whole_lines lines) world
 EndsWith e start left written0 written1 count lines rest world status.WriteFault = CutOff e start written0 written1 (all_lines lines rest) world × (0 < length rest → IsAtEnd left)
 EndsWith e start left written0 written1 count lines rest world status.DiskFault = ⊥
-EndsWith e start left written0 written1 count lines rest world status.NoMemory = (LeftOff e start written0 written1 (all_lines lines rest) world × (0 < length rest → IsAtEnd left)) ⊎ ((0 < length rest) × Answered e start written0 written1 (whole_lines lines) world)
+EndsWith e start left written0 written1 count lines rest world status.NoMemory = (LeftOff e start written0 written1 (all_lines lines rest) world × (0 < length rest → IsAtEnd left)) ⊎ ((0 < length rest) × NoneQuits (whole_lines lines) × Answered e start written0 written1 (whole_lines lines) world)
 EndsWith e start left written0 written1 count lines rest world status.BadJournal = ⊥
 
 -- a whole script: what was read, and how it ended

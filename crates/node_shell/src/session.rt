@@ -129,6 +129,7 @@ fn take_byte<B: Bay, F: FlowSet, S: Source, K: Sink>(
     ensures err { IfErr result (λ e. (id : Identity) (start : World) (left0 written0 : Option (List ℕ)) → InSome (environment F.machine F.reading id) net.old (λ w. Progress (environment F.machine F.reading id) start left0 (S.left source.old) written0 (K.written sink.old) count w line.old.items)
         → InSome (environment F.machine F.reading id) net.new (λ w. ScriptRun (environment F.machine F.reading id) start left0 (S.left source.new) written0 (K.written sink.new) e.bytes_read w e.status)) }
     ensures too_long { IfErr result (λ e. e.status ≡ Status.TooLong ↔ (e.bytes_read ≡ 16777217)) }
+    ensures few { IfErr result (λ e. e.bytes_read ≤ 16777217) }
     ensures count { length net.new.nodes ≡ length net.old.nodes }
     ensures kinds { IfErr result (λ e. IsScriptStatus e.status) }
     ensures read_fault { IfErr result (λ e. e.status ≡ Status.ReadFault → Rose (S.faults source.old) (S.faults source.new)) }
@@ -185,6 +186,7 @@ pub fn session<B: Bay, F: FlowSet, S: Source, K: Sink>(
     ensures ran { (id : Identity) (start : World) → Shows (environment F.machine F.reading id) net.old start → Coherent (environment F.machine F.reading id) start
         → InSome (environment F.machine F.reading id) net.new (λ w. ScriptRun (environment F.machine F.reading id) start (S.left source.old) (S.left source.new) (K.written sink.old) (K.written sink.new) result.bytes_read w result.status) }
     ensures too_long { result.status ≡ Status.TooLong ↔ (result.bytes_read ≡ 16777217) }
+    ensures few { result.bytes_read ≤ 16777217 }
     ensures kinds { IsScriptStatus result.status }
     ensures read_fault { result.status ≡ Status.ReadFault → Rose (S.faults source.old) (S.faults source.new) }
     ensures write_fault { result.status ≡ Status.WriteFault → Rose (K.faults sink.old) (K.faults sink.new) }

@@ -1,9 +1,11 @@
 ghost use Rattle.std.specs.Prelude.{◌≡◌, ◌≤◌, ◌↔◌, ◌∷◌, [], ℕ, List, length, map, drop, slice_get, slice_index_or, string_bytes, true, false, Some};
 ghost use Rattle.outside.specs.Disk.{DiskView};
 ghost use Rattle.outside.specs.Faults.{Rose};
+ghost use Rattle.net_model.specs.Environment.{party};
+ghost use Rattle.network_core.specs.Begins.{member};
 ghost use Rattle.network_core.specs.Worlds.{World, Shows, Coherent};
 ghost use Rattle.shell_words.specs.Script.{is_one_node};
-ghost use Rattle.node_shell.specs.Runs.{RunsAs, PlaysOrRefuses, Fails, OneFails, IsToldWhy, IsRunStatus, number_of_status, alone, over};
+ghost use Rattle.node_shell.specs.Runs.{RunsAs, PlaysOrRefuses, Fails, OneFails, IsToldWhy, KeepsOwn, StaysBut, IsPlayedStatus, IsPlayedNumber, IsRunStatus, number_of_status, alone, over};
 
 use super::openings::{attach_both, refuse};
 use super::session::session;
@@ -40,6 +42,8 @@ fn play<S: Source, K: Sink, B: Bay, F: FlowSet>(
     ensures runs { (d e : DiskView) → map B.seen own.items ≡ d ∷ [] → map B.seen result.2.items ≡ e ∷ [] → (w : World) → Shows (alone F.machine F.reading) (over w.now d) w → Coherent (alone F.machine F.reading) w
         → PlaysOrRefuses (alone F.machine F.reading) w d e (S.left source.old) (S.left source.new) (K.written sink.old) (K.written sink.new) result.1 result.0 }
     ensures too_long { result.0 ≡ Status.TooLong ↔ (result.1 ≡ 16777217) }
+    ensures few { result.1 ≤ 16777217 }
+    ensures own { IsPlayedStatus result.0 → (d : DiskView) → map B.seen own.items ≡ d ∷ [] → KeepsOwn F.reading (member 1 (party 0) 0) d }
     ensures kinds { IsRunStatus result.0 }
     ensures read_fault { result.0 ≡ Status.ReadFault → Rose (S.faults source.old) (S.faults source.new) }
     ensures disk_fault { result.0 ≡ Status.DiskFault → (d e : DiskView) → map B.seen own.items ≡ d ∷ [] → map B.seen result.2.items ≡ e ∷ [] → Fails d e }
@@ -78,7 +82,10 @@ pub fn run<S: Source, K: Sink, B: Bay, F: FlowSet>(
     ensures words { (result.status ≡ 2) ↔ (is_one_node (map (λ s. string_bytes s) words.now) ≡ false) }
     ensures untouched { is_one_node (map (λ s. string_bytes s) words.now) ≡ false → (result.bytes_read ≡ 0) × (result.disks.items ≡ disks.items) × (S.left source.new ≡ S.left source.old) × (K.written sink.new ≡ K.written sink.old) }
     ensures disks { (length result.disks.items ≡ 32) × (drop 2 result.disks.items ≡ drop 2 disks.items) }
+    ensures second { (d e : DiskView) → slice_get (map B.seen disks.items) 1 ≡ Some d → slice_get (map B.seen result.disks.items) 1 ≡ Some e → StaysBut d e }
+    ensures own { IsPlayedNumber result.status → (d : DiskView) → slice_get (map B.seen disks.items) 0 ≡ Some d → KeepsOwn F.reading (member 1 (party 0) 0) d }
     ensures too_long { (result.status ≡ 3) ↔ (result.bytes_read ≡ 16777217) }
+    ensures few { result.bytes_read ≤ 16777217 }
     ensures read_fault { result.status ≡ 4 → Rose (S.faults source.old) (S.faults source.new) }
     ensures disk_fault { result.status ≡ 6 → OneFails (map B.seen disks.items) (map B.seen result.disks.items) }
     ensures bad_journal { result.status ≡ 8 → (d e : DiskView) → slice_get (map B.seen disks.items) 0 ≡ Some d → slice_get (map B.seen result.disks.items) 0 ≡ Some e → IsToldWhy F.reading d e (K.written sink.old) (K.written sink.new) Status.BadJournal }

@@ -52,3 +52,10 @@ pub returns-in-Ok-boot_all-clause-count : goal.returns-in-Ok-boot_all-clause-cou
 returns-in-Ok-boot_all-clause-count g c =
     let ds = map g.D.Disk.seen c.args.disks.items in
     omega (arith, c.in-Ok-boot_all.ensures.ok.count, ap length c.nodes_over-places.ensures, over_length c.args.nodes c.args.notary 0 ds, map_length g.D.Disk.seen c.args.disks.items, c.requires.disks)
+
+pub returns-in-Ok-boot_all-clause-boots : goal.returns-in-Ok-boot_all-clause-boots
+returns-in-Ok-boot_all-clause-boots g c =
+    let ds = map g.D.Disk.seen c.args.disks.items in
+    let count : length c.nodes_over-places.result.items ≡ c.args.nodes = ap length c.nodes_over-places.ensures ∙ over_length c.args.nodes c.args.notary 0 ds ∙ map_length g.D.Disk.seen c.args.disks.items ∙ c.requires.disks in
+    subst (λ (l : List NodeSeen). BootsUpTo g.F.Spelt.reading c.args.nodes c.in-Ok-boot_all.now.0 l c.boot_all.new.nodes.items) c.nodes_over-places.ensures
+    (subst (λ (i : ℕ). BootsUpTo g.F.Spelt.reading i c.in-Ok-boot_all.now.0 c.nodes_over-places.result.items c.boot_all.new.nodes.items) count c.in-Ok-boot_all.ensures.ok)
