@@ -1,4 +1,4 @@
-ghost use Rattle.std.specs.Prelude.{None};
+ghost use Rattle.std.specs.Prelude.{◌≡◌, None};
 
 use outside::{Failed, Sink, Source};
 use std::io::{Read, Write};
@@ -12,7 +12,10 @@ pub struct StdSource<R> {
 
 impl<R: Read> StdSource<R> {
     /// A source of which no read has failed.
-    pub fn new(inner: R) -> StdSource<R> {
+    pub fn new(inner: R) -> StdSource<R>
+        ensures reader { result.inner ≡ inner }
+        ensures faults { result.failed_reads ≡ 0 }
+    {
         StdSource {
             inner,
             failed_reads: 0,
@@ -45,7 +48,10 @@ pub struct StdSink<W> {
 
 impl<W: Write> StdSink<W> {
     /// A sink of which no write has failed.
-    pub fn new(inner: W) -> StdSink<W> {
+    pub fn new(inner: W) -> StdSink<W>
+        ensures writer { result.inner ≡ inner }
+        ensures faults { result.failed_writes ≡ 0 }
+    {
         StdSink {
             inner,
             failed_writes: 0,
