@@ -1,14 +1,14 @@
 -- The spelling of the items of a session: what a message says.
-use Rattle.std.proofs.Common.{◌≡◌, ◌<◌, ◌≤◌, ◌^◌, ℕ, zero, suc, Bool, true, false, cond, List, [], ◌∷◌, ◌++◌, length, Result, Ok, Err, refl, ap, sym, arith}
+use Rattle.std.proofs.Common.{◌≡◌, ◌<◌, ◌^◌, ℕ, Bool, true, false, cond, List, [], ◌∷◌, ◌++◌, Result, refl, arith}
 use Rattle.std.specs.Prelude.{nat_eq}
 use Rattle.std.specs.List.{list_any}
 use Rattle.std.specs.Int.{w16}
 use Rattle.net_base.specs.Reading.{number}
-use Rattle.net_base.specs.Forms.{◌>>=◌, number_at}
+use Rattle.net_base.specs.Forms.{number_at}
 use Rattle.net_base.specs.Laws.{Laws, done}
 use Rattle.net_base.specs.Combining.{mapped_at, mapped_laws, pair_at, pair_laws}
 use Rattle.net_base.specs.Fields.{u16_laws}
-use Rattle.net_base.specs.Kinds.{kinds_of, cases_at, cases_laws, bare_laws, cond_laws}
+use Rattle.net_base.specs.Kinds.{kinds_of, cases_at, cases_laws, bare_laws}
 use Rattle.ledger_types.specs.Values.{IsValue, value, value_at, value_laws}
 use Rattle.ledger_types.specs.declared.value.Value.{Value}
 use Rattle.session_wire.specs.declared.body.Body.{Body}

@@ -1,39 +1,44 @@
 -- The spelling of frames, with the rules that they keep.
-use Rattle.std.proofs.Common.{◌≡◌, ◌≢◌, ◌⊎◌, inl, inr, ◌<◌, ◌≤◌, ◌^◌, ℕ, zero, suc, Bool, true, false, cond, List, [], ◌∷◌, ◌++◌, length, Result, Ok, Err, refl, ap, sym, subst, ◌∙◌, append_assoc, eq-eqb, arith}
+use Rattle.std.proofs.Common.{◌≡◌, ◌≢◌, ◌⊎◌, inl, inr, ◌<◌, ◌^◌, ℕ, zero, suc, Bool, true, false, cond, List, [], ◌∷◌, ◌++◌, Result, refl, ap, sym, subst, ◌∙◌, eq-eqb, arith}
 use Rattle.std.specs.Prelude.{nat_eq, ◌||◌}
 use Rattle.std.specs.List.{list_any}
 use Rattle.std.specs.Int.{w32, w64}
-use Rattle.std.proofs.lemmas.Bool.{eqb-true, eqb-false, ne_eqb, cases_lt}
+use Rattle.std.proofs.lemmas.Bool.{eqb-true, ne_eqb}
 use Rattle.net_base.specs.declared.values.Party.{Party}
 use Rattle.net_base.specs.Reading.{number}
-use Rattle.net_base.specs.Forms.{◌>>=◌, below_at, number_at}
+use Rattle.net_base.specs.Forms.{below_at, number_at}
 use Rattle.net_base.specs.Laws.{Laws}
 use Rattle.net_base.specs.Combining.{mapped_at, mapped_laws, pair_at, pair_laws}
 use Rattle.net_base.specs.Fields.{below_laws, u32_laws}
 use Rattle.net_base.specs.Kinds.{kind_at, kind_laws, kinds_of, cases_at, cases_laws}
 use Rattle.net_base.specs.Framing.{both_at, both_laws}
 use Rattle.net_base.specs.Tested.{below_except_at, below_except_laws, positive_at, positive32_laws, stamp_at, stamp_laws}
-use Rattle.net_base.specs.Values.{party}
+use Rattle.net_base.specs.Values.{IsParty, party}
+use Rattle.net_base.specs.Names.{IsKey}
 use Rattle.session_wire.specs.Bodies.{IsBodyAt, body_text, body_at, body_laws}
 use Rattle.session_wire.specs.declared.body.Body.{Body}
 use Rattle.net_base.specs.declared.names.Key.{Key}
 use Rattle.session_wire.specs.declared.frame.Frame.{Frame}
 use Rattle.session_wire.specs.declared.frame.Frame.TheVariants.{Message, Ack}
 
--- Two parties that differ, a session of one of them, and its direction: at direction 0 the session's initiator is the
--- first of the two sides named last, at direction 1 the second.
-pub record IsRoute (from to : Party) (key : Key) (direction : ℕ) (at_0 at_1 : Party) : Type 0 where
-  pub from_is : from.0 < 16
-  pub to_is : to.0 < 16
-  pub differ : to.0 ≢ from.0
-  pub number : key.number < 2 ^ 32
-  pub side : ((direction ≡ 0) × (key.initiator.0 ≡ at_0.0)) ⊎ ((direction ≡ 1) × (key.initiator.0 ≡ at_1.0))
+-- The two sides of a frame, which differ, and its session.
+pub record AreSides (from to : Party) (key : Key) : Type 0 where
+  pub from_is : IsParty from
+  pub to_is : IsParty to
+  pub differ : from ≢ to
+  pub key_is : IsKey key
 
--- A frame. A message goes at direction 0 from the initiator and at direction 1 to it, its stamp is 1 to 2 ^ 63 - 1, and
--- its body is lawful at its direction and number. An acknowledgement goes the other way, and for at least one item.
+-- The direction at which an item of the session goes from the sender to the receiver: 0 where the sender is the session's
+-- initiator, 1 where the receiver is.
+abbrev pub GoesAt : ℕ → Key → Party → Party → Type 0
+GoesAt direction key sender receiver = ((direction ≡ 0) × (sender ≡ key.initiator)) ⊎ ((direction ≡ 1) × (receiver ≡ key.initiator))
+
+-- A frame. A message carries an item that goes from `from` to `to`, its stamp is 1 to 2 ^ 63 - 1, and its body is lawful at
+-- its direction and number. An acknowledgement goes the other way than its items, which go from `to` to `from`, and it is
+-- for at least one.
 abbrev pub IsFrame : Frame → Type 0
-IsFrame (Message from to key direction seq stamp body) = IsRoute from to key direction from to × ((seq < 2 ^ 32) × (((0 < stamp) × (stamp < 2 ^ 63)) × IsBodyAt direction seq body))
-IsFrame (Ack from to key direction upto) = IsRoute from to key direction to from × ((0 < upto) × (upto < 2 ^ 32))
+IsFrame (Message from to key direction seq stamp body) = AreSides from to key × (GoesAt direction key from to × ((seq < 2 ^ 32) × (((0 < stamp) × (stamp < 2 ^ 63)) × IsBodyAt direction seq body)))
+IsFrame (Ack from to key direction upto) = AreSides from to key × (GoesAt direction key to from × ((0 < upto) × (upto < 2 ^ 32)))
 
 -- the byte by which each kind of frame begins
 abbrev pub frame_kind : Frame → ℕ
@@ -157,54 +162,67 @@ first_of_two n k l e = rw e (rw (same_is k) refl)
 second_of_two : (n k l : ℕ) → n ≡ l → OneOf n (k ∷ l ∷ [])
 second_of_two n k l e = or_right (nat_eq k n) (nat_eq l n || false) (is_one n l e)
 
--- what was read is a route
-route_made : (first second : ℕ) (r : RouteParts) → RouteWithin first second r → (a b : Party) → ((first ≡ 0) × ((second ≡ 1) × ((a.0 ≡ r.0) × (b.0 ≡ r.1.0)))) ⊎ ((first ≡ 1) × ((second ≡ 0) × ((a.0 ≡ r.1.0) × (b.0 ≡ r.0))))
-    → IsRoute (record { 0 = r.0 }) (record { 0 = r.1.0 }) (record { initiator = record { 0 = r.1.1.0 }; number = r.1.1.1.0 }) r.1.1.1.1 a b
-route_made first second r h a b sides =
-    let d : r.1.1.1.1 ≡ side first second r.0 r.1.1.0 = one_of_one _ _ h.1.1.1.1 in
-    record {
-      from_is = h.0;
-      to_is = h.1.0.0;
-      differ = h.1.0.1;
-      number = h.1.1.1.0;
-      side = elim (one_of_two r.1.1.0 r.0 r.1.0 h.1.1.0) [
-        | inl e ↦
-            let now : r.1.1.1.1 ≡ first = d ∙ ap (λ (t : Bool). cond t first second) (ap (λ (k : ℕ). nat_eq k r.0) e ∙ same_is r.0) in
-            elim sides [ inl s ↦ inl (now ∙ s.0, e ∙ sym s.1.1.0) | inr s ↦ inr (now ∙ s.0, e ∙ sym s.1.1.1) ]
-        | inr e ↦
-            let ne : r.1.1.0 ≢ r.0 = subst (λ (k : ℕ). k ≢ r.0) (sym e) h.1.0.1 in
-            let now : r.1.1.1.1 ≡ second = d ∙ ap (λ (t : Bool). cond t first second) (ne_eqb r.1.1.0 r.0 ne) in
-            elim sides [ inl s ↦ inr (now ∙ s.1.0, e ∙ sym s.1.1.1) | inr s ↦ inl (now ∙ s.1.0, e ∙ sym s.1.1.0) ]
-      ];
-    }
+-- at the first direction the first side is the session's initiator, at the second the other
+abbrev LeadsAt : ℕ → ℕ → ℕ → Key → Party → Party → Type 0
+LeadsAt first second direction key from to = ((direction ≡ first) × (from ≡ key.initiator)) ⊎ ((direction ≡ second) × (to ≡ key.initiator))
 
--- a message's route is read
-message_route : (from to : Party) (key : Key) (direction : ℕ) → IsRoute from to key direction from to → RouteWithin 0 1 (from.0, (to.0, (key.initiator.0, (key.number, direction))))
-message_route from to key direction h =
-    elim h.side [
-      | inl s ↦ (h.from_is, ((h.to_is, h.differ), (first_of_two key.initiator.0 from.0 to.0 s.1, (h.number, is_one direction _ (s.0 ∙ sym (ap (λ (t : Bool). cond t 0 1) (ap (λ (k : ℕ). nat_eq k from.0) s.1 ∙ same_is from.0)))))))
-      | inr s ↦
-          let ne : key.initiator.0 ≢ from.0 = subst (λ (k : ℕ). k ≢ from.0) (sym s.1) h.differ in
-          (h.from_is, ((h.to_is, h.differ), (second_of_two key.initiator.0 from.0 to.0 s.1, (h.number, is_one direction _ (s.0 ∙ sym (ap (λ (t : Bool). cond t 0 1) (ne_eqb key.initiator.0 from.0 ne)))))))
+-- said of the sides in the other order
+turned : (first second direction : ℕ) (key : Key) (from to : Party) → LeadsAt first second direction key from to → LeadsAt second first direction key to from
+turned first second direction key from to (inl s) = inr s
+turned first second direction key from to (inr s) = inl s
+
+-- the party of a number
+abbrev party_of : ℕ → Party
+party_of n = record { 0 = n }
+
+-- the number of a party
+abbrev number_of : Party → ℕ
+number_of p = p.0
+
+-- the direction for an initiator that is the first side, and for one that is not
+first_side : (first second from initiator : ℕ) → initiator ≡ from → side first second from initiator ≡ first
+first_side first second from initiator e = ap (λ (t : Bool). cond t first second) (ap (λ (k : ℕ). nat_eq k from) e ∙ same_is from)
+
+second_side : (first second from to initiator : ℕ) → to ≢ from → initiator ≡ to → side first second from initiator ≡ second
+second_side first second from to initiator ne e = ap (λ (t : Bool). cond t first second) (ne_eqb initiator from (subst (λ (k : ℕ). k ≢ from) (sym e) ne))
+
+-- the session that was read
+abbrev key_read : RouteParts → Key
+key_read r = record { initiator = party_of r.1.1.0; number = r.1.1.1.0 }
+
+-- what was read are sides, and a direction of one of them
+sides_read : (first second : ℕ) (r : RouteParts) → RouteWithin first second r → AreSides (party_of r.0) (party_of r.1.0) (key_read r) × LeadsAt first second r.1.1.1.1 (key_read r) (party_of r.0) (party_of r.1.0)
+sides_read first second r h =
+    let d : r.1.1.1.1 ≡ side first second r.0 r.1.1.0 = one_of_one _ _ h.1.1.1.1 in
+    let differ : party_of r.0 ≢ party_of r.1.0 = λ same. h.1.0.1 (sym (ap number_of same)) in
+    elim (one_of_two r.1.1.0 r.0 r.1.0 h.1.1.0) [
+      | inl e ↦
+          (record { from_is = h.0; to_is = h.1.0.0; differ = differ; key_is = (subst (λ (n : ℕ). n < 16) (sym e) h.0, h.1.1.1.0) }, inl (d ∙ first_side first second r.0 r.1.1.0 e, ap party_of (sym e)))
+      | inr e ↦
+          (record { from_is = h.0; to_is = h.1.0.0; differ = differ; key_is = (subst (λ (n : ℕ). n < 16) (sym e) h.1.0.0, h.1.1.1.0) }, inr (d ∙ second_side first second r.0 r.1.0 r.1.1.0 h.1.0.1 e, ap party_of (sym e)))
     ]
 
-ack_route : (from to : Party) (key : Key) (direction : ℕ) → IsRoute from to key direction to from → RouteWithin 1 0 (from.0, (to.0, (key.initiator.0, (key.number, direction))))
-ack_route from to key direction h =
-    elim h.side [
-      | inr s ↦ (h.from_is, ((h.to_is, h.differ), (first_of_two key.initiator.0 from.0 to.0 s.1, (h.number, is_one direction _ (s.0 ∙ sym (ap (λ (t : Bool). cond t 1 0) (ap (λ (k : ℕ). nat_eq k from.0) s.1 ∙ same_is from.0)))))))
+-- sides and a direction of one of them are read
+sides_within : (first second : ℕ) (from to : Party) (key : Key) (direction : ℕ) → AreSides from to key → LeadsAt first second direction key from to → RouteWithin first second (from.0, (to.0, (key.initiator.0, (key.number, direction))))
+sides_within first second from to key direction sides leads =
+    let differ : to.0 ≢ from.0 = λ e. sides.differ (ap party_of (sym e)) in
+    elim leads [
       | inl s ↦
-          let ne : key.initiator.0 ≢ from.0 = subst (λ (k : ℕ). k ≢ from.0) (sym s.1) h.differ in
-          (h.from_is, ((h.to_is, h.differ), (second_of_two key.initiator.0 from.0 to.0 s.1, (h.number, is_one direction _ (s.0 ∙ sym (ap (λ (t : Bool). cond t 1 0) (ne_eqb key.initiator.0 from.0 ne)))))))
+          let e : key.initiator.0 ≡ from.0 = ap number_of (sym s.1) in
+          (sides.from_is, ((sides.to_is, differ), (first_of_two key.initiator.0 from.0 to.0 e, (sides.key_is.1, is_one direction _ (s.0 ∙ sym (first_side first second from.0 key.initiator.0 e))))))
+      | inr s ↦
+          let e : key.initiator.0 ≡ to.0 = ap number_of (sym s.1) in
+          (sides.from_is, ((sides.to_is, differ), (second_of_two key.initiator.0 from.0 to.0 e, (sides.key_is.1, is_one direction _ (s.0 ∙ sym (second_side first second from.0 to.0 key.initiator.0 differ e))))))
     ]
 
 message_from : (f : Frame) → IsFrame f × (frame_kind f ≡ 1) → (p : RouteParts × Rest) × ((RouteWithin 0 1 p.0 × ((p.1.0 < 2 ^ 32) × (((0 < p.1.1.0) × (p.1.1.0 < 2 ^ 63)) × IsBodyAt p.0.1.1.1.1 p.1.0 p.1.1.1))) × (message_of p ≡ f))
 message_from (Message from to key direction seq stamp body) h =
-    (((from.0, (to.0, (key.initiator.0, (key.number, direction)))), (seq, (stamp, body))), ((message_route from to key direction h.0.0, h.0.1), refl))
+    (((from.0, (to.0, (key.initiator.0, (key.number, direction)))), (seq, (stamp, body))), ((sides_within 0 1 from to key direction h.0.0 h.0.1.0, h.0.1.1), refl))
 message_from other h = absurd (omega (arith, h.1))
 
 ack_from : (f : Frame) → IsFrame f × (frame_kind f ≡ 2) → (p : RouteParts × ℕ) × ((RouteWithin 1 0 p.0 × ((0 < p.1) × (p.1 < 2 ^ 32))) × (ack_of p ≡ f))
 ack_from (Ack from to key direction upto) h =
-    (((from.0, (to.0, (key.initiator.0, (key.number, direction)))), upto), ((ack_route from to key direction h.0.0, h.0.1), refl))
+    (((from.0, (to.0, (key.initiator.0, (key.number, direction)))), upto), ((sides_within 1 0 from to key direction h.0.0 (turned 0 1 direction key to from h.0.1.0), h.0.1.1), refl))
 ack_from other h = absurd (omega (arith, h.1))
 
 -- the laws of messages
@@ -212,7 +230,7 @@ pub message_laws : Laws (λ (f : Frame). IsFrame f × (frame_kind f ≡ 1)) fram
 unfolding message_at
 message_laws =
     mapped_laws message_of (both_laws (route_laws 0 1) (λ r hr. both_laws u32_laws (λ q hq. pair_laws stamp_laws (body_laws r.1.1.1.1 q)))) (record {
-      keeps = λ p h. (((route_made 0 1 p.0 h.0 (record { 0 = p.0.0 }) (record { 0 = p.0.1.0 }) (inl (refl, (refl, (refl, refl)))), h.1), refl), refl);
+      keeps = λ p h. let read = sides_read 0 1 p.0 h.0 in (((read.0, (read.1, h.1)), refl), refl);
       from = message_from;
     })
 
@@ -221,7 +239,9 @@ pub ack_laws : Laws (λ (f : Frame). IsFrame f × (frame_kind f ≡ 2)) frame_fi
 unfolding ack_at
 ack_laws =
     mapped_laws ack_of (pair_laws (route_laws 1 0) positive32_laws) (record {
-      keeps = λ p h. (((route_made 1 0 p.0 h.0 (record { 0 = p.0.1.0 }) (record { 0 = p.0.0 }) (inr (refl, (refl, (refl, refl)))), h.1), refl), refl);
+      keeps = λ p h.
+          let read = sides_read 1 0 p.0 h.0 in
+          (((read.0, (turned 1 0 p.0.1.1.1.1 (key_read p.0) (party_of p.0.0) (party_of p.0.1.0) read.1, h.1)), refl), refl);
       from = ack_from;
     })
 

@@ -2,4 +2,5 @@ pub mod Bodies
 pub mod Frames
 pub mod Routes
 pub mod Sessions
+pub mod Rules
 pub mod Sizes

@@ -1,13 +1,11 @@
 -- How many bytes spellings have at most.
-use Rattle.std.proofs.Common.{◌≡◌, ◌+◌, ◌*◌, ◌<◌, ◌≤◌, ◌^◌, ℕ, zero, suc, List, [], ◌∷◌, ◌++◌, length, Option, Some, None, refl, sym, ap, subst, ◌∙◌, length-append, add_comm, arith}
+use Rattle.std.proofs.Common.{◌≡◌, ◌+◌, ◌*◌, ◌<◌, ◌≤◌, ℕ, List, [], ◌∷◌, ◌++◌, length, Option, Some, None, ap, ◌∙◌, length-append, add_comm, arith}
 use Rattle.std.specs.Prelude.{IfSome}
 use Rattle.std.specs.List.{flat_map, AllByRecursion}
 use Rattle.std.specs.Int.{w16, w32, w64}
 use Rattle.std.proofs.lemmas.List.Concat.{flat_map-cons}
 use Rattle.std.proofs.Math.Nat.{suc-mul, mul-le-mul_right}
-use Rattle.net_base.specs.declared.names.StateRef.{StateRef}
 use Rattle.net_base.specs.declared.names.Tag.{Tag}
-use Rattle.net_base.specs.declared.names.Token.{Token}
 use Rattle.net_base.specs.declared.names.Key.{Key}
 use Rattle.net_base.specs.declared.values.Party.{Party}
 use Rattle.net_base.specs.Reading.{number}
@@ -16,33 +14,18 @@ use Rattle.net_base.specs.Fields.{wide16, wide32, wide64}
 use Rattle.net_base.specs.Values.{IsHash, hash, IsParty, party, IsMoment, moment}
 use Rattle.net_base.specs.Names.{IsStateRef, state_ref, IsTag, tag, IsCode, IsToken, token}
 use Rattle.net_base.specs.Parties.{IsPartySet, party_set, members_is, few_members}
-use Rattle.ledger_types.specs.declared.state.StateData.{StateData}
 use Rattle.ledger_types.specs.declared.state.StateData.TheVariants.{Cash, TimeLock, Fact, Iou}
-use Rattle.ledger_types.specs.declared.state.TxState.{TxState}
-use Rattle.ledger_types.specs.declared.tx.Deed.{Deed}
 use Rattle.ledger_types.specs.declared.tx.Deed.TheVariants.{CashIssue, CashExit}
-use Rattle.ledger_types.specs.declared.tx.Command.{Command}
-use Rattle.ledger_types.specs.declared.tx.Window.{Window}
-use Rattle.ledger_types.specs.declared.tx.Tx.{Tx}
-use Rattle.ledger_types.specs.declared.tx.SignedTx.{SignedTx}
-use Rattle.ledger_types.specs.declared.torn.TornPart.{TornPart}
 use Rattle.ledger_types.specs.declared.torn.TornGroup.{TornGroup}
 use Rattle.ledger_types.specs.declared.torn.TornGroup.TheVariants.{Hidden, Shown}
-use Rattle.ledger_types.specs.declared.torn.TornTx.{TornTx}
-use Rattle.ledger_types.specs.declared.notary.Request.{Request}
-use Rattle.ledger_types.specs.declared.notary.ConflictItem.{ConflictItem}
-use Rattle.ledger_types.specs.declared.notary.NotaryAnswer.{NotaryAnswer}
-use Rattle.ledger_types.specs.declared.notary.NotaryAnswer.TheVariants.{Signed, WrongNotary, BadTear, BadRequestTag, Conflict, OutsideWindow}
-use Rattle.ledger_types.specs.declared.value.Value.{Value}
+use Rattle.ledger_types.specs.declared.notary.NotaryAnswer.TheVariants.{Signed, Conflict, OutsideWindow}
 use Rattle.ledger_types.specs.declared.value.Value.TheVariants as v
 use Rattle.ledger_types.specs.States.{IsStateData, state_data, IsTxState, tx_state}
 use Rattle.ledger_types.specs.Txs.{IsDeed, deed, IsCommand, command, IsWindow, window, IsTx, tx, IsTagList, IsSignedTx, signed_tx}
-use Rattle.ledger_types.specs.Torn.{IsTornPart, torn_part, IsTornGroup, shown_of, torn_group, shown_in, AreGroups, IsTornTx, torn_tx}
+use Rattle.ledger_types.specs.Torn.{IsTornPart, torn_part, IsTornGroup, shown_of, torn_group, shown_in, IsTornTx, torn_tx}
 use Rattle.ledger_types.specs.Requests.{IsRequest, request, IsConflictItem, conflict_item, IsNotaryAnswer, notary_answer}
 use Rattle.ledger_types.specs.Values.{IsValue, value}
-use Rattle.session_wire.specs.declared.body.Body.{Body}
 use Rattle.session_wire.specs.declared.body.Body.TheVariants.{Init, Confirm, Reject, Data, Error, End}
-use Rattle.session_wire.specs.declared.frame.Frame.{Frame}
 use Rattle.session_wire.specs.declared.frame.Frame.TheVariants.{Message, Ack}
 use Rattle.session_wire.specs.Bodies.{IsBody, body_text}
 use Rattle.session_wire.specs.Frames.{IsFrame, frame, route_text}
@@ -250,7 +233,7 @@ frame_fits (Message from to key direction seq stamp body) h =
     let parts =
     joined (route_text from to key direction) (number w32 seq ++ (number w64 stamp ++ body_text body)) 8 9824 (route_fits from to key direction)
     (joined (number w32 seq) (number w64 stamp ++ body_text body) 4 9820 (omega (arith, length-number32 seq))
-    (joined (number w64 stamp) (body_text body) 8 9812 (number64_fits stamp) (body_fits body h.1.1.1.0))) in
+    (joined (number w64 stamp) (body_text body) 8 9812 (number64_fits stamp) (body_fits body h.1.1.1.1.0))) in
     omega (arith, parts)
 frame_fits (Ack from to key direction upto) h =
     let parts = joined (route_text from to key direction) (number w32 upto) 8 4 (route_fits from to key direction) (omega (arith, length-number32 upto)) in

@@ -13,15 +13,29 @@ use std::alloc::{AllocError, Global};
 pub enum Body {
     /// Asks the other side to begin a flow of the class, and carries the first value. It is the item 0 from the
     /// initiator.
-    Init { class: u16, first: Value },
+    Init {
+        /// The class of the flow to begin.
+        class: u16,
+        /// What that flow receives first.
+        first: Value,
+    },
     /// The flow was begun. This or `Reject` is the item 0 to the initiator.
     Confirm,
-    /// No flow was begun, for this reason.
-    Reject { code: u16 },
+    /// No flow was begun.
+    Reject {
+        /// The reason, by its code.
+        code: u16,
+    },
     /// A value for the other side's flow.
-    Data { value: Value },
-    /// The flow failed with this code.
-    Error { code: u16 },
+    Data {
+        /// What that flow receives.
+        value: Value,
+    },
+    /// The flow failed.
+    Error {
+        /// The reason, by its code.
+        code: u16,
+    },
     /// The flow ended.
     End,
 }
@@ -123,7 +137,11 @@ impl Spelt for Body {
 }
 
 impl Body {
-    /// An equal item. The only error is want of memory.
+    /// An equal item.
+    ///
+    /// # Errors
+    ///
+    /// Want of memory.
     pub fn copy(&self, alloc: Global) -> Result<Body, AllocError>
         ensures { IfOk result (λ body. body ≡ self.now) }
     {

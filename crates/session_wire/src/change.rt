@@ -6,10 +6,13 @@ use net_base::{Key, ListOf, Party};
 /// An item that a transition sends: the `seq`-th of its direction, counted from 0.
 #[derive(Debug, Drop)]
 pub struct SentItem {
+    /// The session in which it is sent.
     pub key: Key,
     /// 0 from the session's initiator, 1 to it.
     pub direction: u8,
+    /// The number of the item among those of its direction, from 0.
     pub seq: u32,
+    /// What it says.
     pub body: Body,
 }
 

@@ -22,21 +22,30 @@ pub enum Frame {
     /// An item of a session. Initiator, session number, direction and sequence number together name the item, so that
     /// a repeated frame is known again.
     Message {
+        /// The node that sends it.
         from: Party,
+        /// The node that it is for.
         to: Party,
+        /// The session.
         key: Key,
+        /// 0 where `from` is the session's initiator, 1 where `to` is.
         direction: u8,
         /// The number of the item among those of its direction, from 0.
         seq: u32,
         /// The logical stamp of the transition that sent it, 1 to 2^63 - 1.
         stamp: u64,
+        /// What the item says.
         body: Body,
     },
     /// Says that items of a direction arrived. It goes against that direction.
     Ack {
+        /// The node at which they arrived.
         from: Party,
+        /// The node that sent them.
         to: Party,
+        /// The session.
         key: Key,
+        /// The direction of the items: 0 where `to` is the session's initiator, 1 where `from` is.
         direction: u8,
         /// How many items arrived, at least 1.
         upto: u32,
@@ -177,7 +186,11 @@ impl Spelt for Frame {
 }
 
 impl Frame {
-    /// The frame's spelling, at most `FRAME_LIMIT` bytes. The only error is want of memory.
+    /// The frame's spelling, at most `FRAME_LIMIT` bytes.
+    ///
+    /// # Errors
+    ///
+    /// Want of memory.
     #[tactic(auto, using(crate::specs::Sizes::frame_fits))]
     pub fn encode(&self, alloc: Global) -> Result<ByteList, AllocError>
         requires { IsFrame self.now }
@@ -189,9 +202,13 @@ impl Frame {
         Ok(out.into_bytes())
     }
 
-    /// The frame whose spelling the bytes are. `Malformed { at }` comes exactly where the bytes as a whole are no
-    /// frame's spelling, and `at` is the first place at which no frame's spelling can go on: the end of bytes that stop
-    /// too early, and a frame's length where bytes follow it.
+    /// The frame whose spelling the bytes are.
+    ///
+    /// # Errors
+    ///
+    /// `Malformed { at }` exactly where the bytes as a whole are no frame's spelling, and `Memory`. `at` is the first place
+    /// at which no frame's spelling can go on: the end of bytes that stop too early, and a frame's length where bytes
+    /// follow it.
     #[tactic(auto, using(crate::specs::Sizes::frame_fits))]
     pub fn decode(alloc: Global, bytes: &[u8]) -> Result<Frame, DecodeFault>
         ensures whole { DecodesWhole IsFrame frame result bytes.now }
