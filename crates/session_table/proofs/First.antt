@@ -1,5 +1,5 @@
 -- The first sessions of party 0, with party 1.
-use Rattle.std.proofs.Common.{ℕ, List, [], ◌∷◌, Some, None, refl, arith}
+use Rattle.std.proofs.Common.{ℕ, List, [], ◌∷◌, Some, None, refl}
 use Rattle.net_base.specs.declared.names.Key.{Key}
 use Rattle.net_base.specs.declared.values.Party.{Party}
 use Rattle.ledger_types.specs.declared.value.Value.TheVariants.{Number}
@@ -29,7 +29,7 @@ first_change sent = record { opened = Some (key, peer); owner = 5; sent = sent; 
 pub fits_first : (stamp : ℕ) → IsFitting me stamp [] (first_change first_sent)
 fits_first stamp = record {
   came = tt;
-  opened = record { own = refl; next = refl; other = λ e. omega (arith, e); init = refl };
+  opened = record { next = refl; other = refl; init = refl };
   sent = (record { session = new_session key peer (Some 5) []; stands = refl; outgoing = refl; next = refl; lawful = refl }, tt);
   taken = tt;
 }
@@ -51,7 +51,7 @@ second_change sent = record { opened = Some (next_key, peer); owner = 5; sent = 
 pub fits_second : (stamp : ℕ) → IsFitting me stamp (first_session ∷ []) (second_change second_sent)
 fits_second stamp = record {
   came = tt;
-  opened = record { own = refl; next = refl; other = λ e. omega (arith, e); init = refl };
+  opened = record { next = refl; other = refl; init = refl };
   sent = (record { session = new_session next_key peer (Some 5) []; stands = refl; outgoing = refl; next = refl; lawful = refl }, (record { session = first_session; stands = refl; outgoing = refl; next = refl; lawful = refl }, tt));
   taken = tt;
 }

@@ -9,7 +9,7 @@ use Rattle.net_base.specs.declared.names.Key.{Key}
 use Rattle.net_base.specs.declared.values.Party.{Party}
 use Rattle.session_wire.specs.Sessions.{Session, key_eq, session_of, next_item, first_item}
 use Rattle.session_wire.specs.declared.body.Body.{Body}
-use Rattle.session_table.specs.Changes.{is_opened_by, opened_by}
+use Rattle.session_wire.specs.Rules.{is_opened_by, opened_by}
 use Rattle.session_table.specs.Kept.{session_at, is_below, items_of, IsCounted}
 use Rattle.session_table.specs.Tables.{item_there}
 use Rattle.session_table.specs.declared.standing.Standing.{Standing}

@@ -1,4 +1,6 @@
+pub mod Few
 pub mod First
+pub mod Fitting
 pub mod Found
 pub mod Gathering
 pub mod Items

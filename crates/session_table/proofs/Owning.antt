@@ -9,7 +9,7 @@ use Rattle.session_wire.specs.declared.body.Body.{Body}
 use Rattle.session_wire.specs.Sessions.{Session, key_eq}
 use Rattle.session_table.specs.Kept.{session_at, owner_of, Rewrites}
 use Rattle.session_table.specs.Owned.{flow_place, flow_place_eq, pair_of, keys_owned, IsFlowIndex, owner_pair, owners}
-use Rattle.session_table.specs.Tables.{is_owner, sessions_of}
+use Rattle.session_wire.specs.Rules.{is_owner, sessions_of}
 use Rattle.session_table.specs.declared.owned.FlowPlace.{FlowPlace}
 use Rattle.session_table.specs.declared.standing.Standing.{Standing}
 use Rattle.session_table.specs.declared.standing.Place.{Place}

@@ -6,7 +6,7 @@ use Rattle.net_base.specs.declared.names.Key.{Key}
 use Rattle.net_base.specs.declared.values.Party.{Party}
 use Rattle.session_wire.specs.declared.body.Body.{Body}
 use Rattle.session_wire.specs.Sessions.{key_eq}
-use Rattle.session_table.specs.Changes.{direction_out}
+use Rattle.session_wire.specs.Rules.{direction_out}
 use Rattle.session_table.specs.Kept.{session_at, acked_to, Rewrites}
 use Rattle.session_table.specs.Tables.{raised}
 use Rattle.session_table.specs.declared.standing.Standing.{Standing}

@@ -8,14 +8,15 @@ use Rattle.net_base.specs.declared.names.Key.{Key}
 use Rattle.net_base.specs.declared.values.Party.{Party}
 use Rattle.session_wire.specs.declared.body.Body.{Body}
 use Rattle.session_wire.specs.Sessions.{Session, key_eq, session_of, changed_at, new_session, with_came, with_sent, ending_at, ending_of, sent_on}
-use Rattle.session_table.specs.Changes.{is_opened_by, opened_by, is_init, came_on, FitsCame, FitsOpened, acks_of_came, acks_of_opened}
+use Rattle.session_wire.specs.Rules.{is_opened_by, opened_by, next_key, is_init}
+use Rattle.session_table.specs.Changes.{came_on, FitsCame, FitsOpened, acks_of_came, acks_of_opened}
 use Rattle.session_wire.specs.declared.change.SessionChange.{SessionChange}
 use Rattle.session_wire.specs.declared.change.SentItem.{SentItem}
 use Rattle.session_table.specs.Kept.{is_below, items_of, place_of, sent_of, session_at, IsCounted, Rewrites, one_came, one_sent}
 use Rattle.session_table.specs.declared.standing.Standing.{Standing}
 use Rattle.session_table.specs.declared.standing.Place.{Place}
 use Rattle.session_table.specs.declared.standing.Posted.{Posted}
-use Rattle.session_table.proofs.Found.{present, count_is, own_new, session_found, key_same, key_exact}
+use Rattle.session_table.proofs.Found.{nat_same, present, count_is, own_new, session_found, key_same, key_exact}
 use Rattle.session_table.proofs.Written.{written, map_set}
 use Rattle.session_table.proofs.Items.{items_more}
 
@@ -230,10 +231,14 @@ opened_came me change (Some key) (Some body) owner list fits = by (is_init body)
     by true is = let a = fits.begins is in rw is (opened_other me list (new_session key key.initiator owner (body ∷ [])) a.other)
     by false is = rw is (opened_same me key (with_came (body ∷ [])) (λ s. refl) list)
 
+-- the session that a party opens next is its own
+pub own_key : (me : Party) (list : List Session) (k : Key) → k ≡ next_key me list → is_opened_by me k ≡ true
+own_key me list k next = ap (is_opened_by me) next ∙ nat_same me.0
+
 -- where no session is opened that is to be, none is taken for that
 pub opens_next : (me : Party) (list after : List Session) (sent : List SentItem) (opened : Option (Key × Party)) → opened_by me after ≡ opened_by me list → FitsOpened me list sent opened → FitsOpened me after sent opened
 opens_next me list after sent None same fits = tt
-opens_next me list after sent (Some opened) same fits = record { own = fits.own; next = fits.next ∙ sym same; other = fits.other; init = fits.init }
+opens_next me list after sent (Some opened) same fits = record { next = fits.next ∙ ap (λ (n : ℕ). record { initiator = me; number = n }) (sym same); other = fits.other; init = fits.init }
 
 pub nil_end : {V : Type 0} (xs : List V) → xs ++ [] ≡ xs
 nil_end [] = refl

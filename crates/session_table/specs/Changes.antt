@@ -1,40 +1,13 @@
 -- Which changes of a node's sessions a transition may make, and what they make of the sessions.
-use Rattle.std.specs.Prelude.{◌≡◌, ◌≢◌, ℕ, ◌+◌, ◌≤◌, ◌==◌, ◌&&◌, nat_eq, List, [], ◌∷◌, ◌++◌, Option, Some, None, Bool, true, false, ⊤, if◌then◌else◌, filter, length}
-use Rattle.std.specs.List.{list_any}
+use Rattle.std.specs.Prelude.{◌≡◌, ℕ, ◌+◌, ◌&&◌, List, [], ◌∷◌, ◌++◌, Option, Some, None, Bool, true, false, ⊤, if◌then◌else◌, filter, length}
 use Rattle.std.specs.Option.{option_map_or}
 use Rattle.net_base.specs.declared.names.Key.{Key}
 use Rattle.net_base.specs.declared.values.Party.{Party}
-use Rattle.session_wire.specs.Bodies.{body_kind, kinds_at}
 use Rattle.session_wire.specs.Sessions.{Session, key_eq, session_of, changed_at, new_session, with_came, opened_on, sent_on, taken_on, is_confirm}
+use Rattle.session_wire.specs.Rules.{is_opened_by, direction_in, is_init, is_lawful, OpensNext, FitsSent, FitsTaken}
 use Rattle.session_wire.specs.declared.body.Body.{Body}
-use Rattle.session_wire.specs.declared.body.Body.TheVariants as body_of
 use Rattle.session_wire.specs.declared.change.SentItem.{SentItem}
 use Rattle.session_wire.specs.declared.change.SessionChange.{SessionChange}
-
--- whether a party opened the session of this key
-abbrev pub is_opened_by : Party → Key → Bool
-is_opened_by me key = key.initiator.0 == me.0
-
--- how many of these sessions the node opened
-abbrev pub opened_by : Party → List Session → ℕ
-opened_by me sessions = length (filter (λ s. is_opened_by me s.key) sessions)
-
--- the direction of what a node sends in a session: 0 where it opened the session, else 1
-abbrev pub direction_out : Party → Key → ℕ
-direction_out me key = if is_opened_by me key then 0 else 1
-
--- the direction of what arrives there
-abbrev pub direction_in : Party → Key → ℕ
-direction_in me key = if is_opened_by me key then 1 else 0
-
--- whether an item asks the other side to begin a flow
-abbrev pub is_init : Body → Bool
-is_init (body_of.Init class first) = true
-is_init _ = false
-
--- whether an item is lawful at a direction and a number
-abbrev pub is_lawful : ℕ → ℕ → Body → Bool
-is_lawful direction number body = list_any (λ k. nat_eq k (body_kind body)) (kinds_at direction number)
 
 -- ---- the item that is accepted
 
@@ -84,17 +57,6 @@ came_on None None owner sessions = sessions
 
 -- ---- the session that is opened
 
--- whether an item is the Init of the session
-abbrev pub is_init_of : Key → SentItem → Bool
-is_init_of key item = key_eq key item.key && ((item.direction == 0) && ((item.seq == 0) && is_init item.body))
-
--- the session is the node's next one, with another party, and its Init is sent
-pub record OpensNext (me : Party) (sessions : List Session) (sent : List SentItem) (key : Key) (peer : Party) : Type 0 where
-  pub own : is_opened_by me key ≡ true
-  pub next : key.number ≡ opened_by me sessions
-  pub other : peer.0 ≢ me.0
-  pub init : list_any (is_init_of key) sent ≡ true
-
 -- the session that is opened fits, if there is one
 abbrev pub FitsOpened : Party → List Session → List SentItem → Option (Key × Party) → Type 0
 FitsOpened me sessions sent None = ⊤
@@ -103,33 +65,6 @@ FitsOpened me sessions sent (Some opened) = OpensNext me sessions sent opened.0 
 -- the sessions once an item was accepted and a session opened
 abbrev pub begun_on : SessionChange → List Session → List Session
 begun_on change sessions = opened_on change.opened (Some change.owner) (came_on change.came_key change.came (answered_for change.owner change.sent) sessions)
-
--- ---- the items that are sent, and those that are taken
-
--- the item is the next one that the node sends in its session, and lawful there
-pub record Continues (me : Party) (item : SentItem) (sessions : List Session) : Type 0 where
-  pub session : Session
-  pub stands : session_of item.key sessions ≡ Some session
-  pub outgoing : item.direction ≡ direction_out me item.key
-  pub next : item.seq ≡ length session.sent
-  pub lawful : is_lawful item.direction item.seq item.body ≡ true
-
--- the items that are sent fit, one after the other
-abbrev pub FitsSent : Party → ℕ → List Session → List SentItem → Type 0
-FitsSent me stamp sessions [] = ⊤
-FitsSent me stamp sessions (item ∷ items) = Continues me item sessions × FitsSent me stamp (sent_on stamp (item ∷ []) sessions) items
-
--- n items of the session may be taken: no fewer than were, and no more than arrived
-pub record TakesUpTo (sessions : List Session) (key : Key) (n : ℕ) : Type 0 where
-  pub session : Session
-  pub stands : session_of key sessions ≡ Some session
-  pub above : session.taken ≤ n
-  pub below : n ≤ length session.came
-
--- the new number of taken items fits, if there is one
-abbrev pub FitsTaken : List Session → Option (Key × ℕ) → Type 0
-FitsTaken sessions None = ⊤
-FitsTaken sessions (Some taken) = TakesUpTo sessions taken.0 taken.1
 
 -- ---- the whole change
 
@@ -164,6 +99,26 @@ acks_after change acked = (acked ++ acks_of_came change.came_key change.came) ++
 abbrev pub arrived_in : Option Key → List Session → ℕ
 arrived_in None sessions = 0
 arrived_in (Some key) sessions = option_map_or (λ s. length s.came) (session_of key sessions) 0
+
+-- whether an Init that is accepted makes the session of this key
+abbrev pub is_answered : Key → Option Key → Option Body → Bool
+is_answered key (Some other) (Some body) = key_eq key other && is_init body
+is_answered key None (Some body) = false
+is_answered key (Some other) None = false
+is_answered key None None = false
+
+-- whether the session of this key is the one that is opened
+abbrev pub is_opened : Key → Option (Key × Party) → Bool
+is_opened key None = false
+is_opened key (Some opened) = key_eq key opened.0
+
+-- how many items of a session were taken, and how many arrived
+abbrev pub taken_and_came : Session → ℕ × ℕ
+taken_and_came s = (s.taken, length s.came)
+
+-- how many of the items are of the session of this key
+abbrev pub count_of : Key → List SentItem → ℕ
+count_of key items = length (filter (λ item. key_eq key item.key) items)
 
 -- how much room a change may take: two sessions are made and one item is accepted at most
 abbrev pub room_for : SessionChange → ℕ

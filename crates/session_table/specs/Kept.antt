@@ -7,7 +7,7 @@ use Rattle.net_base.specs.declared.names.Key.{Key}
 use Rattle.net_base.specs.declared.values.Party.{Party}
 use Rattle.session_wire.specs.Sessions.{Session, Sent, key_eq}
 use Rattle.session_wire.specs.declared.body.Body.{Body}
-use Rattle.session_table.specs.Changes.{is_opened_by}
+use Rattle.session_wire.specs.Rules.{is_opened_by}
 use Rattle.session_table.specs.declared.standing.Standing.{Standing}
 use Rattle.session_table.specs.declared.standing.Place.{Place}
 use Rattle.session_table.specs.declared.standing.Posted.{Posted}

@@ -1,12 +1,12 @@
 -- What contracts see of a node's sessions, and what is asked of them.
-use Rattle.std.specs.Prelude.{ℕ, ◌==◌, ◌&&◌, ◌+◌, List, [], ◌∷◌, Option, Some, None, Bool, false, if◌then◌else◌, max, option_map, length, filter, slice_get, nat_le, zip, flat_map}
+use Rattle.std.specs.Prelude.{ℕ, ◌==◌, ◌&&◌, ◌+◌, List, [], ◌∷◌, Option, None, if◌then◌else◌, max, option_map, length, filter, slice_get, nat_le, zip, flat_map}
 use Rattle.std.specs.Borrow.{Bor}
 use Rattle.std.specs.Option.{option_and_then, option_map_or}
 use Rattle.net_base.specs.declared.names.Key.{Key}
 use Rattle.net_base.specs.declared.values.Party.{Party}
 use Rattle.session_wire.specs.Sessions.{Session, Sent, key_eq, session_of, next_item}
+use Rattle.session_wire.specs.Rules.{direction_out, direction_in, sessions_of}
 use Rattle.session_wire.specs.declared.body.Body.{Body}
-use Rattle.session_table.specs.Changes.{direction_out, direction_in}
 use Rattle.session_table.specs.declared.resent.Item.{Item}
 
 -- what contracts see of a node's sessions
@@ -37,15 +37,6 @@ raised me key direction upto (s ∷ ss) (n ∷ ns) = (if key_eq key s.key && (di
 -- a number and what is referred to
 abbrev pub numbered : ℕ × Bor Body → ℕ × Body
 numbered p = (p.0, p.1.now)
-
--- whether the flow owns a session of this owner
-abbrev pub is_owner : ℕ → Option ℕ → Bool
-is_owner flow None = false
-is_owner flow (Some owner) = flow == owner
-
--- the sessions of a flow, in order of making
-abbrev pub sessions_of : ℕ → List Session → List Session
-sessions_of flow sessions = filter (λ s. is_owner flow s.owner) sessions
 
 -- the key of a flow's n-th session, counted from 0
 abbrev pub of_flow : ℕ → ℕ → List Session → Option Key

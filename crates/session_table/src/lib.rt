@@ -2,6 +2,7 @@
 //! framework", "Flow sessions"). A session is found by its key, and sessions are kept in order of making.
 #![tactic(auto)]
 
+mod fits;
 mod lines;
 mod owned;
 mod resent;

@@ -79,6 +79,13 @@ impl Owned {
         self.keys.get(&FlowPlace { flow, number }).copied()
     }
 
+    /// How many sessions the flow owns.
+    pub(crate) fn count(&self, flow: u32) -> u32
+        ensures { result ≡ length (keys_owned flow self.now.list) }
+    {
+        self.counts.get(&flow).copied().unwrap_or(0)
+    }
+
     /// Makes room for so many sessions. Want of memory leaves all as it was.
     pub(crate) fn make_room(&mut self, sessions: usize) -> Result<(), AllocError>
         ensures list { self.new.list ≡ self.old.list }

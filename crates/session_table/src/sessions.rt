@@ -4,7 +4,8 @@ ghost use Rattle.std.specs.Prelude.{◌≡◌, ◌<◌, ◌≤◌, ◌+◌, ◌-
 ghost use Rattle.std.specs.List.{list_all};
 ghost use Rattle.std.specs.Option.{option_and_then};
 ghost use Rattle.session_wire.specs.Sessions.{Session, session_of, changed_at, new_session, with_came, with_sent, with_taken, opened_on, sent_on, taken_on, next_item, first_item, ending_at};
-ghost use Rattle.session_table.specs.Changes.{is_opened_by, opened_by, direction_out, direction_in, is_init, IsFitting, Continues, FitsCame, FitsOpened, FitsSent, FitsTaken, AcceptsItem, answered_for, came_on, changed_by, acks_of_came, acks_of_opened, acks_after, arrived_in, room_for};
+ghost use Rattle.session_wire.specs.Rules.{is_opened_by, opened_by, direction_out, direction_in, is_init, Continues, FitsSent, FitsTaken, sessions_of};
+ghost use Rattle.session_table.specs.Changes.{IsFitting, FitsCame, FitsOpened, AcceptsItem, answered_for, came_on, changed_by, acks_of_came, acks_of_opened, acks_after, arrived_in, room_for, taken_and_came};
 ghost use Rattle.session_wire.specs.declared.change.SessionChange.{SessionChange as Change};
 ghost use Rattle.net_base.specs.declared.names.Key.{Key as SessionKey};
 ghost use Rattle.session_wire.specs.declared.change.SentItem.{SentItem as Sending};
@@ -69,6 +70,13 @@ impl Sessions {
         }
     }
 
+    /// The node's party.
+    pub(crate) fn party(&self) -> Party
+        ensures { result ≡ self.now.party }
+    {
+        self.party
+    }
+
     /// The number of the next session that this node opens: how many it opened.
     pub fn next_number(&self) -> u32
         ensures { result ≡ opened_by self.now.party self.now.list }
@@ -97,11 +105,26 @@ impl Sessions {
         Some(self.lines.get(key)?.sent)
     }
 
+    /// How many items arrived in the session.
+    pub(crate) fn arrived(&self, key: &Key) -> Option<u32>
+        ensures { result ≡ option_map (λ s. length s.came) (session_of key.now self.now.list) }
+    {
+        Some(self.lines.get(key)?.came)
+    }
+
     /// How many of the items that arrived in the session were taken.
     pub fn taken(&self, key: &Key) -> Option<u32>
         ensures { result ≡ option_map (λ s. s.taken) (session_of key.now self.now.list) }
     {
         Some(self.lines.get(key)?.taken)
+    }
+
+    /// How many items of the session were taken, and how many arrived.
+    pub(crate) fn taken_and_came(&self, key: &Key) -> Option<(u32, u32)>
+        ensures { result ≡ option_map taken_and_came (session_of key.now self.now.list) }
+    {
+        let standing = self.lines.get(key)?;
+        Some((standing.taken, standing.came))
     }
 
     /// The number of the item that is expected next: how many arrived in the session. `None` where there is no such
@@ -116,7 +139,7 @@ impl Sessions {
     }
 
     /// The direction of what this node sends in the session.
-    fn outgoing(&self, key: &Key) -> u8
+    pub(crate) fn outgoing(&self, key: &Key) -> u8
         ensures { result ≡ direction_out self.now.party key.now }
     {
         if key.initiator.0 == self.party.0 {
@@ -127,7 +150,7 @@ impl Sessions {
     }
 
     /// The direction of what arrives in the session.
-    fn incoming(&self, key: &Key) -> u8
+    pub(crate) fn incoming(&self, key: &Key) -> u8
         ensures { result ≡ direction_in self.now.party key.now }
     {
         if key.initiator.0 == self.party.0 {
@@ -163,6 +186,13 @@ impl Sessions {
         ensures { result ≡ of_flow flow k self.now.list }
     {
         self.owned.get(flow, k)
+    }
+
+    /// How many sessions the flow owns. It is looked up, whatever the table holds.
+    pub fn count_of_flow(&self, flow: u32) -> u32
+        ensures { result ≡ length (sessions_of flow self.now.list) }
+    {
+        self.owned.count(flow)
     }
 
     /// The first item that arrived, isn't taken and isn't a `Confirm`, with its number. A `Confirm` is the first item

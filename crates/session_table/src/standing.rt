@@ -2,7 +2,7 @@
 
 ghost use Rattle.std.specs.Prelude.{◌≡◌};
 ghost use Rattle.session_wire.specs.Sessions.{ending_of, is_confirm};
-ghost use Rattle.session_table.specs.Changes.{is_init};
+ghost use Rattle.session_wire.specs.Rules.{is_init, is_lawful, is_opened_by};
 
 use net_base::{Key, Party};
 use session_wire::Body;
@@ -56,6 +56,25 @@ pub(crate) fn is_init(body: &Body) -> bool
     ensures { result ≡ is_init body.now }
 {
     matches!(body, Body::Init { .. })
+}
+
+/// Whether an item may stand at a number of a direction: `Init` at the first of all, `Confirm` or `Reject` at the first of the
+/// answers, all else behind them.
+pub(crate) fn is_lawful(direction: u8, number: u32, body: &Body) -> bool
+    ensures { result ≡ is_lawful direction number body.now }
+{
+    match body {
+        Body::Init { .. } => direction == 0 && number == 0,
+        Body::Confirm | Body::Reject { .. } => direction == 1 && number == 0,
+        Body::Data { .. } | Body::Error { .. } | Body::End => number != 0,
+    }
+}
+
+/// Whether the party opened the session of this key.
+pub(crate) fn is_opened_by(party: Party, key: &Key) -> bool
+    ensures { result ≡ is_opened_by party key.now }
+{
+    key.initiator.0 == party.0
 }
 
 /// Whether the item says that the flow was begun.

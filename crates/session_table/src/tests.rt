@@ -1,5 +1,8 @@
-//! A table without sessions, one whose only session was opened, and one of two sessions.
+//! A table without sessions, one whose only session was opened, one of two sessions, and changes of a session from either side.
 
+mod accepting;
+mod changing;
+mod fitting;
 mod opening;
 mod resending;
 

@@ -92,31 +92,74 @@ pub(super) fn acknowledge(sessions: &mut Sessions, direction: u8)
     }
 }
 
+/// What is seen of the opened session.
+#[derive(Clone, Copy)]
+struct Seen {
+    number: u32,
+    peer: Option<Party>,
+    owner: Option<u32>,
+    sent: Option<u32>,
+    taken: Option<u32>,
+    expected: Option<u32>,
+    place: Option<u32>,
+    first: Option<Key>,
+    second: Option<Key>,
+    of_other: Option<Key>,
+}
+
+/// What is seen of the session once it is opened.
+fn see(alloc: Global) -> Result<Seen, AllocError> {
+    let sessions = opened(alloc)?;
+    let seen = Seen {
+        number: sessions.next_number(),
+        peer: sessions.peer(&KEY),
+        owner: sessions.owner(&KEY),
+        sent: sessions.sent(&KEY),
+        taken: sessions.taken(&KEY),
+        expected: sessions.expected(&KEY, 1),
+        place: sessions.item_place(&KEY),
+        first: sessions.of_flow(5, 0),
+        second: sessions.of_flow(5, 1),
+        of_other: sessions.of_flow(4, 0),
+    };
+    std::mem::forget(sessions);
+    Ok(seen)
+}
+
+/// What isn't acknowledged at first, after an acknowledgement of the other direction, and after one of the session's own.
+fn list_thrice(alloc: Global) -> Result<((usize, bool), (usize, bool), (usize, bool)), AllocError> {
+    let mut sessions = opened(alloc)?;
+    let first = unacked(alloc, &sessions);
+    acknowledge(&mut sessions, 1);
+    let second = unacked(alloc, &sessions);
+    acknowledge(&mut sessions, 0);
+    let third = unacked(alloc, &sessions);
+    std::mem::forget(sessions);
+    Ok((first?, second?, third?))
+}
+
 #[test]
 fn an_opened_session_is_there(rt: HostRuntime) -> Result<(), Fail> {
-    let sessions = opened(rt.alloc())?;
-    assert_eq!(rt; sessions.next_number(), 1);
-    assert_eq!(rt; sessions.peer(&KEY), Some(Party(1)));
-    assert_eq!(rt; sessions.owner(&KEY), Some(5));
-    assert_eq!(rt; sessions.sent(&KEY), Some(1));
-    assert_eq!(rt; sessions.taken(&KEY), Some(0));
-    assert_eq!(rt; sessions.expected(&KEY, 1), Some(0));
-    assert_eq!(rt; sessions.item_place(&KEY), None);
-    assert_eq!(rt; sessions.of_flow(5, 0), Some(KEY));
-    assert_eq!(rt; sessions.of_flow(5, 1), None);
-    assert_eq!(rt; sessions.of_flow(4, 0), None);
+    let seen = see(rt.alloc())?;
+    assert_eq!(rt; seen.number, 1);
+    assert_eq!(rt; seen.peer, Some(Party(1)));
+    assert_eq!(rt; seen.owner, Some(5));
+    assert_eq!(rt; seen.sent, Some(1));
+    assert_eq!(rt; seen.taken, Some(0));
+    assert_eq!(rt; seen.expected, Some(0));
+    assert_eq!(rt; seen.place, None);
+    assert_eq!(rt; seen.first, Some(KEY));
+    assert_eq!(rt; seen.second, None);
+    assert_eq!(rt; seen.of_other, None);
     Ok(())
 }
 
 /// An acknowledgement counts in the direction in which the item was sent alone.
 #[test]
 fn an_acknowledged_item_is_not_listed(rt: HostRuntime) -> Result<(), Fail> {
-    let mut sessions = opened(rt.alloc())?;
-    assert_eq!(rt; unacked(rt.alloc(), &sessions)?, (1, true));
-    acknowledge(&mut sessions, 1);
-    assert_eq!(rt; unacked(rt.alloc(), &sessions)?, (1, true));
-    acknowledge(&mut sessions, 0);
-    assert_eq!(rt; unacked(rt.alloc(), &sessions)?, (0, false));
-    assert_eq!(rt; sessions.sent(&KEY), Some(1));
+    let (first, second, third) = list_thrice(rt.alloc())?;
+    assert_eq!(rt; first, (1, true));
+    assert_eq!(rt; second, (1, true));
+    assert_eq!(rt; third, (0, false));
     Ok(())
 }

@@ -2,7 +2,7 @@ use Rattle.std.proofs.Common.{◌≡◌, ℕ, ◌+◌, ◌<◌, sym, ◌∙◌, 
 use Rattle.std.proofs.lemmas.List.{length-map}
 use Rattle.std.specs.Option.{option_map_or}
 use Rattle.session_wire.specs.Sessions.{Session, session_of, with_came, new_session, changed_at}
-use Rattle.session_table.specs.Changes.{is_init}
+use Rattle.session_wire.specs.Rules.{is_init}
 use Rattle.session_table.proofs.Stepping.{came_begun, stands_begun, nil_end}
 use Rattle.session_table.proofs.sessions.Sessions.accept_item.Goals as goal
 

@@ -1,6 +1,6 @@
 use Rattle.std.proofs.Common.{◌≡◌, ◌==◌, sym, ◌∙◌, ap, refl, true, false, eq-eqb}
 use Rattle.std.proofs.lemmas.Bool.{ne_eqb}
-use Rattle.session_table.specs.Changes.{direction_out}
+use Rattle.session_wire.specs.Rules.{direction_out}
 use Rattle.session_table.specs.Kept.{acked_to}
 use Rattle.session_table.specs.Tables.{raised}
 use Rattle.session_table.proofs.Keeping.{kept_same}

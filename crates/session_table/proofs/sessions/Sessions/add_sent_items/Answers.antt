@@ -2,7 +2,7 @@ use Rattle.std.proofs.Common.{◌≡◌, sym, ◌∙◌, ap, arith, Some, slice_
 use Rattle.std.proofs.lemmas.List.{length-map}
 use Rattle.std.specs.Prelude.{option_copied}
 use Rattle.session_wire.specs.Sessions.{Session}
-use Rattle.session_table.specs.Changes.{direction_out}
+use Rattle.session_wire.specs.Rules.{direction_out}
 use Rattle.session_table.specs.Kept.{items_of, sent_of}
 use Rattle.session_table.specs.Tables.{item_of}
 use Rattle.session_table.specs.declared.resent.Item.{Item}

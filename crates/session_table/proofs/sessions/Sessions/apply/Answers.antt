@@ -2,7 +2,8 @@ use Rattle.std.proofs.Common.{◌≡◌, ℕ, sym, ◌∙◌, ap, subst, arith, 
 use Rattle.net_base.specs.declared.names.Key.{Key}
 use Rattle.net_base.specs.declared.values.Party.{Party}
 use Rattle.session_wire.specs.Sessions.{Session, session_of, opened_on, sent_on, taken_on}
-use Rattle.session_table.specs.Changes.{opened_by, came_on, acks_of_opened, FitsOpened, FitsSent, FitsTaken, begun_on, answered_for}
+use Rattle.session_wire.specs.Rules.{opened_by, FitsSent, FitsTaken}
+use Rattle.session_table.specs.Changes.{came_on, acks_of_opened, FitsOpened, begun_on, answered_for}
 use Rattle.session_table.proofs.Stepping.{opened_came, opens_next, few_acks, few_opened, stands_sent}
 use Rattle.session_table.proofs.sessions.Sessions.apply.Goals as goal
 

@@ -3,7 +3,7 @@ use Rattle.std.proofs.lemmas.List.{length-map, map-append}
 use Rattle.std.specs.Map.{keys_of}
 use Rattle.net_base.specs.declared.names.Key.{Key}
 use Rattle.session_wire.specs.Sessions.{Session, new_session}
-use Rattle.session_table.specs.Changes.{is_opened_by, opened_by}
+use Rattle.session_wire.specs.Rules.{is_opened_by, opened_by}
 use Rattle.session_table.specs.Kept.{session_at, IsKept}
 use Rattle.session_table.specs.declared.standing.Standing.{Standing}
 use Rattle.session_table.proofs.Found.{opened_keys}

@@ -1,7 +1,7 @@
 use Rattle.std.proofs.Common.{◌≡◌, sym, ◌∙◌, ap, Some, option_map, length}
 use Rattle.std.proofs.Common.{◌==◌, true, false, eq-eqb, refl}
 use Rattle.std.proofs.lemmas.Bool.{ne_eqb}
-use Rattle.session_table.specs.Changes.{direction_in}
+use Rattle.session_wire.specs.Rules.{direction_in}
 use Rattle.session_table.proofs.Found.{absent, present, count_is}
 use Rattle.session_table.proofs.sessions.Sessions.expected.Goals as goal
 

@@ -1,5 +1,5 @@
 use Rattle.std.proofs.Common.{sym, ◌∙◌, ap}
-use Rattle.session_table.specs.Changes.{opened_by}
+use Rattle.session_wire.specs.Rules.{opened_by}
 use Rattle.session_table.proofs.Found.{opened_keys}
 use Rattle.session_table.proofs.sessions.Sessions.next_number.Goals as goal
 

@@ -3,7 +3,8 @@ use Rattle.std.proofs.lemmas.Option.{slice_get-map}
 use Rattle.session_wire.specs.Sessions.{Session}
 use Rattle.session_table.specs.Owned.{keys_owned}
 use Rattle.session_table.specs.Kept.{session_at}
-use Rattle.session_table.specs.Tables.{of_flow, sessions_of}
+use Rattle.session_wire.specs.Rules.{sessions_of}
+use Rattle.session_table.specs.Tables.{of_flow}
 use Rattle.session_table.proofs.Owning.{flow_keys}
 use Rattle.session_table.proofs.sessions.Sessions.of_flow.Goals as goal
 

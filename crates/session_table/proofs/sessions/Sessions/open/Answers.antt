@@ -3,7 +3,7 @@ use Rattle.net_base.specs.declared.names.Key.{Key}
 use Rattle.net_base.specs.declared.values.Party.{Party}
 use Rattle.session_wire.specs.Sessions.{opened_on}
 use Rattle.session_table.specs.Changes.{acks_of_opened, FitsOpened}
-use Rattle.session_table.proofs.Stepping.{nil_end}
+use Rattle.session_table.proofs.Stepping.{nil_end, own_key}
 use Rattle.session_table.proofs.sessions.Sessions.open.Goals as goal
 
 room_of : (old new m n : ℕ) → m ≡ n → old ≤ new + n → old ≤ new + m
@@ -12,12 +12,12 @@ room_of old new m n e h = omega (arith, e, h)
 pub begin-requires-clause-new : goal.begin-requires-clause-new
 begin-requires-clause-new c =
     let fits : FitsOpened c.args.self.now.party c.args.self.now.list c.requires.fits.0 (Some (c.in-Some.key, c.in-Some.peer)) = subst (λ (o : Option (Key × Party)). FitsOpened c.args.self.now.party c.args.self.now.list c.requires.fits.0 o) c.in-Some.is c.requires.fits.1 in
-    λ other. absurd (true≢false (sym fits.own ∙ other))
+    λ other. absurd (true≢false (sym (own_key c.args.self.now.party c.args.self.now.list c.in-Some.key fits.next) ∙ other))
 
 pub begin-requires-clause-next : goal.begin-requires-clause-next
 begin-requires-clause-next c =
     let fits : FitsOpened c.args.self.now.party c.args.self.now.list c.requires.fits.0 (Some (c.in-Some.key, c.in-Some.peer)) = subst (λ (o : Option (Key × Party)). FitsOpened c.args.self.now.party c.args.self.now.list c.requires.fits.0 o) c.in-Some.is c.requires.fits.1 in
-    λ _. fits.next
+    λ _. ap (λ (k : Key). k.number) fits.next
 
 pub returns-in-Some-clause-list : goal.returns-in-Some-clause-list
 returns-in-Some-clause-list c = c.begin.ensures.list ∙ sym (ap (λ (o : Option (Key × Party)). opened_on o (Some c.args.owner) c.args.self.now.list) c.in-Some.is)

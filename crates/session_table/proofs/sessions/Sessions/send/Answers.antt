@@ -4,7 +4,7 @@ use Rattle.std.proofs.lemmas.Bool.{and_parts, ltb-true}
 use Rattle.net_base.specs.declared.values.Party.{Party}
 use Rattle.session_wire.specs.declared.change.SentItem.{SentItem}
 use Rattle.session_wire.specs.Sessions.{Session, sent_on}
-use Rattle.session_table.specs.Changes.{FitsSent}
+use Rattle.session_wire.specs.Rules.{FitsSent}
 use Rattle.session_table.proofs.Stepping.{no_items}
 use Rattle.session_table.proofs.sessions.Sessions.send.Goals as goal
 

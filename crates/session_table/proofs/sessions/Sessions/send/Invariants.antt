@@ -1,7 +1,7 @@
 use Rattle.std.proofs.Common.{◌≡◌, ◌≤◌, ◌+◌, ◌^◌, length, true, nat_lt}
 use Rattle.std.specs.List.{list_all}
 use Rattle.session_wire.specs.Sessions.{sent_on}
-use Rattle.session_table.specs.Changes.{FitsSent}
+use Rattle.session_wire.specs.Rules.{FitsSent}
 use Rattle.session_table.proofs.sessions.Sessions.send.Given as goal
 
 abbrev pub invariant-loop-item : goal.invariant-loop-item
