@@ -1,0 +1,5 @@
+pub mod Judging
+pub mod Lawful
+pub mod Items
+pub mod Sending
+pub mod Agreement
