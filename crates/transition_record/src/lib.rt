@@ -8,7 +8,7 @@ mod ledger;
 mod record;
 mod session;
 
-pub use record::{RECORD_LIMIT, decode_record, encode_record, writer_with_room};
+pub use record::{RECORD_LIMIT, decode_record, encode_parts, encode_record, writer_with_room};
 
 #[cfg(test)]
 mod tests;

@@ -10,8 +10,9 @@ use crate::causes::{came_key, read_cause, write_cause};
 use crate::flow::{flow_of, is_over, read_flow_part, write_flow_part};
 use crate::ledger::{read_ledger, write_ledger};
 use crate::session::{read_session, write_session};
+use ledger_types::LedgerChange;
 use net_base::{ByteList, Cause, DecodeFault, PartFault, Reader, Spelt, Writer, decode_whole};
-use session_wire::Effect;
+use session_wire::{Effect, FlowPart, SessionChange};
 use std::alloc::{AllocError, Global};
 
 /// No record has more bytes.
@@ -67,7 +68,8 @@ impl Spelt for Record {
     }
 }
 
-/// A writer of no bytes that has room for the record of most transitions, so that memory is taken once for each.
+/// A writer of no bytes. It has held 96 bytes and keeps their memory, so that short records are written without taking memory again.
+/// No clause says so: contracts see of a writer its bytes alone.
 ///
 /// # Errors
 ///
@@ -95,9 +97,30 @@ pub fn encode_record(alloc: Global, cause: &Cause, effect: &Effect) -> Result<By
     ensures text { IfOk result (λ bytes. bytes ≡ record_text cause.now effect.now) }
     ensures size { IfOk result (λ bytes. length bytes ≤ RECORD_LIMIT) }
 {
+    encode_parts(alloc, cause, &effect.flow, &effect.session, &effect.ledger)
+}
+
+/// The bytes of the record of a cause and of the effect that has these parts, on the same terms as `encode_record`.
+///
+/// # Errors
+///
+/// Want of memory.
+pub fn encode_parts(
+    alloc: Global,
+    cause: &Cause,
+    flow: &FlowPart,
+    session: &SessionChange,
+    ledger: &LedgerChange,
+) -> Result<ByteList, AllocError>
+    requires { IsRecord cause.now (record { flow = flow.now; session = session.now; ledger = ledger.now }) }
+    ensures text { IfOk result (λ bytes. bytes ≡ record_text cause.now (record { flow = flow.now; session = session.now; ledger = ledger.now })) }
+    ensures size { IfOk result (λ bytes. length bytes ≤ RECORD_LIMIT) }
+{
     let mut out = writer_with_room(alloc)?;
     write_cause(alloc, cause, &mut out)?;
-    write_effect(alloc, effect, &mut out)?;
+    write_flow_part(alloc, flow, &mut out)?;
+    write_session(alloc, session, &mut out)?;
+    write_ledger(alloc, ledger, &mut out)?;
     Ok(out.into_bytes())
 }
 
