@@ -31,8 +31,8 @@ use Rattle.ledger_types.specs.Rules.{is_other_notary}
 use Rattle.ledger_types.specs.Vaults.{reserved, reservable}
 use Rattle.ledger_types.specs.Signatures.{tx_id, is_signed}
 use Rattle.net_model.specs.State.{NodeState, no_flow, Effect, nothing, with_ids}
-use Rattle.net_model.specs.Steps.{Done, opening, sends, receives, takes, verifies, reserves, finds, notarises, records_in, records_by, vault_at, goes_on, onwards, place, is_no_peer, has_many, is_next, returns, fails, performed, lapsed, lapses, started, answering, answered_with, is_new_key, arrived, meant_of, effect_of, live, live_at, owned, owned_by}
-use Rattle.net_model.specs.Names.{number_is}
+use Rattle.net_model.specs.Steps.{Done, opening, sends, receives, takes, verifies, reserves, finds, notarises, records_in, records_by, vault_at, goes_on, onwards, place, returns, fails, performed, lapsed, lapses, started, answering, answered_with, arrived, meant_of, effect_of, live, live_at}
+use Rattle.session_wire.specs.Rules.{is_no_peer, has_many, is_next, is_new_key, owned, owned_by, is_owner}
 use Rattle.net_model.proofs.Basics.{some_eq, from_some, from_map, from_then, from_cond}
 use Rattle.net_model.proofs.Effects.{effect_meant}
 
@@ -49,7 +49,7 @@ pub data IsTold : Resumed → Type 0 where
 -- a session that a flow owns stands
 pub owned_there : (f : ℕ) (o : Option Session) (session : Session) → owned_by f o ≡ Some session → o ≡ Some session
 owned_there f None session h = cc
-owned_there f (Some x) session h = from_cond _ (number_is f x.owner) (Some x) session h (λ _ k. k)
+owned_there f (Some x) session h = from_cond _ (is_owner f x.owner) (Some x) session h (λ _ k. k)
 
 -- the act ends its frame
 abbrev pub ends_top : {F : Type 0} → Act F → Bool
@@ -61,9 +61,9 @@ module _ {F : Type 0} (w : Environment F) (me : ℕ) (s : NodeState F) (now : �
   -- what performing an act that goes on gives
   pub data Performs (f : ℕ) (a : Act F) : Done → Type 0 where
     tells : {d : Done} → IsTold d.0 → d.1 ≡ nothing → Performs f a d
-    opens_to : {d : Done} (to : Party) (class : ℕ) (first : Value) → a ≡ act.Open to class first → is_no_peer w me to ≡ false → has_many s f ≡ false → d ≡ opening me s to class first → Performs f a d
-    sends_on : {d : Done} (key : Key) (value : Value) (session : Session) → a ≡ act.Send key value → owned s f key ≡ Some session → d ≡ sends me value (Some session) → Performs f a d
-    takes_from : {d : Done} (key : Key) (session : Session) (next : Option ℕ × Body) → owned s f key ≡ Some session → next_item session session.ending ≡ Some next → d ≡ takes session next → Performs f a d
+    opens_to : {d : Done} (to : Party) (class : ℕ) (first : Value) → a ≡ act.Open to class first → is_no_peer w.nodes (party me) to ≡ false → has_many f s.sessions ≡ false → d ≡ opening me s.sessions to class first → Performs f a d
+    sends_on : {d : Done} (key : Key) (value : Value) (session : Session) → a ≡ act.Send key value → owned f key s.sessions ≡ Some session → d ≡ sends me value (Some session) → Performs f a d
+    takes_from : {d : Done} (key : Key) (session : Session) (next : Option ℕ × Body) → owned f key s.sessions ≡ Some session → next_item session session.ending ≡ Some next → d ≡ takes session next → Performs f a d
     has_found : {d : Done} (id : Hash32) (stx : SignedTx) → stored_of (with_ids s.stored) id ≡ Some stx → d ≡ (resumed.Found stx, nothing) → Performs f a d
     has_tagged : {d : Done} (id : Hash32) → (w.notary.0 == me) ≡ false → d ≡ (resumed.Tagged (tag_by w.mark (party me) id), nothing) → Performs f a d
     has_locked : {d : Done} (token : Token) (amount : ℕ) (list : List Held) → reserved token amount (vault_at me s) ≡ Some list → d ≡ reserves (reservable token (vault_at me s)) (Some list) → Performs f a d
@@ -74,16 +74,16 @@ module _ {F : Type 0} (w : Environment F) (me : ℕ) (s : NodeState F) (now : �
     refuses : (code : ℕ) → Performs f a (resumed.Refused code, nothing)
     refuses code = tells (refused code refl) refl
 
-    opens_by : (to : Party) (class : ℕ) (first : Value) (b c : Bool) → a ≡ act.Open to class first → is_no_peer w me to ≡ b → has_many s f ≡ c → Performs f a (cond b (resumed.Refused 48, nothing) (cond c (resumed.Refused 57, nothing) (opening me s to class first)))
+    opens_by : (to : Party) (class : ℕ) (first : Value) (b c : Bool) → a ≡ act.Open to class first → is_no_peer w.nodes (party me) to ≡ b → has_many f s.sessions ≡ c → Performs f a (cond b (resumed.Refused 48, nothing) (cond c (resumed.Refused 57, nothing) (opening me s.sessions to class first)))
     opens_by to class first true c e g h = refuses 48
     opens_by to class first false true e g h = refuses 57
     opens_by to class first false false e g h = opens_to to class first e g h refl
 
-    sends_by : (key : Key) (value : Value) (o : Option Session) → a ≡ act.Send key value → owned s f key ≡ o → Performs f a (sends me value o)
+    sends_by : (key : Key) (value : Value) (o : Option Session) → a ≡ act.Send key value → owned f key s.sessions ≡ o → Performs f a (sends me value o)
     sends_by key value None e g = refuses 58
     sends_by key value (Some session) e g = sends_on key value session e g refl
 
-    receives_by : (key : Key) (o : Option Session) (d : Done) → owned s f key ≡ o → receives o ≡ Some d → Performs f a d
+    receives_by : (key : Key) (o : Option Session) (d : Done) → owned f key s.sessions ≡ o → receives o ≡ Some d → Performs f a d
     receives_by key None d g h = from_some (Performs f a) h (refuses 58)
     receives_by key (Some session) d g h = from_map (Performs f a) (takes session) (next_item session session.ending) d h (λ next is. takes_from key session next g is refl)
 
@@ -139,8 +139,8 @@ module _ {F : Type 0} (w : Environment F) (me : ℕ) (s : NodeState F) (now : �
     returns_by value [] g = finished value refl g refl
     returns_by value (frame ∷ below) g = popped value frame below refl g refl
 
-    receives_gives : (key : Key) (a : Act F) (e : Effect F) → ends_top a ≡ false → option_map (goes_on w me now at) (receives (owned s at.flow key)) ≡ Some e → Gives at a e
-    receives_gives key a e o h = from_map (Gives at a) (goes_on w me now at) (receives (owned s at.flow key)) e h (λ d is. goes d o (receives_by at.flow a key (owned s at.flow key) d refl is) refl)
+    receives_gives : (key : Key) (a : Act F) (e : Effect F) → ends_top a ≡ false → option_map (goes_on w me now at) (receives (owned at.flow key s.sessions)) ≡ Some e → Gives at a e
+    receives_gives key a e o h = from_map (Gives at a) (goes_on w me now at) (receives (owned at.flow key s.sessions)) e h (λ d is. goes d o (receives_by at.flow a key (owned at.flow key s.sessions) d refl is) refl)
 
     pub performed_gives : (a : Act F) (e : Effect F) → performed w me s now at a ≡ Some e → Gives at a e
     performed_gives (act.Open to class first) e h = gone _ _ e refl (opens_by at.flow _ to class first _ _ refl refl refl) h
@@ -186,15 +186,15 @@ module _ {F : Type 0} (w : Environment F) (me : ℕ) (s : NodeState F) (now : �
   -- what a defined event does
   pub data Does (ev : Event) (body : Option Body) : Effect F → Type 0 where
     starts : {e : Effect F} (f class : ℕ) (args : List ℕ) (made : F × Act F) → ev ≡ event.Start f class args → f ≡ length s.flows → w.machine.made class args (place w me f 0 now) ≡ Ok made → e ≡ record { flow = live f 0 class [] made; change = nothing } → Does ev body e
-    answers_to : {e : Effect F} (key : Key) (class : ℕ) (first : Value) → ev ≡ event.Answer key → body ≡ Some (body_of.Init class first) → is_new_key w me s key ≡ true → e ≡ answering key (length s.flows) class (body_of.Init class first) (w.machine.begun class key (place w me (length s.flows) 0 now)) → Does ev body e
-    arrives : {e : Effect F} (key : Key) (direction number : ℕ) (b : Body) (session : Session) → ev ≡ event.Arrive key direction number → body ≡ Some b → session_of key s.sessions ≡ Some session → is_next me key direction number b session ≡ true → e ≡ record { flow = no_flow; change = record nothing { came = Some b } } → Does ev body e
+    answers_to : {e : Effect F} (key : Key) (class : ℕ) (first : Value) → ev ≡ event.Answer key → body ≡ Some (body_of.Init class first) → is_new_key w.nodes (party me) s.sessions key ≡ true → e ≡ answering key (length s.flows) class (body_of.Init class first) (w.machine.begun class key (place w me (length s.flows) 0 now)) → Does ev body e
+    arrives : {e : Effect F} (key : Key) (direction number : ℕ) (b : Body) (session : Session) → ev ≡ event.Arrive key direction number → body ≡ Some b → session_of key s.sessions ≡ Some session → is_next (party me) key direction number b session ≡ true → e ≡ record { flow = no_flow; change = record nothing { came = Some b } } → Does ev body e
     acts : {e : Effect F} (f : ℕ) (at : Checkpoint F) → (ev ≡ event.Move f) ⊎ (ev ≡ event.Lapse f) → live_at s f ≡ Some at → Gives at at.waiting e → Does ev body e
 
   starts_by : (f class : ℕ) (args : List ℕ) (body : Option Body) (e : Effect F) (made : Result (F × Act F) MakeFault) → f ≡ length s.flows → w.machine.made class args (place w me f 0 now) ≡ made → started f class made ≡ Some e → Does (event.Start f class args) body e
   starts_by f class args body e (Ok made) g is h = starts f class args made refl g is (sym (some_eq h))
   starts_by f class args body e (Err fault) g is h = cc
 
-  answers_by : (key : Key) (b : Body) (e : Effect F) → is_new_key w me s key ≡ true → answered_with w me s now key b ≡ Some e → Does (event.Answer key) (Some b) e
+  answers_by : (key : Key) (b : Body) (e : Effect F) → is_new_key w.nodes (party me) s.sessions key ≡ true → answered_with w me s now key b ≡ Some e → Does (event.Answer key) (Some b) e
   answers_by key (body_of.Init class first) e g h = answers_to key class first refl refl g (sym (some_eq h))
   answers_by key body_of.Confirm e g h = cc
   answers_by key (body_of.Reject code) e g h = cc
@@ -205,11 +205,11 @@ module _ {F : Type 0} (w : Environment F) (me : ℕ) (s : NodeState F) (now : �
   meant_does : (ev : Event) (body : Option Body) (e : Effect F) → meant_of w me s now ev body ≡ Some e → Does ev body e
   meant_does (event.Start f class args) body e h = from_cond _ (f == length s.flows) (started f class (w.machine.made class args (place w me f 0 now))) e h (λ t k. starts_by f class args body e _ (eqb-true f (length s.flows) t) refl k)
   meant_does (event.Answer key) None e h = cc
-  meant_does (event.Answer key) (Some b) e h = from_cond _ (is_new_key w me s key) (answered_with w me s now key b) e h (λ t k. answers_by key b e t k)
+  meant_does (event.Answer key) (Some b) e h = from_cond _ (is_new_key w.nodes (party me) s.sessions key) (answered_with w me s now key b) e h (λ t k. answers_by key b e t k)
   meant_does (event.Arrive key direction number) None e h = from_then _ (λ session. None) (session_of key s.sessions) e h (λ session _ k. cc)
   meant_does (event.Arrive key direction number) (Some b) e h =
       from_then _ (λ session. arrived me key direction number b session) (session_of key s.sessions) e h (λ session is k.
-      from_cond _ (is_next me key direction number b session) (Some (record { flow = no_flow; change = record nothing { came = Some b } })) e k (λ t l. arrives key direction number b session refl refl is t (sym (some_eq l))))
+      from_cond _ (is_next (party me) key direction number b session) (Some (record { flow = no_flow; change = record nothing { came = Some b } })) e k (λ t l. arrives key direction number b session refl refl is t (sym (some_eq l))))
   meant_does (event.Move f) body e h = from_then _ (λ at. performed w me s now at at.waiting) (live_at s f) e h (λ at is k. acts f at (inl refl) is (performed_gives at at.waiting e k))
   meant_does (event.Lapse f) body e h = from_then _ (λ at. lapsed w me now at (lapses s now at.flow at.waiting)) (live_at s f) e h (λ at is k. acts f at (inr refl) is (lapsed_gives at at.waiting e k))
 

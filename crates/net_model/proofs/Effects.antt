@@ -28,7 +28,8 @@ use Rattle.ledger_types.specs.Rules.{is_other_notary}
 use Rattle.ledger_types.specs.Vaults.{reservable}
 use Rattle.ledger_types.specs.Signatures.{tx_id, is_signed}
 use Rattle.net_model.specs.State.{NodeState, Effect, nothing, with_ids, apply_effect}
-use Rattle.net_model.specs.Steps.{Done, opens, opening, sends, receives, takes, verifies, reserves, vault_at, finds, signs_id, records, records_in, records_by, goes_on, onwards, is_no_peer, has_many, is_next, pushes, returns, performed, lapsed, started, answering, answered_with, is_new_key, is_built, meant_of, effect_of, node_step, body_in, stamp_in, in_order, live_at, owned}
+use Rattle.net_model.specs.Steps.{Done, opens, opening, sends, receives, takes, verifies, reserves, vault_at, finds, signs_id, records, records_in, records_by, goes_on, onwards, pushes, returns, performed, lapsed, started, answering, answered_with, is_built, meant_of, effect_of, node_step, body_in, stamp_in, in_order, live_at}
+use Rattle.session_wire.specs.Rules.{is_no_peer, has_many, is_next, is_new_key, owned}
 use Rattle.net_model.specs.Runs.{accepts, StepIsItsEffect}
 use Rattle.net_model.proofs.Basics.{some_eq, from_some, from_map, from_then, from_cond, cond_all}
 
@@ -41,10 +42,10 @@ abbrev pub AcceptsNone : {F : Type 0} → Effect F → Type 0
 AcceptsNone e = e.change.came ≡ None
 
 module _ {F : Type 0} (w : Environment F) (me : ℕ) (s : NodeState F) (now : ℕ) where
-  opens_plain : (f : ℕ) (to : Party) (class : ℕ) (first : Value) → IsPlain (opens w me s f to class first)
+  opens_plain : (f : ℕ) (to : Party) (class : ℕ) (first : Value) → IsPlain (opens w.nodes me s.sessions f to class first)
   opens_plain f to class first =
-      cond_all IsPlain (is_no_peer w me to) (resumed.Refused 48, nothing) (cond (has_many s f) (resumed.Refused 57, nothing) (opening me s to class first)) refl
-      (cond_all IsPlain (has_many s f) (resumed.Refused 57, nothing) (opening me s to class first) refl refl)
+      cond_all IsPlain (is_no_peer w.nodes (party me) to) (resumed.Refused 48, nothing) (cond (has_many f s.sessions) (resumed.Refused 57, nothing) (opening me s.sessions to class first)) refl
+      (cond_all IsPlain (has_many f s.sessions) (resumed.Refused 57, nothing) (opening me s.sessions to class first) refl refl)
 
   sends_plain : (value : Value) (o : Option Session) → IsPlain (sends me value o)
   sends_plain value None = refl
@@ -97,8 +98,8 @@ module _ {F : Type 0} (w : Environment F) (me : ℕ) (s : NodeState F) (now : �
   pub performed_plain : (at : Checkpoint F) (a : Act F) (e : Effect F) → performed w me s now at a ≡ Some e → AcceptsNone e
   performed_plain at (act.Open to class first) e h = from_some AcceptsNone h (opens_plain at.flow to class first)
   performed_plain at (act.Send key value) e h = from_some AcceptsNone h (sends_plain value _)
-  performed_plain at (act.Receive key) e h = received_plain at (owned s at.flow key) e h
-  performed_plain at (act.ReceiveBy key until) e h = received_plain at (owned s at.flow key) e h
+  performed_plain at (act.Receive key) e h = received_plain at (owned at.flow key s.sessions) e h
+  performed_plain at (act.ReceiveBy key until) e h = received_plain at (owned at.flow key s.sessions) e h
   performed_plain at (act.Sleep until) e h = cc
   performed_plain at (act.Sub frame) e h = from_some AcceptsNone h (pushes_plain at frame)
   performed_plain at (act.Verify tx) e h = from_some AcceptsNone h (verifies_plain tx _)
@@ -141,17 +142,17 @@ module _ {F : Type 0} (w : Environment F) (me : ℕ) (s : NodeState F) (now : �
   meant_accepts : (ev : Event) (body : Option Body) (e : Effect F) → accepts ev ≡ true → meant_of w me s now ev body ≡ Some e → (b : Body) × (body ≡ Some b) × (e.change.came ≡ Some b)
   meant_accepts (event.Start f class args) body e a h = cc
   meant_accepts (event.Answer key) None e a h = cc
-  meant_accepts (event.Answer key) (Some b) e a h = from_cond _ (is_new_key w me s key) _ e h (λ _ k. (b, refl, answered_came key b e k))
+  meant_accepts (event.Answer key) (Some b) e a h = from_cond _ (is_new_key w.nodes (party me) s.sessions key) _ e h (λ _ k. (b, refl, answered_came key b e k))
   meant_accepts (event.Arrive key direction number) None e a h = from_then _ _ (session_of key s.sessions) e h (λ session _ k. cc)
   meant_accepts (event.Arrive key direction number) (Some b) e a h =
-      from_then _ _ (session_of key s.sessions) e h (λ session _ k. from_cond _ (is_next me key direction number b session) _ e k (λ _ l. (b, refl, from_some (λ (x : Effect F). x.change.came ≡ Some b) l refl)))
+      from_then _ _ (session_of key s.sessions) e h (λ session _ k. from_cond _ (is_next (party me) key direction number b session) _ e k (λ _ l. (b, refl, from_some (λ (x : Effect F). x.change.came ≡ Some b) l refl)))
   meant_accepts (event.Move f) body e a h = cc
   meant_accepts (event.Lapse f) body e a h = cc
 
   -- what nodes do is what is meant
   pub effect_meant : (ev : Event) (body : Option Body) (e : Effect F) → effect_of w me s now ev body ≡ Some e → meant_of w me s now ev body ≡ Some e
   unfolding effect_of
-  effect_meant ev body e h = from_cond _ (is_built s ev) (meant_of w me s now ev body) e h (λ _ k. k)
+  effect_meant ev body e h = from_cond _ (is_built w s ev) (meant_of w me s now ev body) e h (λ _ k. k)
 
   -- an event that accepts no item has an effect without one
   pub effect_plain : (ev : Event) (body : Option Body) (e : Effect F) → accepts ev ≡ false → effect_of w me s now ev body ≡ Some e → AcceptsNone e
@@ -160,6 +161,14 @@ module _ {F : Type 0} (w : Environment F) (me : ℕ) (s : NodeState F) (now : �
   -- an event that accepts an item has it in its effect
   pub effect_accepts : (ev : Event) (body : Option Body) (e : Effect F) → accepts ev ≡ true → effect_of w me s now ev body ≡ Some e → (b : Body) × (body ≡ Some b) × (e.change.came ≡ Some b)
   effect_accepts ev body e a h = meant_accepts ev body e a (effect_meant ev body e h)
+
+  -- over no item no effect has one
+  pub effect_bare : (ev : Event) (e : Effect F) → effect_of w me s now ev None ≡ Some e → e.change.came ≡ None
+  effect_bare ev e h = bare (accepts ev) refl
+    where
+      bare : (b : Bool) → accepts ev ≡ b → e.change.came ≡ None
+      bare true is = let a = effect_accepts ev None e is h in let no = a.1 in cc
+      bare false is = effect_plain ev None e is h
 
 -- ---- a step
 

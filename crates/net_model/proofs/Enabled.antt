@@ -1,16 +1,21 @@
 -- Enabled acts and the effects of the events that perform them.
-use Rattle.std.proofs.Common.{◌≡◌, ℕ, Option, Some, None, true, false, cond, nat_le, IsSome, MatchOption, slice_get, refl, sym, ap, ◌∙◌, ◌⊎◌, inl, inr, ⊎_elim}
+use Rattle.std.proofs.Common.{◌≡◌, ℕ, Option, Some, None, Bool, true, false, cond, ◌&&◌, nat_le, IsSome, MatchOption, option_map, is_none, slice_get, refl, sym, ap, subst, ◌∙◌, ◌⊎◌, inl, inr, ⊎_elim}
 use Rattle.net_base.specs.declared.causes.Event.{Event}
 use Rattle.net_base.specs.declared.causes.Event.TheVariants as event
+use Rattle.session_wire.specs.declared.body.Body.{Body}
+use Rattle.session_wire.specs.Sessions.{Session, next_item}
+use Rattle.session_wire.specs.Rules.{owned, waits_for}
 use Rattle.flow_machine.specs.declared.acts.Act.{Act}
 use Rattle.flow_machine.specs.declared.acts.Act.TheVariants as act
 use Rattle.flow_machine.specs.declared.flows.Checkpoint.{Checkpoint}
 use Rattle.flow_machine.specs.declared.flows.FlowState.{FlowState}
 use Rattle.flow_machine.specs.declared.flows.FlowState.TheVariants as state
-use Rattle.net_model.specs.Environment.{Environment}
+use Rattle.net_model.specs.Environment.{Environment, is_act_built}
 use Rattle.net_model.specs.State.{NodeState, Effect}
-use Rattle.net_model.specs.Steps.{effect_of, performed, lapsed, lapses, is_act_built}
-use Rattle.net_model.specs.Enabled.{performing, event_of, effect_on, EnabledIsDefined}
+use Rattle.net_model.specs.Steps.{takes, receives, goes_on, effect_of, performed, lapsed, lapses}
+use Rattle.net_model.specs.Sound.{IsNumbered}
+use Rattle.net_model.specs.Cut.{IsNarrow}
+use Rattle.net_model.specs.Enabled.{enabling, enabled_event, performing, event_of, effect_on, EnabledIsDefined, NarrowIsDefined}
 
 module _ {F : Type 0} (w : Environment F) (me : ℕ) (s : NodeState F) (now f : ℕ) where
   -- where flow f of the state is this, its events have the effects that they have on it
@@ -22,28 +27,87 @@ module _ {F : Type 0} (w : Environment F) (me : ℕ) (s : NodeState F) (now f : 
   unfolding effect_of
   lapses_on flow h = rw h
 
+  -- the event, if there is one, has an effect, and where there is none neither a Move nor a Lapse of the flow has one
+  abbrev Tells : (Event → Option (Effect F)) → Option Event → Type 0
+  Tells effect o = MatchOption o ((effect (event.Move f) ≡ None) × (effect (event.Lapse f) ≡ None)) (λ e. IsSome (effect e))
+
+  -- ---- for every cut
+
+  by_moment : (effect : Event → Option (Effect F)) (at : Checkpoint F) (b : Bool) → effect (event.Move f) ≡ None → effect (event.Lapse f) ≡ lapsed w me now at b → Tells effect (cond b (Some (event.Lapse f)) None)
+  by_moment effect at true move lapse = rw lapse refl
+  by_moment effect at false move lapse = (move, lapse)
+
+  -- Receive, by the item that is there
+  by_item : (effect : Event → Option (Effect F)) (at : Checkpoint F) (session : Session) (o : Option (Option ℕ × Body)) → effect (event.Move f) ≡ option_map (goes_on w me now at) (option_map (takes session) o) → effect (event.Lapse f) ≡ None
+      → Tells effect (cond (is_none o) None (Some (event.Move f)))
+  by_item effect at session None move lapse = (move, lapse)
+  by_item effect at session (Some next) move lapse = rw move refl
+
+  by_receive : (effect : Event → Option (Effect F)) (at : Checkpoint F) (o : Option Session) → effect (event.Move f) ≡ option_map (goes_on w me now at) (receives o) → effect (event.Lapse f) ≡ None → Tells effect (cond (waits_for o) None (Some (event.Move f)))
+  by_receive effect at None move lapse = rw move refl
+  by_receive effect at (Some session) move lapse = by_item effect at session (next_item session session.ending) move lapse
+
+  -- ReceiveBy, by the item that is there and by whether the moment has come
+  by_late : (effect : Event → Option (Effect F)) (at : Checkpoint F) (b : Bool) → effect (event.Move f) ≡ None → effect (event.Lapse f) ≡ lapsed w me now at (b && true) → Tells effect (cond b (Some (event.Lapse f)) None)
+  by_late effect at true move lapse = rw lapse refl
+  by_late effect at false move lapse = (move, lapse)
+
+  by_item_until : (effect : Event → Option (Effect F)) (at : Checkpoint F) (b : Bool) (session : Session) (o : Option (Option ℕ × Body))
+      → effect (event.Move f) ≡ option_map (goes_on w me now at) (option_map (takes session) o) → effect (event.Lapse f) ≡ lapsed w me now at (b && is_none o)
+      → Tells effect (cond (is_none o) (cond b (Some (event.Lapse f)) None) (Some (event.Move f)))
+  by_item_until effect at b session None move lapse = by_late effect at b move lapse
+  by_item_until effect at b session (Some next) move lapse = rw move refl
+
+  by_receive_until : (effect : Event → Option (Effect F)) (at : Checkpoint F) (b : Bool) (o : Option Session) → effect (event.Move f) ≡ option_map (goes_on w me now at) (receives o) → effect (event.Lapse f) ≡ lapsed w me now at (b && waits_for o)
+      → Tells effect (cond (waits_for o) (cond b (Some (event.Lapse f)) None) (Some (event.Move f)))
+  by_receive_until effect at b None move lapse = rw move refl
+  by_receive_until effect at b (Some session) move lapse = by_item_until effect at b session (next_item session session.ending) move lapse
+
+  by_performed : (effect : Event → Option (Effect F)) (at : Checkpoint F) (a : Act F) → at.flow ≡ f → effect (event.Move f) ≡ performed w me s now at a → effect (event.Lapse f) ≡ lapsed w me now at (lapses s now at.flow a) → Tells effect (enabling s.sessions f now a)
+  by_performed effect at (act.Sleep until) own move lapse = by_moment effect at (nat_le until now) move lapse
+  by_performed effect at (act.Receive key) own move lapse = by_receive effect at (owned f key s.sessions) (subst (λ g. effect (event.Move f) ≡ option_map (goes_on w me now at) (receives (owned g key s.sessions))) own move) lapse
+  by_performed effect at (act.ReceiveBy key until) own move lapse =
+      by_receive_until effect at (nat_le until now) (owned f key s.sessions)
+      (subst (λ g. effect (event.Move f) ≡ option_map (goes_on w me now at) (receives (owned g key s.sessions))) own move)
+      (subst (λ g. effect (event.Lapse f) ≡ lapsed w me now at (nat_le until now && waits_for (owned g key s.sessions))) own lapse)
+  by_performed effect at _ own move lapse = rw move refl
+
+  -- an act that nodes perform, or not
+  by_cut : (effect : Event → Option (Effect F)) (at : Checkpoint F) (b : Bool) → at.flow ≡ f
+      → effect (event.Move f) ≡ cond b (performed w me s now at at.waiting) None → effect (event.Lapse f) ≡ cond b (lapsed w me now at (lapses s now at.flow at.waiting)) None
+      → Tells effect (cond b (enabling s.sessions at.flow now at.waiting) None)
+  by_cut effect at true own move lapse = subst (λ g. Tells effect (enabling s.sessions g now at.waiting)) (sym own) (by_performed effect at at.waiting own move lapse)
+  by_cut effect at false own move lapse = (move, lapse)
+
+  by_state : (effect : Event → Option (Effect F)) (flow : FlowState F) → IsNumbered f flow → effect (event.Move f) ≡ effect_on w me s now flow (event.Move f) → effect (event.Lapse f) ≡ effect_on w me s now flow (event.Lapse f)
+      → Tells effect (enabled_event w s.sessions now flow)
+  by_state effect (state.Live at) own move lapse = by_cut effect at (w.performs at.waiting) own move lapse
+  by_state effect (state.Ended step class value) own move lapse = (move, lapse)
+  by_state effect (state.Failed step class code) own move lapse = (move, lapse)
+
+  -- ---- for what nodes do so far
+
   by_act : (effect : Event → Option (Effect F)) (at : Checkpoint F) (a : Act F)
       → effect (event.Move f) ≡ cond (is_act_built a) (performed w me s now at a) None → effect (event.Lapse f) ≡ cond (is_act_built a) (lapsed w me now at (lapses s now at.flow a)) None
-      → MatchOption (performing f now a) ((effect (event.Move f) ≡ None) × (effect (event.Lapse f) ≡ None)) (λ e. IsSome (effect e))
-  by_act effect at (act.Sleep until) move lapse =
-      (elim (nat_le until now) as (λ b. effect (event.Lapse f) ≡ lapsed w me now at b → MatchOption (cond b (Some (event.Lapse f)) None) ((effect (event.Move f) ≡ None) × (effect (event.Lapse f) ≡ None)) (λ e. IsSome (effect e))) [
-        | true ↦ λ l. rw l refl
-        | false ↦ λ l. (move, l)
-      ]) lapse
+      → Tells effect (performing f now a)
+  unfolding is_act_built
+  by_act effect at (act.Sleep until) move lapse = by_moment effect at (nat_le until now) move lapse
   by_act effect at (act.Sub frame) move lapse = rw move refl
   by_act effect at (act.Return value) move lapse = rw move refl
   by_act effect at (act.Fail code) move lapse = rw move refl
   by_act effect at _ move lapse = (move, lapse)
 
-  by_flow : (effect : Event → Option (Effect F)) (flow : FlowState F) → effect (event.Move f) ≡ effect_on w me s now flow (event.Move f) → effect (event.Lapse f) ≡ effect_on w me s now flow (event.Lapse f)
-      → MatchOption (event_of f now flow) ((effect (event.Move f) ≡ None) × (effect (event.Lapse f) ≡ None)) (λ e. IsSome (effect e))
-  by_flow effect (state.Live at) move lapse = by_act effect at at.waiting move lapse
-  by_flow effect (state.Ended step class value) move lapse = (move, lapse)
-  by_flow effect (state.Failed step class code) move lapse = (move, lapse)
+  by_flow : IsNarrow w → (effect : Event → Option (Effect F)) (flow : FlowState F) → effect (event.Move f) ≡ effect_on w me s now flow (event.Move f) → effect (event.Lapse f) ≡ effect_on w me s now flow (event.Lapse f) → Tells effect (event_of f now flow)
+  by_flow narrow effect (state.Live at) move lapse =
+      by_act effect at at.waiting
+      (move ∙ ap (λ b. cond b (performed w me s now at at.waiting) None) (narrow.acts at.waiting))
+      (lapse ∙ ap (λ b. cond b (lapsed w me now at (lapses s now at.flow at.waiting)) None) (narrow.acts at.waiting))
+  by_flow narrow effect (state.Ended step class value) move lapse = (move, lapse)
+  by_flow narrow effect (state.Failed step class code) move lapse = (move, lapse)
 
-  pub enabled_at : (flow : FlowState F) → slice_get s.flows f ≡ Some flow
+  pub enabled_at : IsNarrow w → (flow : FlowState F) → slice_get s.flows f ≡ Some flow
       → MatchOption (event_of f now flow) ((effect_of w me s now (event.Move f) None ≡ None) × (effect_of w me s now (event.Lapse f) None ≡ None)) (λ e. IsSome (effect_of w me s now e None))
-  enabled_at flow h = by_flow (λ e. effect_of w me s now e None) flow (moves_on flow h) (lapses_on flow h)
+  enabled_at narrow flow h = by_flow narrow (λ e. effect_of w me s now e None) flow (moves_on flow h) (lapses_on flow h)
 
   act_kind : (a : Act F) (e : Event) → performing f now a ≡ Some e → (e ≡ event.Move f) ⊎ (e ≡ event.Lapse f)
   act_kind (act.Sleep until) e h = (elim (nat_le until now) as (λ b. cond b (Some (event.Lapse f)) None ≡ Some e → (e ≡ event.Move f) ⊎ (e ≡ event.Lapse f)) [ true ↦ λ k. inr (cc) | false ↦ λ k. cc ]) h
@@ -66,4 +130,7 @@ module _ {F : Type 0} (w : Environment F) (me : ℕ) (s : NodeState F) (now f : 
       (event_kind flow e k)
 
 pub enabled_is_defined : {F : Type 0} → EnabledIsDefined F
-enabled_is_defined w me s now f flow h = enabled_at w me s now f flow h
+enabled_is_defined w me s now f flow h own = by_state w me s now f (λ e. effect_of w me s now e None) flow own (moves_on w me s now f flow h) (lapses_on w me s now f flow h)
+
+pub narrow_is_defined : {F : Type 0} → NarrowIsDefined F
+narrow_is_defined w narrow me s now f flow h = enabled_at w me s now f narrow flow h

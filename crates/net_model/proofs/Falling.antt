@@ -18,11 +18,11 @@ use Rattle.flow_machine.specs.declared.flows.Checkpoint.{Checkpoint}
 use Rattle.flow_machine.specs.declared.flows.FlowState.{FlowState}
 use Rattle.flow_machine.specs.declared.flows.FlowState.TheVariants as state
 use Rattle.session_wire.specs.Sessions.{Sent, Session, changed_at, key_eq, new_session, opened_on, sent_on, taken_on, with_sent, with_taken}
-use Rattle.net_model.specs.Names.{number_is}
+use Rattle.session_wire.specs.Rules.{is_owner, sessions_of, item_on}
 use Rattle.flow_machine.specs.Machine.{Machine}
-use Rattle.net_model.specs.Environment.{Environment}
+use Rattle.net_model.specs.Environment.{Environment, party}
 use Rattle.net_model.specs.State.{NodeState, FlowPart, now_live, Effect, Change, came_on, sessions_on, flow_of, flows_on, placed, apply_effect}
-use Rattle.net_model.specs.Steps.{Done, live_at, checkpoint_of, sessions_of, item_on, place}
+use Rattle.net_model.specs.Steps.{Done, live_at, checkpoint_of, place}
 use Rattle.net_model.specs.Fits.{keys_differ, IsSound, Fits}
 use Rattle.flow_machine.specs.Flows.{cost, Falls, is_fair}
 use Rattle.net_model.specs.Left.{total, one_of, owns, flow_is_fair, flow_left, item_left, node_left}
@@ -34,7 +34,7 @@ use Rattle.net_model.proofs.Totals.{total_append, total_set_le, total_same, Item
 -- ---- owners
 
 owns_map : (f : ℕ) (change : Session → Session) (ss : List Session) → ((x : Session) → (change x).owner ≡ x.owner) → owns (map change ss) f ≡ owns ss f
-owns_map f change ss h = total_same (λ x. one_of (number_is f x.owner)) change ss (λ x. ap (λ (o : Option ℕ). one_of (number_is f o)) (h x))
+owns_map f change ss h = total_same (λ x. one_of (is_owner f x.owner)) change ss (λ x. ap (λ (o : Option ℕ). one_of (is_owner f o)) (h x))
 
 pub owns_changed : (f : ℕ) (key : Key) (change : Session → Session) (ss : List Session) → ((x : Session) → (change x).owner ≡ x.owner) → owns (changed_at key change ss) f ≡ owns ss f
 owns_changed f key change ss h = owns_map f (λ x. cond (key_eq key x.key) (change x) x) ss (λ x. elim (key_eq key x.key) as (λ b. (cond b (change x) x).owner ≡ x.owner) [ true ↦ h x | false ↦ refl ])
@@ -47,8 +47,8 @@ owns_taken : (f : ℕ) (o : Option (Key × ℕ)) (ss : List Session) → owns (t
 owns_taken f None ss = refl
 owns_taken f (Some taken) ss = owns_changed f taken.0 (with_taken taken.1) ss (λ x. refl)
 
-pub owns_append : (f : ℕ) (ss : List Session) (x : Session) → owns (ss ++ x ∷ []) f ≡ owns ss f + one_of (number_is f x.owner)
-owns_append f ss x = let a = total_append (λ y. one_of (number_is f y.owner)) ss (x ∷ []) in omega arith
+pub owns_append : (f : ℕ) (ss : List Session) (x : Session) → owns (ss ++ x ∷ []) f ≡ owns ss f + one_of (is_owner f x.owner)
+owns_append f ss x = let a = total_append (λ y. one_of (is_owner f y.owner)) ss (x ∷ []) in omega arith
 
 owns_opened : (f g : ℕ) (o : Option (Key × Party)) (ss : List Session) → owns (opened_on o (Some f) ss) g ≤ owns ss g + option_len o
 owns_opened f g None ss = omega arith
@@ -60,9 +60,9 @@ owns_other : (f g : ℕ) (o : Option (Key × Party)) (ss : List Session) → (g 
 owns_other f g None ss h = refl
 owns_other f g (Some opened) ss h = let a = owns_append g ss (new_session opened.0 opened.1 (Some f) []) in let e : (g == f) ≡ false = ne_eqb g f h in let b : one_of (g == f) ≡ 0 = ap one_of e in omega arith
 
-owns_counted : (f : ℕ) (ss : List Session) → length (filter (λ x. number_is f x.owner) ss) ≡ owns ss f
+owns_counted : (f : ℕ) (ss : List Session) → length (filter (λ x. is_owner f x.owner) ss) ≡ owns ss f
 owns_counted f [] = refl
-owns_counted f (x ∷ xs) = let a = owns_counted f xs in elim (number_is f x.owner) as (λ b. length (cond b (x ∷ filter (λ y. number_is f y.owner) xs) (filter (λ y. number_is f y.owner) xs)) ≡ one_of b + owns xs f) [ true ↦ omega arith | false ↦ omega arith ]
+owns_counted f (x ∷ xs) = let a = owns_counted f xs in elim (is_owner f x.owner) as (λ b. length (cond b (x ∷ filter (λ y. is_owner f y.owner) xs) (filter (λ y. is_owner f y.owner) xs)) ≡ one_of b + owns xs f) [ true ↦ omega arith | false ↦ omega arith ]
 
 -- ---- what an act costs
 
@@ -127,7 +127,7 @@ module _ {F : Type 0} (w : Environment F) (me : ℕ) (s : NodeState F) (now : �
     lives : (new : Checkpoint F) → e.flow ≡ now_live new → new.flow ≡ at.flow → bare w.machine new + spent e.change + 1 ≤ bare w.machine at → Lowers at e
     dies : (x : FlowState F) → ((flows : List (FlowState F)) → flows_on e.flow flows ≡ placed flows at.flow x) → ((ss : List Session) → flow_left w.machine ss x ≡ 0) → flow_of e.flow ≡ Some at.flow → e.change.opened ≡ None → sent_left w.machine e.change.sent ≤ owns s.sessions at.flow → Lowers at e
 
-  last_total : (body : Body) (xs : List Session) → item_left w.machine body ≡ 1 → sent_left w.machine (map (λ x. item_on me x body) xs) ≡ length xs
+  last_total : (body : Body) (xs : List Session) → item_left w.machine body ≡ 1 → sent_left w.machine (map (λ x. item_on (party me) x body) xs) ≡ length xs
   last_total body [] h = refl
   last_total body (x ∷ xs) h = let a = last_total body xs h in omega arith
 
@@ -161,10 +161,10 @@ module _ {F : Type 0} (w : Environment F) (me : ℕ) (s : NodeState F) (now : �
         let b = ap (total m.weight) j in
         low e _ k (lives _ refl refl (omega arith))
     gives_lowers e (finished value i j k) =
-        let a = last_total body_of.End (sessions_of s at.flow) refl in let b = owns_counted at.flow s.sessions in
+        let a = last_total body_of.End (sessions_of at.flow s.sessions) refl in let b = owns_counted at.flow s.sessions in
         low e _ k (dies (state.Ended (at.step + 1) at.class value) (λ flows. refl) (λ ss. refl) refl refl (omega arith))
     gives_lowers e (failed code i k) =
-        let a = last_total (body_of.Error code) (sessions_of s at.flow) refl in let b = owns_counted at.flow s.sessions in
+        let a = last_total (body_of.Error code) (sessions_of at.flow s.sessions) refl in let b = owns_counted at.flow s.sessions in
         low e _ k (dies (state.Failed (at.step + 1) at.class code) (λ flows. refl) (λ ss. refl) refl refl (omega arith))
 
 -- ---- a node that acts, with what arrived held fixed

@@ -1,7 +1,7 @@
 -- What a step gives fits after a sound state.
-use Rattle.std.proofs.Common.{◌≡◌, ℕ, zero, suc, ◌+◌, ◌-◌, ◌<◌, ◌≤◌, ◌^◌, ◌⊎◌, inl, inr, ⊎_elim, List, [], ◌∷◌, ◌++◌, Option, Some, None, Bool, true, false, cond, ◌==◌, not, nat_lt, max, map, filter, find, drop, is_none, option_map, option_to_list, length, refl, sym, ap, subst, ◌∙◌, arith, append-nil}
+use Rattle.std.proofs.Common.{◌≡◌, ℕ, zero, suc, ◌+◌, ◌<◌, ◌≤◌, ◌^◌, ◌⊎◌, inl, inr, ⊎_elim, List, [], ◌∷◌, ◌++◌, Option, Some, None, Bool, true, false, cond, ◌==◌, not, nat_lt, nat_le, max, map, filter, find, drop, is_none, option_map, option_to_list, length, refl, sym, ap, subst, ◌∙◌, arith, append-nil}
 use Rattle.std.specs.List.{list_all, list_any, AllByRecursion}
-use Rattle.std.proofs.lemmas.Bool.{and_parts, and_from, or_cases, or_parts, or_left, or_from, both_ways, not-true, not_from_false, eqb-true, eqb-false, eq-eqb, ltb-true, leb-true, leb-false, false_from_ne_true}
+use Rattle.std.proofs.lemmas.Bool.{and_parts, and_from, or_cases, or_parts, or_left, or_from, both_ways, not-true, not_from_false, eqb-true, eqb-false, eq-eqb, ltb-true, lt-ltb, leb-true, leb-false, false_from_ne_true}
 use Rattle.net_base.specs.declared.names.Key.{Key}
 use Rattle.net_base.specs.declared.values.Party.{Party}
 use Rattle.net_base.specs.declared.causes.Cause.{Cause}
@@ -18,15 +18,15 @@ use Rattle.session_wire.specs.declared.body.Body.TheVariants as body_of
 use Rattle.flow_machine.specs.declared.acts.Act.{Act}
 use Rattle.flow_machine.specs.declared.flows.Checkpoint.{Checkpoint}
 use Rattle.session_wire.specs.Sessions.{Sent, Session, changed_at, first_item, is_confirm, key_eq, new_session, next_item, session_of, with_sent}
-use Rattle.net_model.specs.Names.{number_is}
+use Rattle.session_wire.specs.Rules.{owned, next_key, sessions_of, is_no_peer, has_many, is_new_key, direction_out, direction_in, item_on, is_lawful, is_owner, Continues, FitsSent, FitsTaken}
 use Rattle.net_model.specs.Environment.{Environment, party, identity}
 use Rattle.ledger_types.specs.Stores.{is_stored, resolved_of, untagged}
 use Rattle.ledger_types.specs.Signatures.{tx_id}
 use Rattle.ledger_types.specs.Vaults.{vault_of, reserved}
 use Rattle.ledger_types.specs.Notary.{repeats, reply}
 use Rattle.net_model.specs.State.{NodeState, Change, Effect, nothing, with_ids, came_on, flow_of}
-use Rattle.net_model.specs.Steps.{Done, owned, opening, booked_by, vault_at, next_key, sessions_of, is_no_peer, has_many, is_new_key, direction_out, item_on, is_lawful, answering, live_at, place, node_step, stamp_in, body_in}
-use Rattle.net_model.specs.Fits.{IsNextOf, AcceptsInit, GoesOn, FitsEvent, Continues, FitsSent, FitsTaken, names_coin, FitsBooked, FitsChange, Fits, keys_differ, is_counted, IsSound, StepsFit}
+use Rattle.net_model.specs.Steps.{Done, opening, booked_by, vault_at, answering, live_at, place, node_step, stamp_in, body_in}
+use Rattle.net_model.specs.Fits.{IsNextOf, AcceptsInit, GoesOn, FitsEvent, names_coin, FitsBooked, FitsChange, Fits, keys_differ, is_counted, IsSound, StepsFit}
 use Rattle.net_model.proofs.Basics.{some_eq, from_map, find_map}
 use Rattle.net_model.proofs.Booked.{added}
 use Rattle.net_model.proofs.Recorded.{resolved_there}
@@ -65,6 +65,12 @@ length_filter : {X : Type 0} (P : X → Bool) (xs : List X) (y : X) → P y ≡ 
 length_filter P [] y h = rw h
 length_filter {X} P (x ∷ xs) y h = let k = length_filter P xs y h in (elim (P x) as (λ b. length (cond b (x ∷ filter P (xs ++ y ∷ [])) (filter P (xs ++ y ∷ []))) ≡ length (cond b (x ∷ filter P xs) (filter P xs)) + 1) [ true ↦ omega arith | false ↦ k ])
 
+-- the initiator of a new key is another node
+pub initiator_other : (nodes me : ℕ) (sessions : List Session) (key : Key) → is_new_key nodes (party me) sessions key ≡ true → (key.initiator.0 == me) ≡ false
+initiator_other nodes me sessions key h =
+    let p = and_parts (is_none (session_of key sessions)) (not (is_no_peer nodes (party me) key.initiator)) h in
+    (or_parts (key.initiator.0 == me) (nat_le nodes key.initiator.0) (not-true _ p.1)).0
+
 -- ---- the plain cases
 
 module _ {F : Type 0} (w : Environment F) (me : ℕ) (s : NodeState F) (stamp : ℕ) where
@@ -82,20 +88,27 @@ module _ {F : Type 0} (w : Environment F) (me : ℕ) (s : NodeState F) (stamp : 
         (or_cases _ _ p.0)) in
         rw no (not_counted next xs p.1)
 
-    next_free : session_of (next_key me s) s.sessions ≡ None
-    next_free = not_counted (next_key me s).number s.sessions sound.counted
+    next_free : session_of (next_key (party me) s.sessions) s.sessions ≡ None
+    next_free = not_counted (next_key (party me) s.sessions).number s.sessions sound.counted
 
-    own_direction : 0 ≡ direction_out me (next_key me s)
+    own_direction : 0 ≡ direction_out (party me) (next_key (party me) s.sessions)
     own_direction = rw (eq-eqb me me refl)
 
-    opens_fit : (f : ℕ) (to : Party) (class : ℕ) (first : Value) → is_no_peer w me to ≡ false → has_many s f ≡ false → FitsChange w me s stamp s.sessions (Some f) (opening me s to class first).1
+    opens_fit : (f : ℕ) (to : Party) (class : ℕ) (first : Value) → is_no_peer w.nodes (party me) to ≡ false → has_many f s.sessions ≡ false → FitsChange w me s stamp s.sessions (Some f) (opening me s.sessions to class first).1
     opens_fit f to class first other few =
-        let new = new_session (next_key me s) to (Some f) [] in
-        let there = find_none_append (λ x. key_eq (next_key me s) x.key) s.sessions new next_free (key_same (next_key me s)) in
-        let less = leb-false 64 (length (sessions_of s f)) few in
-        let more = length_filter (λ session. number_is f session.owner) s.sessions new (eq-eqb f f refl) in
+        let new = new_session (next_key (party me) s.sessions) to (Some f) [] in
+        let there = find_none_append (λ x. key_eq (next_key (party me) s.sessions) x.key) s.sessions new next_free (key_same (next_key (party me) s.sessions)) in
+        let apart = or_parts (to.0 == me) (nat_le w.nodes to.0) other in
+        let less = leb-false 64 (length (sessions_of f s.sessions)) few in
+        let more = length_filter (λ session. is_owner f session.owner) s.sessions new (eq-eqb f f refl) in
         record {
-          opened = record { flow = f; owned = refl; next = refl; other = other; few = omega arith; init = or_left _ _ (and_from _ _ (key_same (next_key me s)) refl) };
+          opened = record {
+            flow = f;
+            owned = refl;
+            opens = record { next = refl; other = apart.0; init = or_left _ _ (and_from _ _ (key_same (next_key (party me) s.sessions)) refl) };
+            there = lt-ltb to.0 w.nodes (leb-false w.nodes to.0 apart.1);
+            few = omega arith;
+          };
           sent = (record { session = new; stands = there; outgoing = own_direction; next = refl; lawful = refl }, tt);
           taken = tt;
           recorded = tt;
@@ -115,7 +128,7 @@ module _ {F : Type 0} (w : Environment F) (me : ℕ) (s : NodeState F) (stamp : 
     abbrev IsLate : Body → Type 0
     IsLate body = (d n : ℕ) → (n == 0) ≡ false → is_lawful d n body ≡ true
 
-    continues : (session : Session) (sessions : List Session) (body : Body) → IsLate body → (length session.sent == 0) ≡ false → session_of session.key sessions ≡ Some session → Continues me (item_on me session body) sessions
+    continues : (session : Session) (sessions : List Session) (body : Body) → IsLate body → (length session.sent == 0) ≡ false → session_of session.key sessions ≡ Some session → Continues (party me) (item_on (party me) session body) sessions
     continues session sessions body late begun there = record { session = session; stands = there; outgoing = refl; next = refl; lawful = late _ _ begun }
 
     late_data : (v : Value) → IsLate (body_of.Data v)
@@ -127,7 +140,7 @@ module _ {F : Type 0} (w : Environment F) (me : ℕ) (s : NodeState F) (stamp : 
     late_end : IsLate body_of.End
     late_end d n h = not_from_false _ h
 
-    sends_fit : (f : ℕ) (key : Key) (value : Value) (session : Session) → owned s f key ≡ Some session → FitsChange w me s stamp s.sessions (Some f) (record nothing { sent = item_on me session (body_of.Data value) ∷ [] })
+    sends_fit : (f : ℕ) (key : Key) (value : Value) (session : Session) → owned f key s.sessions ≡ Some session → FitsChange w me s stamp s.sessions (Some f) (record nothing { sent = item_on (party me) session (body_of.Data value) ∷ [] })
     sends_fit f key value session h =
         let there = owned_there f (session_of key s.sessions) session h in
         record { opened = tt; sent = (continues session s.sessions (body_of.Data value) (late_data value) (begun_at key session there) (own_key key session there), tt); taken = tt; recorded = tt; locked = refl; once = refl; booked = tt }
@@ -157,7 +170,7 @@ module _ {F : Type 0} (w : Environment F) (me : ℕ) (s : NodeState F) (stamp : 
         from_map (λ (x : Option ℕ × Body). FitsTaken s.sessions (option_map (λ n. (session.key, n + 1)) x.0)) (λ found. (Some found.0, found.1)) (first_item session.taken (drop session.taken session.came)) next h
         (λ found is. let b = taken_between session 0 found is in record { session = session; stands = there; above = b.0; below = b.1 })
 
-    takes_fit : (f : ℕ) (key : Key) (session : Session) (next : Option ℕ × Body) → owned s f key ≡ Some session → next_item session session.ending ≡ Some next → FitsChange w me s stamp s.sessions (Some f) (record nothing { taken = option_map (λ n. (session.key, n + 1)) next.0 })
+    takes_fit : (f : ℕ) (key : Key) (session : Session) (next : Option ℕ × Body) → owned f key s.sessions ≡ Some session → next_item session session.ending ≡ Some next → FitsChange w me s stamp s.sessions (Some f) (record nothing { taken = option_map (λ n. (session.key, n + 1)) next.0 })
     takes_fit f key session next h i =
         let there = own_key key session (owned_there f (session_of key s.sessions) session h) in
         record { opened = tt; sent = tt; taken = takes_part key session session.ending next there i; recorded = tt; locked = refl; once = refl; booked = tt }
@@ -191,7 +204,7 @@ module _ {F : Type 0} (w : Environment F) (me : ℕ) (s : NodeState F) (stamp : 
     stand_on key change sessions [] keeps free h = tt
     stand_on key change sessions (x ∷ xs) keeps free h = let n = or_parts _ _ free in (found_other key change sessions x n.0 keeps h.0, stand_on key change sessions xs keeps n.1 h.1)
 
-    last_fit : (body : Body) → IsLate body → (sessions xs : List Session) → Stand sessions xs → keys_differ xs ≡ true → list_all (λ x. not (length x.sent == 0)) xs ≡ true → FitsSent me stamp sessions (map (λ x. item_on me x body) xs)
+    last_fit : (body : Body) → IsLate body → (sessions xs : List Session) → Stand sessions xs → keys_differ xs ≡ true → list_all (λ x. not (length x.sent == 0)) xs ≡ true → FitsSent (party me) stamp sessions (map (λ x. item_on (party me) x body) xs)
     last_fit body late sessions [] h k b = tt
     last_fit body late sessions (x ∷ xs) h k b =
         let p = and_parts _ _ k in let q = and_parts _ _ b in (
@@ -230,12 +243,12 @@ module _ {F : Type 0} (w : Environment F) (me : ℕ) (s : NodeState F) (stamp : 
     stand_self [] h = tt
     stand_self (x ∷ xs) h = let p = and_parts _ _ h in (rw (key_same x.key) refl, stand_behind x xs xs (not-true _ p.0) (stand_self xs p.1))
 
-    finishes_fit : (f : ℕ) (owner : Option ℕ) (body : Body) → IsLate body → FitsChange w me s stamp s.sessions owner (record nothing { sent = map (λ x. item_on me x body) (sessions_of s f) })
+    finishes_fit : (f : ℕ) (owner : Option ℕ) (body : Body) → IsLate body → FitsChange w me s stamp s.sessions owner (record nothing { sent = map (λ x. item_on (party me) x body) (sessions_of f s.sessions) })
     finishes_fit f owner body late =
-        let Q = λ (x : Session). number_is f x.owner in
+        let Q = λ (x : Session). is_owner f x.owner in
         record {
           opened = tt;
-          sent = last_fit body late s.sessions (sessions_of s f) (stand_filter Q s.sessions s.sessions (stand_self s.sessions sound.keys)) (differ_filter Q s.sessions sound.keys) (all_filter (λ x. not (length x.sent == 0)) Q s.sessions sound.begun);
+          sent = last_fit body late s.sessions (sessions_of f s.sessions) (stand_filter Q s.sessions s.sessions (stand_self s.sessions sound.keys)) (differ_filter Q s.sessions sound.keys) (all_filter (λ x. not (length x.sent == 0)) Q s.sessions sound.begun);
           taken = tt;
           recorded = tt;
           locked = refl;
@@ -291,14 +304,14 @@ module _ {F : Type 0} (w : Environment F) (me : ℕ) (s : NodeState F) (stamp : 
 
     -- ---- an Init that is accepted
 
-    answer_sends : (key : Key) (owner : Option ℕ) (init body : Body) → is_new_key w me s key ≡ true → is_lawful 1 0 body ≡ true → FitsSent me stamp (s.sessions ++ new_session key key.initiator owner (init ∷ []) ∷ []) (record { key = key; direction = 1; seq = 0; body = body } ∷ [])
+    answer_sends : (key : Key) (owner : Option ℕ) (init body : Body) → is_new_key w.nodes (party me) s.sessions key ≡ true → is_lawful 1 0 body ≡ true → FitsSent (party me) stamp (s.sessions ++ new_session key key.initiator owner (init ∷ []) ∷ []) (record { key = key; direction = 1; seq = 0; body = body } ∷ [])
     answer_sends key owner init body h lawful =
-        let p = and_parts _ _ h in let q = and_parts _ _ p.1 in
+        let p = and_parts (is_none (session_of key s.sessions)) (not (is_no_peer w.nodes (party me) key.initiator)) h in
         let there = find_none_append (λ x. key_eq key x.key) s.sessions (new_session key key.initiator owner (init ∷ [])) (none_of _ p.0) (key_same key) in
-        let out : 1 ≡ direction_out me key = let e : (key.initiator.0 == me) ≡ false = not-true _ q.0 in rw e in
+        let out : 1 ≡ direction_out (party me) key = let e : (key.initiator.0 == me) ≡ false = initiator_other w.nodes me s.sessions key h in rw e in
         (record { session = new_session key key.initiator owner (init ∷ []); stands = there; outgoing = out; next = refl; lawful = lawful }, tt)
 
-    answering_fits : (key : Key) (class : ℕ) (first : Value) (o : Option (F × Act F)) → is_new_key w me s key ≡ true →
+    answering_fits : (key : Key) (class : ℕ) (first : Value) (o : Option (F × Act F)) → is_new_key w.nodes (party me) s.sessions key ≡ true →
         AcceptsInit (length s.flows) key (answering key (length s.flows) class (body_of.Init class first) o) (answering key (length s.flows) class (body_of.Init class first) o).change.came
         × FitsChange w me s stamp (came_on (event.Answer key) (option_to_list (answering key (length s.flows) class (body_of.Init class first) o).change.came) (flow_of (answering key (length s.flows) class (body_of.Init class first) o).flow) s.sessions) (flow_of (answering key (length s.flows) class (body_of.Init class first) o).flow) (answering key (length s.flows) class (body_of.Init class first) o).change
     answering_fits key class first (Some made) h =
@@ -348,7 +361,7 @@ module _ {F : Type 0} (w : Environment F) (me : ℕ) (s : NodeState F) (stamp : 
         let a = answering_fits key class first (w.machine.begun class key (place w me (length s.flows) 0 now)) k in
         fits_on ev (event.Answer key) e _ i l (record { event = (k, a.0); change = a.1 })
     does_fit now ev body e (arrives key direction number b session i j k l m) =
-        let p = and_parts (direction == 1 - direction_out me key) _ l in let q = and_parts (number == length session.came) _ p.1 in let r = and_parts (is_lawful direction number b) _ q.1 in
+        let p = and_parts (direction == direction_in (party me) key) _ l in let q = and_parts (number == length session.came) _ p.1 in let r = and_parts (is_lawful direction number b) _ q.1 in
         fits_on ev (event.Arrive key direction number) e _ i m (record {
           event = record { session = session; stands = k; incoming = eqb-true _ _ p.0; expected = eqb-true _ _ q.0; body = b; lawful = r.0; alone = refl };
           change = record { opened = tt; sent = tt; taken = tt; recorded = tt; locked = refl; once = refl; booked = tt };

@@ -25,7 +25,8 @@ use Rattle.ledger_types.specs.Names.{hash_eq}
 use Rattle.ledger_types.specs.Signatures.{tx_id}
 use Rattle.ledger_types.specs.Stores.{stored_of}
 use Rattle.net_model.specs.State.{NodeState, Effect, Change, with_ids}
-use Rattle.net_model.specs.Steps.{Done, handed, onwards, booked_by, place, answering, checkpoint_of, live_at, sessions_of, item_on, live}
+use Rattle.net_model.specs.Steps.{Done, handed, onwards, booked_by, place, answering, checkpoint_of, live_at, live}
+use Rattle.session_wire.specs.Rules.{sessions_of, item_on}
 use Rattle.flow_machine.specs.Tags.{answer_tags, value_tags, act_tags, resumed_tags, KeepsTags, BeginsBare}
 use Rattle.net_model.specs.Tags.{body_tags, flow_passes, body_passes, ending_passes, session_passes, entry_passes, Passes}
 use Rattle.net_model.proofs.Basics.{some_eq, from_some, from_map, from_then}
@@ -155,7 +156,7 @@ module _ {F : Type 0} (w : Environment F) (me : ℕ) (s : NodeState F) (now : �
     onwards_pass : (frame : F) (below : List F) (with : Resumed) → list_all test (w.machine.tags frame) ≡ true → list_all (λ x. list_all test (w.machine.tags x)) below ≡ true → list_all test (resumed_tags with) ≡ true → part_passes w.machine.tags test (onwards w me now at frame below with) ≡ true
     onwards_pass frame below with h k r = let n = keeps test frame with (place w me at.flow at.step now) h r in and_from _ _ n.0 (and_from _ _ k n.1)
 
-    last_pass : (sessions : List Session) (body : Body) → body_passes test body ≡ true → list_all (λ item. body_passes test item.body) (map (λ session. item_on me session body) sessions) ≡ true
+    last_pass : (sessions : List Session) (body : Body) → body_passes test body ≡ true → list_all (λ item. body_passes test item.body) (map (λ session. item_on (party me) session body) sessions) ≡ true
     last_pass [] body h = refl
     last_pass (x ∷ xs) body h = and_from _ _ h (last_pass xs body h)
 
@@ -175,9 +176,9 @@ module _ {F : Type 0} (w : Environment F) (me : ℕ) (s : NodeState F) (now : �
         onto e _ k (record { flow = onwards_pass frame below (resumed.Returned value) (and_parts _ _ q).0 (and_parts _ _ q).1 p; sent = refl; came = refl; recorded = refl; booked = refl })
     gives_brings e answers (finished value i j k) =
         let p : list_all test (value_tags value) ≡ true = ap (λ (x : Act F). list_all test (act_tags w.machine.tags x)) (sym i) ∙ act_passes in
-        onto e _ k (record { flow = p; sent = last_pass (sessions_of s at.flow) body_of.End refl; came = refl; recorded = refl; booked = refl })
+        onto e _ k (record { flow = p; sent = last_pass (sessions_of at.flow s.sessions) body_of.End refl; came = refl; recorded = refl; booked = refl })
     gives_brings e answers (failed code i k) =
-        onto e _ k (record { flow = refl; sent = last_pass (sessions_of s at.flow) (body_of.Error code) refl; came = refl; recorded = refl; booked = refl })
+        onto e _ k (record { flow = refl; sent = last_pass (sessions_of at.flow s.sessions) (body_of.Error code) refl; came = refl; recorded = refl; booked = refl })
 
   checkpoint_passes : (x : FlowState F) (at : Checkpoint F) → flow_passes w.machine.tags test x ≡ true → checkpoint_of x ≡ Some at → flow_passes w.machine.tags test (state.Live at) ≡ true
   checkpoint_passes (state.Live y) at h e = subst (λ (z : Checkpoint F). flow_passes w.machine.tags test (state.Live z) ≡ true) (some_eq e) h

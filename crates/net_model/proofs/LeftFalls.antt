@@ -1,5 +1,5 @@
 -- In a run what is left falls at each cause but Start.
-use Rattle.std.proofs.Common.{◌≡◌, ℕ, suc, ◌+◌, ◌-◌, ◌<◌, ◌≤◌, ⊎_elim, List, [], ◌∷◌, ◌++◌, Option, Some, None, Bool, true, false, cond, ◌==◌, not, nat_lt, drop, is_none, option_map, option_and_then, option_to_list, slice_get, slice_set, length, refl, sym, ap, subst, ◌∙◌, arith, length-append, length-set}
+use Rattle.std.proofs.Common.{◌≡◌, ℕ, suc, ◌+◌, ◌<◌, ◌≤◌, ⊎_elim, List, [], ◌∷◌, ◌++◌, Option, Some, None, Bool, true, false, cond, ◌==◌, not, nat_lt, drop, is_none, option_map, option_and_then, option_to_list, slice_get, slice_set, length, refl, sym, ap, subst, ◌∙◌, arith, length-append, length-set}
 use Rattle.std.specs.List.{list_all}
 use Rattle.std.proofs.lemmas.Bool.{and_parts, and_from, eqb-true, eq-eqb, ne_eqb, ltb-true, lt-ltb}
 use Rattle.net_base.specs.declared.names.Key.{Key}
@@ -17,11 +17,11 @@ use Rattle.flow_machine.specs.declared.flows.Checkpoint.{Checkpoint}
 use Rattle.flow_machine.specs.declared.flows.FlowState.{FlowState}
 use Rattle.flow_machine.specs.declared.flows.FlowState.TheVariants as state
 use Rattle.session_wire.specs.Sessions.{Sent, Session, changed_at, key_eq, new_session, opened_on, sent_on, session_of, taken_on, with_came, with_sent, with_taken}
-use Rattle.net_model.specs.Names.{number_is}
+use Rattle.session_wire.specs.Rules.{is_owner, is_new_key, direction_in}
 use Rattle.flow_machine.specs.Machine.{Machine}
-use Rattle.net_model.specs.Environment.{Environment}
+use Rattle.net_model.specs.Environment.{Environment, party}
 use Rattle.net_model.specs.State.{NodeState, FlowPart, no_flow, now_live, now_ended, now_failed, Effect, nothing, came_on, sessions_on, flow_of, flows_on, placed, apply_effect, fresh}
-use Rattle.net_model.specs.Steps.{place, live_at, checkpoint_of, is_new_key, answering, body_in, direction_out}
+use Rattle.net_model.specs.Steps.{place, live_at, checkpoint_of, answering, body_in}
 use Rattle.net_model.specs.Runs.{sent_to, item_from, item_for, net_step, fresh_net, run_from, run_of}
 use Rattle.net_model.specs.Fits.{IsSound, Fits, keys_differ}
 use Rattle.flow_machine.specs.Flows.{Falls, LoadHolds, is_fair, OversHold}
@@ -217,7 +217,7 @@ owns_none (x ∷ xs) n h =
     let p = and_parts (owner_below n x.owner) (list_all (λ y. owner_below n y.owner) xs) h in
     let a = not_own x.owner p.0 in let b = owns_none xs n p.1 in omega arith
   where
-    not_own : (o : Option ℕ) → owner_below n o ≡ true → one_of (number_is n o) ≡ 0
+    not_own : (o : Option ℕ) → owner_below n o ≡ true → one_of (is_owner n o) ≡ 0
     not_own None k = refl
     not_own (Some f) k = let l = ltb-true f n k in let e : (n == f) ≡ false = ne_eqb n f (λ q. omega arith) in ap one_of e
 
@@ -259,7 +259,7 @@ module _ {F : Type 0} (w : Environment F) (net : List (NodeState F)) (s : NodeSt
         let a = items_sent w net stamp (record { key = key; direction = 1; seq = 0; body = body } ∷ []) (s.sessions ++ new_session key key.initiator owner (init ∷ []) ∷ []) keys in
         let b = items_append w net s.sessions (new_session key key.initiator owner (init ∷ [])) refl in omega arith
 
-    answered_owns : (stamp g : ℕ) (key : Key) (owner : Option ℕ) (init body : Body) → owns (Answered stamp key owner init body) g ≡ owns s.sessions g + one_of (number_is g owner)
+    answered_owns : (stamp g : ℕ) (key : Key) (owner : Option ℕ) (init body : Body) → owns (Answered stamp key owner init body) g ≡ owns s.sessions g + one_of (is_owner g owner)
     answered_owns stamp g key owner init body = owns_sent g stamp (record { key = key; direction = 1; seq = 0; body = body } ∷ []) _ ∙ owns_append g s.sessions (new_session key key.initiator owner (init ∷ []))
 
     node_answers : (cause : Cause) (key : Key) (class : ℕ) (first : Value) (o : Option (F × Act F)) → cause.event ≡ event.Answer key → w.machine.begun class key (place w me (length s.flows) 0 cause.moment.0) ≡ o → LoadHolds w.machine → keys_differ (s.sessions ++ new_session key key.initiator (flow_of (answering key (length s.flows) class (body_of.Init class first) o).flow) (body_of.Init class first ∷ []) ∷ []) ≡ true
@@ -310,7 +310,7 @@ item_costs m (body_of.Error code) = omega arith
 item_costs m body_of.End = omega arith
 
 module _ {F : Type 0} (w : Environment F) (falls : Falls w.machine) (load : LoadHolds w.machine) (net : List (NodeState F)) (p : ℕ) (s : NodeState F) (cause : Cause) (e : Effect F) (is : slice_get net p ≡ Some s) (sound : IsSound p s) (fair : IsFair w.machine s) (fits : Fits w p s cause e) where
-  answers_fall : (key : Key) (class : ℕ) (first : Value) (item : Sent) → cause.event ≡ event.Answer key → item_for net p s cause.event ≡ Some item → item.body ≡ body_of.Init class first → is_new_key w p s key ≡ true → e ≡ answering key (length s.flows) class (body_of.Init class first) (w.machine.begun class key (place w p (length s.flows) 0 cause.moment.0)) → left w (slice_set net p (apply_effect s cause e)) + 1 ≤ left w net
+  answers_fall : (key : Key) (class : ℕ) (first : Value) (item : Sent) → cause.event ≡ event.Answer key → item_for net p s cause.event ≡ Some item → item.body ≡ body_of.Init class first → is_new_key w.nodes (party p) s.sessions key ≡ true → e ≡ answering key (length s.flows) class (body_of.Init class first) (w.machine.begun class key (place w p (length s.flows) 0 cause.moment.0)) → left w (slice_set net p (apply_effect s cause e)) + 1 ≤ left w net
   answers_fall key class first item ev from body new i =
       let init = body_of.Init class first in
       let o = w.machine.begun class key (place w p (length s.flows) 0 cause.moment.0) in
@@ -365,7 +365,7 @@ module _ {F : Type 0} (w : Environment F) (falls : Falls w.machine) (load : Load
   does_fall (answers_to key class first i j k l) start = let b = body_in_item (item_for net p s cause.event) (body_of.Init class first) j in answers_fall key class first b.0 i b.1 b.2 k l
   does_fall (arrives key direction number b session i j k l m) start =
       let c = body_in_item (item_for net p s cause.event) b j in
-      let q = and_parts (direction == 1 - direction_out p key) _ l in let r = and_parts (number == length session.came) _ q.1 in
+      let q = and_parts (direction == direction_in (party p) key) _ l in let r = and_parts (number == length session.came) _ q.1 in
       arrives_fall key direction number b session c.0 i c.1 k (eqb-true number (length session.came) r.0) m
   does_fall (acts f at i j g) start =
       let fair_at = all_get (flow_is_fair w.machine) s.flows f (state.Live at) fair.flows (live_get s f at j) in

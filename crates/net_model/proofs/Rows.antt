@@ -1,13 +1,16 @@
 -- Worked runs, by computation.
-use Rattle.net_model.specs.Environment.{party, judge_without_contracts}
+use Rattle.net_model.specs.Environment.{party, judge_without_contracts, is_act_built}
 use Rattle.signing.specs.Marks.{keyed_mark}
-use Rattle.std.proofs.Common.{option_and_then, slice_get, slice_set, ◌≡◌, ℕ, ◌+◌, ◌-◌, ◌==◌, List, [], ◌∷◌, Option, Some, None, Result, Ok, Err, false, if◌then◌else◌, map, option_map, refl}
+use Rattle.std.proofs.Common.{◌≡◌, ℕ, ◌+◌, ◌-◌, ◌==◌, List, [], ◌∷◌, Option, Some, None, Result, Ok, Err, Bool, true, false, if◌then◌else◌, map, option_map, refl}
 use Rattle.net_base.specs.declared.names.Key.{Key}
 use Rattle.net_base.specs.declared.causes.Cause.{Cause}
 use Rattle.net_base.specs.declared.causes.Event.{Event}
 use Rattle.net_base.specs.declared.causes.Event.TheVariants as event
 use Rattle.ledger_types.specs.declared.value.Value.{Value}
 use Rattle.ledger_types.specs.declared.value.Value.TheVariants as value
+use Rattle.session_wire.specs.declared.body.Body.{Body}
+use Rattle.session_wire.specs.declared.body.Body.TheVariants as body
+use Rattle.session_wire.specs.Sessions.{Sent, Session}
 use Rattle.flow_machine.specs.declared.acts.Act.{Act}
 use Rattle.flow_machine.specs.declared.acts.Act.TheVariants as act
 use Rattle.flow_machine.specs.declared.acts.Resumed.{Resumed}
@@ -19,9 +22,9 @@ use Rattle.flow_machine.specs.declared.flows.FlowState.{FlowState}
 use Rattle.flow_machine.specs.declared.flows.FlowState.TheVariants as state
 use Rattle.net_model.specs.Environment.{Environment}
 use Rattle.flow_machine.specs.Machine.{Machine}
-use Rattle.net_model.specs.State.{NodeState, apply_effect}
-use Rattle.net_model.specs.Steps.{meant_of, effect_of, in_order, body_in, stamp_in, node_step}
-use Rattle.net_model.specs.Runs.{run_of, net_step, item_from, item_for, fresh_net, merge}
+use Rattle.net_model.specs.State.{apply_effect}
+use Rattle.net_model.specs.Steps.{effect_of, node_step}
+use Rattle.net_model.specs.Runs.{run_of, net_step, item_from, merge}
 use Rattle.net_model.proofs.Local.{of_node}
 
 data Frame : Type 0 where
@@ -104,8 +107,17 @@ machine = record {
   load = λ class. 0;
 }
 
-abbrev setting : ℕ → Environment Frame
-setting nodes = record { machine = machine; nodes = nodes; notary = party 0; judge = judge_without_contracts; mark = keyed_mark; frame_at = λ bytes. Err 0 }
+-- so many nodes, which perform these acts, and accept items or don't
+abbrev network : (Act Frame → Bool) → Bool → ℕ → Environment Frame
+network performs talks nodes = record { machine = machine; nodes = nodes; notary = party 0; judge = judge_without_contracts; mark = keyed_mark; frame_at = λ bytes. Err 0; performs = performs; talks = talks }
+
+-- nodes that do what nodes do so far
+abbrev narrow : ℕ → Environment Frame
+narrow nodes = network is_act_built false nodes
+
+-- nodes that perform all acts and accept items
+abbrev whole : ℕ → Environment Frame
+whole nodes = network (λ a. true) true nodes
 
 abbrev at : ℕ → ℕ → Event → ℕ × Cause
 at stamp node e = (node, record { stamp = stamp; moment = record { 0 = 0 }; event = e })
@@ -121,49 +133,81 @@ row_four =
     at 1 0 (event.Start 0 2 (1 ∷ 1 ∷ [])) ∷ at 2 0 (event.Move 0) ∷ at 3 1 (event.Answer key) ∷ at 4 0 (event.Arrive key 1 0) ∷ at 4 1 (event.Move 0) ∷ at 5 1 (event.Move 0)
     ∷ at 6 0 (event.Arrive key 1 1) ∷ at 7 0 (event.Move 0) ∷ at 8 0 (event.Move 0) ∷ at 9 1 (event.Arrive key 0 1) ∷ at 10 1 (event.Move 0) ∷ at 11 1 (event.Move 0) ∷ at 12 0 (event.Arrive key 1 2) ∷ []
 
-abbrev flows_after : ℕ → List (ℕ × Cause) → Option (List (List (FlowState Frame)))
-flows_after nodes causes = option_map (λ net. map (λ s. s.flows) net) (run_of (setting nodes) causes)
+abbrev flows_after : Environment Frame → List (ℕ × Cause) → Option (List (List (FlowState Frame)))
+flows_after w causes = option_map (λ net. map (λ s. s.flows) net) (run_of w causes)
 
-row_two_runs : flows_after 1 row_two ≡ Some ((state.Ended 1 1 (value.Number 0) ∷ []) ∷ [])
-unfolding run_of net_step node_step effect_of apply_effect item_from
+abbrev sessions_after : Environment Frame → List (ℕ × Cause) → Option (List (List Session))
+sessions_after w causes = option_map (λ net. map (λ s. s.sessions) net) (run_of w causes)
+
+row_two_runs : flows_after (narrow 1) row_two ≡ Some ((state.Ended 1 1 (value.Number 0) ∷ []) ∷ [])
+unfolding is_act_built run_of net_step node_step effect_of apply_effect item_from
 row_two_runs = refl
 
 abbrev slept : List (ℕ × Cause)
 slept = at 1 0 (event.Start 0 1 (2 ∷ [])) ∷ at 2 0 (event.Lapse 0) ∷ at 3 0 (event.Lapse 0) ∷ at 4 0 (event.Move 0) ∷ []
 
-slept_runs : flows_after 1 slept ≡ Some ((state.Ended 3 1 (value.Number 2) ∷ []) ∷ [])
-unfolding run_of net_step node_step effect_of apply_effect item_from
+slept_runs : flows_after (narrow 1) slept ≡ Some ((state.Ended 3 1 (value.Number 2) ∷ []) ∷ [])
+unfolding is_act_built run_of net_step node_step effect_of apply_effect item_from
 slept_runs = refl
 
 -- a frame begins above another, returns to it, and that one ends the flow
 abbrev subbed : List (ℕ × Cause)
 subbed = at 1 0 (event.Start 0 3 []) ∷ at 2 0 (event.Move 0) ∷ at 3 0 (event.Move 0) ∷ at 4 0 (event.Move 0) ∷ []
 
-subbed_runs : flows_after 1 subbed ≡ Some ((state.Ended 3 3 (value.Number 7) ∷ []) ∷ [])
-unfolding run_of net_step node_step effect_of apply_effect item_from
+subbed_runs : flows_after (narrow 1) subbed ≡ Some ((state.Ended 3 3 (value.Number 7) ∷ []) ∷ [])
+unfolding is_act_built run_of net_step node_step effect_of apply_effect item_from
 subbed_runs = refl
 
 -- a stamp that isn't the next one is no step
-not_a_run : run_of (setting 1) (at 2 0 (event.Start 0 1 (0 ∷ [])) ∷ []) ≡ None
-unfolding run_of net_step node_step effect_of apply_effect item_from
+not_a_run : run_of (narrow 1) (at 2 0 (event.Start 0 1 (0 ∷ [])) ∷ []) ≡ None
+unfolding is_act_built run_of net_step node_step effect_of apply_effect item_from
 not_a_run = refl
 
--- ---- what is meant of two nodes, built or not
+-- ---- two nodes and a session
 
-abbrev meant_from : List (NodeState Frame) → List (ℕ × Cause) → Option (List (NodeState Frame))
-meant_from net [] = Some net
-meant_from net (x ∷ xs) =
-    option_and_then (λ s.
-    if in_order s x.1 (stamp_in (item_for net x.0 s x.1.event))
-    then option_and_then (λ e. meant_from (slice_set net x.0 (apply_effect s x.1 e)) xs) (meant_of (setting 2) x.0 s x.1.moment.0 x.1.event (body_in (item_for net x.0 s x.1.event)))
-    else None) (slice_get net x.0)
+row_four_runs : flows_after (whole 2) row_four ≡ Some ((state.Ended 3 2 (value.Number 1) ∷ []) ∷ (state.Ended 4 2 value.Unit ∷ []) ∷ [])
+unfolding is_act_built run_of net_step node_step effect_of apply_effect item_from
+row_four_runs = refl
 
-abbrev meant_after : List (ℕ × Cause) → Option (List (List (FlowState Frame)))
-meant_after causes = option_map (λ net. map (λ s. s.flows) net) (meant_from (fresh_net (setting 2)) causes)
+abbrev item : ℕ → Body → Sent
+item stamp b = record { body = b; stamp = stamp }
 
-row_four_meant : meant_after row_four ≡ Some ((state.Ended 3 2 (value.Number 1) ∷ []) ∷ (state.Ended 4 2 value.Unit ∷ []) ∷ [])
-unfolding apply_effect item_from
-row_four_meant = refl
+-- the session at node 0, which opened it, took the Data behind the Confirm and ended
+abbrev opened_session : Session
+opened_session = record {
+  key = key;
+  peer = party 1;
+  owner = Some 0;
+  sent = item 2 (body.Init 2 (value.Number 0)) ∷ item 8 body.End ∷ [];
+  came = body.Confirm ∷ body.Data (value.Number 1) ∷ body.End ∷ [];
+  taken = 2;
+  ending = None;
+}
+
+-- the session at node 1, which answered, took the Init, sent Data, took the End and ended
+abbrev answered_session : Session
+answered_session = record {
+  key = key;
+  peer = party 0;
+  owner = Some 0;
+  sent = item 3 body.Confirm ∷ item 5 (body.Data (value.Number 1)) ∷ item 11 body.End ∷ [];
+  came = body.Init 2 (value.Number 0) ∷ body.End ∷ [];
+  taken = 2;
+  ending = Some body.End;
+}
+
+row_four_talks : sessions_after (whole 2) row_four ≡ Some ((opened_session ∷ []) ∷ (answered_session ∷ []) ∷ [])
+unfolding is_act_built run_of net_step node_step effect_of apply_effect item_from
+row_four_talks = refl
+
+-- nodes that accept no items, or open no sessions, don't run it
+row_four_needs_items : flows_after (network (λ a. true) false 2) row_four ≡ None
+unfolding is_act_built run_of net_step node_step effect_of apply_effect item_from
+row_four_needs_items = refl
+
+row_four_needs_acts : flows_after (network is_act_built true 2) row_four ≡ None
+unfolding is_act_built run_of net_step node_step effect_of apply_effect item_from
+row_four_needs_acts = refl
 
 -- merging the lists of the nodes gives the run back
 abbrev own : ℕ → List (ℕ × Cause) → List Cause
@@ -174,14 +218,14 @@ unfolding merge
 row_four_merged = refl
 
 -- a Move before the Init's Arrive, a second Arrive of one item, and an item that the sender doesn't have, are no steps
-early : meant_after (at 1 0 (event.Start 0 2 (1 ∷ 1 ∷ [])) ∷ at 2 0 (event.Move 0) ∷ at 3 1 (event.Answer key) ∷ at 4 0 (event.Move 0) ∷ []) ≡ None
-unfolding apply_effect item_from
+early : flows_after (whole 2) (at 1 0 (event.Start 0 2 (1 ∷ 1 ∷ [])) ∷ at 2 0 (event.Move 0) ∷ at 3 1 (event.Answer key) ∷ at 4 0 (event.Move 0) ∷ []) ≡ None
+unfolding is_act_built run_of net_step node_step effect_of apply_effect item_from
 early = refl
 
-twice : meant_after (at 1 0 (event.Start 0 2 (1 ∷ 1 ∷ [])) ∷ at 2 0 (event.Move 0) ∷ at 3 1 (event.Answer key) ∷ at 4 0 (event.Arrive key 1 0) ∷ at 5 0 (event.Arrive key 1 0) ∷ []) ≡ None
-unfolding apply_effect item_from
+twice : flows_after (whole 2) (at 1 0 (event.Start 0 2 (1 ∷ 1 ∷ [])) ∷ at 2 0 (event.Move 0) ∷ at 3 1 (event.Answer key) ∷ at 4 0 (event.Arrive key 1 0) ∷ at 5 0 (event.Arrive key 1 0) ∷ []) ≡ None
+unfolding is_act_built run_of net_step node_step effect_of apply_effect item_from
 twice = refl
 
-unsent : meant_after (at 1 0 (event.Start 0 2 (1 ∷ 1 ∷ [])) ∷ at 2 1 (event.Answer key) ∷ []) ≡ None
-unfolding apply_effect item_from
+unsent : flows_after (whole 2) (at 1 0 (event.Start 0 2 (1 ∷ 1 ∷ [])) ∷ at 2 1 (event.Answer key) ∷ []) ≡ None
+unfolding is_act_built run_of net_step node_step effect_of apply_effect item_from
 unsent = refl

@@ -19,16 +19,17 @@ use Rattle.flow_machine.specs.declared.flows.FlowState.{FlowState}
 use Rattle.flow_machine.specs.declared.flows.FlowState.TheVariants as state
 use Rattle.ledger_types.specs.Names.{hash_eq}
 use Rattle.session_wire.specs.Sessions.{Sent, Session, changed_at, key_eq, new_session, opened_on, sent_on, session_of, taken_on, with_came, with_sent, with_taken}
+use Rattle.session_wire.specs.Rules.{is_init_of, is_no_peer}
 use Rattle.net_model.specs.Environment.{Environment, party}
 use Rattle.ledger_types.specs.Stores.{is_stored}
 use Rattle.ledger_types.specs.Signatures.{tx_id}
 use Rattle.net_model.specs.State.{NodeState, FlowPart, no_flow, now_live, now_ended, now_failed, Effect, Record, with_ids, apply_effect, came_on, sessions_on, flow_of, flows_on, placed, fresh}
 use Rattle.net_model.specs.Steps.{checkpoint_of}
 use Rattle.net_model.specs.Runs.{IsLocalFrom}
-use Rattle.net_model.specs.Fits.{AnswersFirst, AcceptsInit, FitsEvent, FitsOpened, is_init_of, FitsRecorded, Fits, keys_differ, ids_differ, is_counted, IsSound, FitsKeepSound, FreshIsSound}
+use Rattle.net_model.specs.Fits.{AnswersFirst, AcceptsInit, FitsEvent, FitsOpened, FitsRecorded, Fits, keys_differ, ids_differ, is_counted, IsSound, FitsKeepSound, FreshIsSound}
 use Rattle.net_model.proofs.Basics.{some_eq, get_set}
 use Rattle.net_model.proofs.Effects.{step_taken}
-use Rattle.net_model.proofs.Fitting.{key_true, key_same, step_fits, not_counted}
+use Rattle.net_model.proofs.Fitting.{key_true, key_same, step_fits, not_counted, initiator_other}
 use Rattle.net_model.proofs.Lists.{all_append, all_one, all_mapped, all_weaker}
 
 -- ---- flows keep their numbers
@@ -210,9 +211,9 @@ module _ {F : Type 0} (w : Environment F) (me : ℕ) (s : NodeState F) (sound : 
 
   pub came_kept : (ev : Event) (e : Effect F) → FitsEvent w me s ev e → Kept me e.change.sent (came_on ev (option_to_list e.change.came) (flow_of e.flow) s.sessions)
   came_kept (event.Answer key) e h =
-      let p = and_parts (is_none (session_of key s.sessions)) (not (key.initiator.0 == me) && nat_lt key.initiator.0 w.nodes) h.0 in let q = and_parts (not (key.initiator.0 == me)) (nat_lt key.initiator.0 w.nodes) p.1 in
+      let p = and_parts (is_none (session_of key s.sessions)) (not (is_no_peer w.nodes (party me) key.initiator)) h.0 in
       let new = new_session key key.initiator (flow_of e.flow) (option_to_list e.change.came) in
-      kept_append me e.change.sent s.sessions new (start_kept e.change.sent) (accepts_key (length s.flows) key e e.change.came h.1) (none_of _ p.0) (or_left (not (key.initiator.0 == me)) (nat_lt key.number (count me (s.sessions ++ new ∷ []))) q.0)
+      kept_append me e.change.sent s.sessions new (start_kept e.change.sent) (accepts_key (length s.flows) key e e.change.came h.1) (none_of _ p.0) (or_left (not (key.initiator.0 == me)) (nat_lt key.number (count me (s.sessions ++ new ∷ []))) (not_from_false _ (initiator_other w.nodes me s.sessions key h.0)))
   came_kept (event.Arrive key direction number) e h = kept_quiet me e.change.sent key (with_came (option_to_list e.change.came)) s.sessions (λ x. refl) (λ x. refl) (start_kept e.change.sent)
   came_kept (event.Start f class args) e h = start_kept e.change.sent
   came_kept (event.Move f) e h = start_kept e.change.sent
@@ -220,8 +221,7 @@ module _ {F : Type 0} (w : Environment F) (me : ℕ) (s : NodeState F) (sound : 
 
   pub came_count : (ev : Event) (e : Effect F) → FitsEvent w me s ev e → count me (came_on ev (option_to_list e.change.came) (flow_of e.flow) s.sessions) ≡ count me s.sessions
   came_count (event.Answer key) e h =
-      let p = and_parts (is_none (session_of key s.sessions)) (not (key.initiator.0 == me) && nat_lt key.initiator.0 w.nodes) h.0 in let q = and_parts (not (key.initiator.0 == me)) (nat_lt key.initiator.0 w.nodes) p.1 in
-      count_other me s.sessions (new_session key key.initiator (flow_of e.flow) (option_to_list e.change.came)) (not-true _ q.0)
+      count_other me s.sessions (new_session key key.initiator (flow_of e.flow) (option_to_list e.change.came)) (initiator_other w.nodes me s.sessions key h.0)
   came_count (event.Arrive key direction number) e h = count_map (at_key key (with_came (option_to_list e.change.came))) (at_key_same key (with_came (option_to_list e.change.came)) (λ x. refl)) me s.sessions
   came_count (event.Start f class args) e h = refl
   came_count (event.Move f) e h = refl
@@ -231,13 +231,13 @@ module _ {F : Type 0} (w : Environment F) (me : ℕ) (s : NodeState F) (sound : 
   opened_kept None owner sent after before size h k = k
   opened_kept (Some opened) owner sent after before size h k =
       let new = new_session opened.0 opened.1 owner [] in
-      let key : opened.0 ≡ record { initiator = party me; number = count me before } = h.next ∙ ap (λ (n : ℕ). record { initiator = party me; number = n }) (sym size) in
+      let key : opened.0 ≡ record { initiator = party me; number = count me before } = h.opens.next ∙ ap (λ (n : ℕ). record { initiator = party me; number = n }) (sym size) in
       let none : session_of opened.0 before ≡ None = ap (λ (x : Key). session_of x before) key ∙ not_counted w me s 0 sound (count me before) before k.counted in
       let own : (opened.0.initiator.0 == me) ≡ true = eq-eqb opened.0.initiator.0 me (ap (λ (x : Key). x.initiator.0) key) in
       let number : opened.0.number ≡ count me before = ap (λ (x : Key). x.number) key in
       let bigger = count_own me before new own in
       kept_append me sent before new k
-      (any_weaker (is_init_of opened.0) (λ item. key_eq item.key opened.0) sent (λ item i. let p = and_parts (key_eq opened.0 item.key) _ i in subst (λ (x : Key). key_eq x opened.0 ≡ true) (key_true opened.0 item.key p.0) (key_same opened.0)) h.init)
+      (any_weaker (is_init_of opened.0) (λ item. key_eq item.key opened.0) sent (λ item i. let p = and_parts (key_eq opened.0 item.key) _ i in subst (λ (x : Key). key_eq x opened.0 ≡ true) (key_true opened.0 item.key p.0) (key_same opened.0)) h.opens.init)
       none (or_right (not (opened.0.initiator.0 == me)) _ (lt-ltb opened.0.number (count me (before ++ new ∷ [])) (omega arith)))
 
   sessions_sound : (cause : Cause) (e : Effect F) → Fits w me s cause e → Kept me [] (taken_on e.change.taken (sent_on cause.stamp e.change.sent (opened_on e.change.opened (flow_of e.flow) (came_on cause.event (option_to_list e.change.came) (flow_of e.flow) s.sessions))))

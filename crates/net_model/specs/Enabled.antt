@@ -7,9 +7,30 @@ use Rattle.flow_machine.specs.declared.acts.Act.{Act}
 use Rattle.flow_machine.specs.declared.acts.Act.TheVariants as act
 use Rattle.flow_machine.specs.declared.flows.FlowState.{FlowState}
 use Rattle.flow_machine.specs.declared.flows.FlowState.TheVariants as state
+use Rattle.session_wire.specs.Sessions.{Session}
+use Rattle.session_wire.specs.Rules.{owned, waits_for}
 use Rattle.net_model.specs.Environment.{Environment}
+use Rattle.net_model.specs.Sound.{IsNumbered}
+use Rattle.net_model.specs.Cut.{IsNarrow}
 use Rattle.net_model.specs.State.{NodeState, FlowPart, now_live, now_ended, now_failed, Effect}
 use Rattle.net_model.specs.Steps.{effect_of, performed, lapsed, lapses, checkpoint_of, is_flow_built}
+
+-- the event that performs an act of flow f at a moment, where the act is enabled
+abbrev pub enabling : {F : Type 0} → List Session → ℕ → ℕ → Act F → Option Event
+enabling sessions f now (act.Sleep until) = if nat_le until now then Some (event.Lapse f) else None
+enabling sessions f now (act.Receive key) = if waits_for (owned f key sessions) then None else Some (event.Move f)
+enabling sessions f now (act.ReceiveBy key until) =
+    if waits_for (owned f key sessions) then (if nat_le until now then Some (event.Lapse f) else None)
+    else Some (event.Move f)
+enabling sessions f now _ = Some (event.Move f)
+
+-- the event by which a flow goes on at a moment, where it is live on an act that is enabled and that nodes perform
+abbrev pub enabled_event : {F : Type 0} → Environment F → List Session → ℕ → FlowState F → Option Event
+enabled_event w sessions now (state.Live at) = if w.performs at.waiting then enabling sessions at.flow now at.waiting else None
+enabled_event w sessions now (state.Ended step class value) = None
+enabled_event w sessions now (state.Failed step class code) = None
+
+-- ---- what nodes do so far
 
 -- the event that performs an act of flow f at a moment, where it is enabled; only what nodes perform so far is
 abbrev pub performing : {F : Type 0} → ℕ → ℕ → Act F → Option Event
@@ -43,13 +64,20 @@ part_of f (state.Failed step class code) = now_failed f step class code
 
 -- the effect of a Move or a Lapse of a flow that is this
 abbrev pub effect_on : {F : Type 0} → Environment F → ℕ → NodeState F → ℕ → FlowState F → Event → Option (Effect F)
-effect_on w me s now flow (event.Move f) = if is_flow_built (checkpoint_of flow) then option_and_then (λ at. performed w me s now at at.waiting) (checkpoint_of flow) else None
-effect_on w me s now flow (event.Lapse f) = if is_flow_built (checkpoint_of flow) then option_and_then (λ at. lapsed w me now at (lapses s now at.flow at.waiting)) (checkpoint_of flow) else None
+effect_on w me s now flow (event.Move f) = if is_flow_built w (checkpoint_of flow) then option_and_then (λ at. performed w me s now at at.waiting) (checkpoint_of flow) else None
+effect_on w me s now flow (event.Lapse f) = if is_flow_built w (checkpoint_of flow) then option_and_then (λ at. lapsed w me now at (lapses s now at.flow at.waiting)) (checkpoint_of flow) else None
 effect_on w me s now flow (event.Start f class args) = None
 effect_on w me s now flow (event.Answer key) = None
 effect_on w me s now flow (event.Arrive key direction number) = None
 
--- an act is enabled, by the event that performs it, exactly where that event has an effect
+-- ---- laws
+
+-- a flow that keeps its own number goes on, by the event that performs its act, exactly where that event has an effect
 abbrev pub EnabledIsDefined : (F : Type 0) → Type 0
-EnabledIsDefined F = (w : Environment F) (me : ℕ) (s : NodeState F) (now f : ℕ) (flow : FlowState F) → slice_get s.flows f ≡ Some flow
+EnabledIsDefined F = (w : Environment F) (me : ℕ) (s : NodeState F) (now f : ℕ) (flow : FlowState F) → slice_get s.flows f ≡ Some flow → IsNumbered f flow
+    → MatchOption (enabled_event w s.sessions now flow) ((effect_of w me s now (event.Move f) None ≡ None) × (effect_of w me s now (event.Lapse f) None ≡ None)) (λ e. IsSome (effect_of w me s now e None))
+
+-- the same of what nodes do so far, where the sessions don't matter
+abbrev pub NarrowIsDefined : (F : Type 0) → Type 0
+NarrowIsDefined F = (w : Environment F) → IsNarrow w → (me : ℕ) (s : NodeState F) (now f : ℕ) (flow : FlowState F) → slice_get s.flows f ≡ Some flow
     → MatchOption (event_of f now flow) ((effect_of w me s now (event.Move f) None ≡ None) × (effect_of w me s now (event.Lapse f) None ≡ None)) (λ e. IsSome (effect_of w me s now e None))

@@ -1,5 +1,5 @@
 -- What the definitions of a network are given.
-use Rattle.std.specs.Prelude.{ℕ, List, None, Result}
+use Rattle.std.specs.Prelude.{ℕ, Bool, true, false, List, None, Result}
 use Rattle.net_base.specs.declared.values.Hash32.{Hash32}
 use Rattle.net_base.specs.declared.values.Party.{Party}
 use Rattle.net_base.specs.declared.names.Identity.{Identity}
@@ -9,6 +9,8 @@ use Rattle.ledger_types.specs.declared.tx.Resolved.{Resolved}
 use Rattle.ledger_types.specs.declared.verdict.Verdict.{Verdict}
 use Rattle.ledger_types.specs.Verdicts.{verdict_of}
 use Rattle.flow_machine.specs.Machine.{Machine}
+use Rattle.flow_machine.specs.declared.acts.Act.{Act}
+use Rattle.flow_machine.specs.declared.acts.Act.TheVariants as act
 
 -- what a network is given from outside
 pub record Environment (F : Type 0) : Type 0 where
@@ -23,6 +25,10 @@ pub record Environment (F : Type 0) : Type 0 where
   pub mark : Party → Hash32 → Hash32
   -- how a frame is read from the front of bytes, with the bytes behind it
   pub frame_at : List ℕ → Result (F × List ℕ) ℕ
+  -- which acts its nodes perform
+  pub performs : Act F → Bool
+  -- whether its nodes accept items
+  pub talks : Bool
 
 -- the party of a node
 abbrev pub party : ℕ → Party
@@ -36,9 +42,18 @@ identity w me = record { party = party me; nodes = w.nodes; notary = w.notary }
 abbrev pub judge_without_contracts : Tx → Resolved → Verdict
 judge_without_contracts tx resolved = verdict_of (λ id t r. None) tx resolved
 
--- the environment of a node of this identity; it knows no contract, and marks are those of the keyed digest
+-- whether nodes perform an act so far: they sleep, they begin a frame and return from one, and they fail
+unfoldable pub is_act_built : {F : Type 0} → Act F → Bool
+is_act_built (act.Sleep until) = true
+is_act_built (act.Sub frame) = true
+is_act_built (act.Return value) = true
+is_act_built (act.Fail code) = true
+is_act_built _ = false
+
+-- the environment of a node of this identity; it knows no contract, and marks are those of the keyed digest. What its nodes do is what
+-- nodes do so far
 abbrev pub environment : {F : Type 0} → Machine F → (List ℕ → Result (F × List ℕ) ℕ) → Identity → Environment F
-environment m frame_at me = record { machine = m; nodes = me.nodes; notary = me.notary; judge = judge_without_contracts; mark = keyed_mark; frame_at = frame_at }
+environment m frame_at me = record { machine = m; nodes = me.nodes; notary = me.notary; judge = judge_without_contracts; mark = keyed_mark; frame_at = frame_at; performs = is_act_built; talks = false }
 
 -- the environment of the one node of a network, which is the notary too
 abbrev pub one_node : {F : Type 0} → Machine F → (List ℕ → Result (F × List ℕ) ℕ) → Environment F

@@ -1,5 +1,5 @@
 -- Which record fits after a state: the rules that a journal keeps, whether or not it is a run's.
-use Rattle.std.specs.Prelude.{◌≡◌, ℕ, ◌+◌, ◌-◌, ◌<◌, ◌≤◌, ◌^◌, ◌==◌, ◌&&◌, ◌||◌, nat_lt, not, List, [], ◌∷◌, ◌++◌, Option, Some, None, Bool, true, false, ⊤, filter, find, option_to_list, length}
+use Rattle.std.specs.Prelude.{◌≡◌, ℕ, ◌+◌, ◌<◌, ◌≤◌, ◌^◌, ◌==◌, ◌&&◌, ◌||◌, nat_lt, not, List, [], ◌∷◌, ◌++◌, Option, Some, None, Bool, true, false, ⊤, filter, find, option_to_list, length}
 use Rattle.std.specs.List.{list_all, list_any}
 use Rattle.net_base.specs.declared.names.Key.{Key}
 use Rattle.net_base.specs.declared.values.Party.{Party}
@@ -15,8 +15,8 @@ use Rattle.session_wire.specs.declared.body.Body.{Body}
 use Rattle.session_wire.specs.declared.body.Body.TheVariants as body_of
 use Rattle.session_wire.specs.declared.change.SentItem.{SentItem}
 use Rattle.flow_machine.specs.declared.flows.Checkpoint.{Checkpoint}
-use Rattle.session_wire.specs.Sessions.{Sent, Session, changed_at, key_eq, opened_on, session_of, with_sent}
-use Rattle.net_model.specs.Names.{number_is}
+use Rattle.session_wire.specs.Sessions.{Sent, Session, key_eq, opened_on, session_of}
+use Rattle.session_wire.specs.Rules.{direction_in, next_key, is_new_key, is_lawful, sessions_of, OpensNext, FitsSent, FitsTaken}
 use Rattle.ledger_types.specs.Names.{ref_eq}
 use Rattle.net_model.specs.Environment.{Environment, party, identity}
 use Rattle.ledger_types.specs.Stores.{is_stored, untagged}
@@ -24,7 +24,7 @@ use Rattle.ledger_types.specs.Signatures.{tx_id}
 use Rattle.ledger_types.specs.Vaults.{vault_of, is_coin}
 use Rattle.ledger_types.specs.Notary.{repeats, is_notary}
 use Rattle.net_model.specs.State.{NodeState, FlowPart, no_flow, now_live, now_ended, now_failed, Change, Effect, nothing, with_ids, came_on, flow_of, apply_effect, fresh}
-use Rattle.net_model.specs.Steps.{direction_out, next_key, is_no_peer, is_new_key, is_lawful, is_init, live_at, node_step}
+use Rattle.net_model.specs.Steps.{live_at, node_step}
 
 -- the flow is a new one of the number and class, at step 0
 abbrev pub IsNewFlow : {F : Type 0} → ℕ → ℕ → FlowPart F → Type 0
@@ -59,7 +59,7 @@ AcceptsInit f key e (Some _) = ⊥
 pub record ArrivesAt {F : Type 0} (me : ℕ) (s : NodeState F) (key : Key) (direction number : ℕ) (e : Effect F) : Type 0 where
   pub session : Session
   pub stands : session_of key s.sessions ≡ Some session
-  pub incoming : direction ≡ 1 - direction_out me key
+  pub incoming : direction ≡ direction_in (party me) key
   pub expected : number ≡ length session.came
   pub body : Body
   pub lawful : is_lawful direction number body ≡ true
@@ -75,53 +75,23 @@ pub record GoesOn {F : Type 0} (s : NodeState F) (f : ℕ) (e : Effect F) : Type
 -- the effect is one that such an event may have
 abbrev pub FitsEvent : {F : Type 0} → Environment F → ℕ → NodeState F → Event → Effect F → Type 0
 FitsEvent w me s (event.Start f class args) e = (f ≡ length s.flows) × IsNewFlow f class e.flow × (e.change.came ≡ None)
-FitsEvent w me s (event.Answer key) e = (is_new_key w me s key ≡ true) × AcceptsInit (length s.flows) key e e.change.came
+FitsEvent w me s (event.Answer key) e = (is_new_key w.nodes (party me) s.sessions key ≡ true) × AcceptsInit (length s.flows) key e e.change.came
 FitsEvent w me s (event.Arrive key direction number) e = ArrivesAt me s key direction number e
 FitsEvent w me s (event.Move f) e = GoesOn s f e
 FitsEvent w me s (event.Lapse f) e = GoesOn s f e
 
--- whether an item is the Init of the key
-abbrev pub is_init_of : Key → SentItem → Bool
-is_init_of key item = key_eq key item.key && ((item.direction == 0) && ((item.seq == 0) && is_init item.body))
-
--- the session is the node's next one, with another node, and its Init is sent
-pub record OpensNext {F : Type 0} (w : Environment F) (me : ℕ) (s : NodeState F) (sessions : List Session) (owner : Option ℕ) (sent : List SentItem) (key : Key) (peer : Party) : Type 0 where
+-- the flow opens the node's next session, with another node of the network, and owns 64 at most with it
+pub record OpensOwned {F : Type 0} (w : Environment F) (me : ℕ) (s : NodeState F) (sessions : List Session) (owner : Option ℕ) (sent : List SentItem) (key : Key) (peer : Party) : Type 0 where
   pub flow : ℕ
   pub owned : owner ≡ Some flow
-  pub next : key ≡ next_key me s
-  pub other : is_no_peer w me peer ≡ false
-  pub few : length (filter (λ session. number_is flow session.owner) sessions) ≤ 64
-  pub init : list_any (is_init_of key) sent ≡ true
+  pub opens : OpensNext (party me) s.sessions sent key peer
+  pub there : nat_lt peer.0 w.nodes ≡ true
+  pub few : length (sessions_of flow sessions) ≤ 64
 
 -- the opened session, if there is one, is the next one
 abbrev pub FitsOpened : {F : Type 0} → Environment F → ℕ → NodeState F → List Session → Option ℕ → List SentItem → Option (Key × Party) → Type 0
 FitsOpened w me s sessions owner sent None = ⊤
-FitsOpened w me s sessions owner sent (Some opened) = OpensNext w me s sessions owner sent opened.0 opened.1
-
--- the item continues what its session has sent
-pub record Continues (me : ℕ) (item : SentItem) (sessions : List Session) : Type 0 where
-  pub session : Session
-  pub stands : session_of item.key sessions ≡ Some session
-  pub outgoing : item.direction ≡ direction_out me item.key
-  pub next : item.seq ≡ length session.sent
-  pub lawful : is_lawful item.direction item.seq item.body ≡ true
-
--- each sent item continues its session
-abbrev pub FitsSent : ℕ → ℕ → List Session → List SentItem → Type 0
-FitsSent me stamp sessions [] = ⊤
-FitsSent me stamp sessions (item ∷ items) = Continues me item sessions × FitsSent me stamp (changed_at item.key (with_sent (record { body = item.body; stamp = stamp })) sessions) items
-
--- the number of taken items does not fall, and all of them have come
-pub record TakesUpTo (sessions : List Session) (key : Key) (n : ℕ) : Type 0 where
-  pub session : Session
-  pub stands : session_of key sessions ≡ Some session
-  pub above : session.taken ≤ n
-  pub below : n ≤ length session.came
-
--- what is taken, if anything, has come
-abbrev pub FitsTaken : List Session → Option (Key × ℕ) → Type 0
-FitsTaken sessions None = ⊤
-FitsTaken sessions (Some taken) = TakesUpTo sessions taken.0 taken.1
+FitsOpened w me s sessions owner sent (Some opened) = OpensOwned w me s sessions owner sent opened.0 opened.1
 
 -- whether each transaction that a transaction names is recorded
 abbrev pub has_ancestors : List SignedTx → Tx → Bool
@@ -149,7 +119,7 @@ FitsBooked w me book (Some e) = (is_notary (identity w me) ≡ true) × (find (r
 -- the change of a flow fits; before are the sessions once an item was accepted
 pub record FitsChange {F : Type 0} (w : Environment F) (me : ℕ) (s : NodeState F) (stamp : ℕ) (before : List Session) (owner : Option ℕ) (change : Change) : Type 0 where
   pub opened : FitsOpened w me s (opened_on change.opened owner before) owner change.sent change.opened
-  pub sent : FitsSent me stamp (opened_on change.opened owner before) change.sent
+  pub sent : FitsSent (party me) stamp (opened_on change.opened owner before) change.sent
   pub taken : FitsTaken (opened_on change.opened owner before) change.taken
   pub recorded : FitsRecorded s.stored change.recorded
   pub locked : list_all (names_coin (vault_of (party me) (untagged (with_ids (s.stored ++ option_to_list change.recorded))) s.locked)) change.locked ≡ true
@@ -186,7 +156,7 @@ pub record IsSound {F : Type 0} (me : ℕ) (s : NodeState F) : Type 0 where
   pub numbered : (f : ℕ) (at : Checkpoint F) → live_at s f ≡ Some at → at.flow ≡ f
   -- each session has sent its first item
   pub begun : list_all (λ session. not (length session.sent == 0)) s.sessions ≡ true
-  pub counted : list_all (is_counted me (next_key me s).number) s.sessions ≡ true
+  pub counted : list_all (is_counted me (next_key (party me) s.sessions).number) s.sessions ≡ true
   pub keys : keys_differ s.sessions ≡ true
   pub ids : ids_differ s.stored ≡ true
 

@@ -12,7 +12,7 @@ use Rattle.flow_machine.specs.declared.flows.FlowState.{FlowState}
 use Rattle.flow_machine.specs.declared.flows.FlowState.TheVariants as state
 use Rattle.flow_machine.specs.Flows.{cost, Falls, LoadHolds, is_fair, OversHold}
 use Rattle.session_wire.specs.Sessions.{Session, session_of}
-use Rattle.net_model.specs.Names.{number_is}
+use Rattle.session_wire.specs.Rules.{is_owner}
 use Rattle.net_model.specs.Environment.{Environment}
 use Rattle.net_model.specs.State.{NodeState, Effect}
 use Rattle.net_model.specs.Runs.{net_step, run_of}
@@ -38,7 +38,7 @@ one_of false = 0
 
 -- how many sessions a flow owns
 abbrev pub owns : List Session → ℕ → ℕ
-owns sessions f = total (λ session. one_of (number_is f session.owner)) sessions
+owns sessions f = total (λ session. one_of (is_owner f session.owner)) sessions
 
 -- what a flow may still do: the weights of its frames, the cost of its act, and 1 for each session that it owns
 abbrev pub flow_left : {F : Type 0} → Machine F → List Session → FlowState F → ℕ

@@ -1,4 +1,3 @@
-pub mod Names
 pub mod Environment
 pub mod State
 pub mod Steps

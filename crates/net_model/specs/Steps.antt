@@ -1,5 +1,5 @@
 -- One step of a node: the effect of a cause, where it is defined.
-use Rattle.std.specs.Prelude.{ℕ, ◌+◌, ◌-◌, ◌^◌, ◌==◌, ◌&&◌, ◌||◌, not, List, [], ◌∷◌, Option, Some, None, Result, Ok, Err, Bool, true, false, if◌then◌else◌, map, filter, option_map, option_and_then, nat_le, nat_lt, max, length, is_none, slice_get}
+use Rattle.std.specs.Prelude.{ℕ, ◌+◌, ◌^◌, ◌==◌, ◌&&◌, List, [], ◌∷◌, Option, Some, None, Result, Ok, Err, Bool, true, false, if◌then◌else◌, map, option_map, option_and_then, nat_le, nat_lt, max, length, slice_get}
 use Rattle.net_base.specs.declared.values.Hash32.{Hash32}
 use Rattle.net_base.specs.declared.values.Party.{Party}
 use Rattle.net_base.specs.declared.names.Key.{Key}
@@ -22,7 +22,6 @@ use Rattle.ledger_types.specs.Vaults.{vault_of, reserved, reservable}
 use Rattle.ledger_types.specs.Notary.{Reply, reply, entry_of, tag_by}
 use Rattle.session_wire.specs.declared.body.Body.{Body}
 use Rattle.session_wire.specs.declared.body.Body.TheVariants as body_of
-use Rattle.session_wire.specs.declared.change.SentItem.{SentItem}
 use Rattle.flow_machine.specs.declared.acts.Act.{Act}
 use Rattle.flow_machine.specs.declared.acts.Act.TheVariants as act
 use Rattle.flow_machine.specs.declared.acts.Place.{Place}
@@ -33,7 +32,7 @@ use Rattle.flow_machine.specs.declared.flows.Checkpoint.{Checkpoint}
 use Rattle.flow_machine.specs.declared.flows.FlowState.{FlowState}
 use Rattle.flow_machine.specs.declared.flows.FlowState.TheVariants as state
 use Rattle.session_wire.specs.Sessions.{Sent, Session, next_item, session_of}
-use Rattle.net_model.specs.Names.{number_is}
+use Rattle.session_wire.specs.Rules.{next_key, is_no_peer, sessions_of, owned, has_many, waits_for, item_on, is_next, is_new_key}
 use Rattle.net_model.specs.Environment.{Environment, party, identity}
 use Rattle.net_model.specs.State.{NodeState, FlowPart, no_flow, now_live, now_ended, now_failed, Change, Effect, nothing, with_ids, apply_effect}
 
@@ -43,31 +42,6 @@ use Rattle.net_model.specs.State.{NodeState, FlowPart, no_flow, now_live, now_en
 abbrev pub place : {F : Type 0} → Environment F → ℕ → ℕ → ℕ → ℕ → Place
 place w me f step now = record { me = party me; notary = w.notary; nodes = w.nodes; flow = f; step = step; now = record { 0 = now } }
 
--- the direction of what a node sends in a session
-abbrev pub direction_out : ℕ → Key → ℕ
-direction_out me key = if key.initiator.0 == me then 0 else 1
-
--- the next session that a node opens
-abbrev pub next_key : {F : Type 0} → ℕ → NodeState F → Key
-next_key me s = record { initiator = party me; number = length (filter (λ session. session.key.initiator.0 == me) s.sessions) }
-
--- the sessions that a flow owns, in order of making
-abbrev pub sessions_of : {F : Type 0} → NodeState F → ℕ → List Session
-sessions_of s f = filter (λ session. number_is f session.owner) s.sessions
-
--- a session, where the flow owns it
-abbrev pub owned_by : ℕ → Option Session → Option Session
-owned_by f None = None
-owned_by f (Some session) = if number_is f session.owner then Some session else None
-
--- the session of the key, where the flow owns it
-abbrev pub owned : {F : Type 0} → NodeState F → ℕ → Key → Option Session
-owned s f key = owned_by f (session_of key s.sessions)
-
--- the next item that a node sends in a session
-abbrev pub item_on : ℕ → Session → Body → SentItem
-item_on me session body = record { key = session.key; direction = direction_out me session.key; seq = length session.sent; body = body }
-
 -- ---- what an act does, and what the frame is resumed with
 
 -- what the frame is resumed with, and what changes besides
@@ -75,30 +49,22 @@ abbrev pub Done : Type 0
 Done = Resumed × Change
 
 -- the next session is opened, and its Init is sent
-abbrev pub opening : {F : Type 0} → ℕ → NodeState F → Party → ℕ → Value → Done
-opening me s to class first =
-    let key = next_key me s in
+abbrev pub opening : ℕ → List Session → Party → ℕ → Value → Done
+opening me sessions to class first =
+    let key = next_key (party me) sessions in
     (resumed.Opened key, record nothing { opened = Some (key, to); sent = record { key = key; direction = 0; seq = 0; body = body_of.Init class first } ∷ [] })
 
--- whether a party is no other node of the network
-abbrev pub is_no_peer : {F : Type 0} → Environment F → ℕ → Party → Bool
-is_no_peer w me to = (to.0 == me) || nat_le w.nodes to.0
-
--- whether a flow has as many sessions as it may have
-abbrev pub has_many : {F : Type 0} → NodeState F → ℕ → Bool
-has_many s f = nat_le 64 (length (sessions_of s f))
-
 -- Open: the session, or that the party is no other node, or that the flow has 64 sessions
-abbrev pub opens : {F : Type 0} → Environment F → ℕ → NodeState F → ℕ → Party → ℕ → Value → Done
-opens w me s f to class first =
-    if is_no_peer w me to then (resumed.Refused 48, nothing)
-    else if has_many s f then (resumed.Refused 57, nothing)
-    else opening me s to class first
+abbrev pub opens : ℕ → ℕ → List Session → ℕ → Party → ℕ → Value → Done
+opens nodes me sessions f to class first =
+    if is_no_peer nodes (party me) to then (resumed.Refused 48, nothing)
+    else if has_many f sessions then (resumed.Refused 57, nothing)
+    else opening me sessions to class first
 
 -- Send: Data in a session that the flow owns
 abbrev pub sends : ℕ → Value → Option Session → Done
 sends me value None = (resumed.Refused 58, nothing)
-sends me value (Some session) = (resumed.Sent, record nothing { sent = item_on me session (body_of.Data value) ∷ [] })
+sends me value (Some session) = (resumed.Sent, record nothing { sent = item_on (party me) session (body_of.Data value) ∷ [] })
 
 -- what a frame is resumed with once an item is taken
 abbrev pub handed : Body → Resumed
@@ -185,8 +151,8 @@ abbrev pub goes_on : {F : Type 0} → Environment F → ℕ → ℕ → Checkpoi
 goes_on w me now at done = record { flow = onwards w me now at at.stack.top at.stack.below done.0; change = done.1 }
 
 -- the last item to each session of a flow
-abbrev pub last_items : {F : Type 0} → ℕ → NodeState F → ℕ → Body → Change
-last_items me s f body = record nothing { sent = map (λ session. item_on me session body) (sessions_of s f) }
+abbrev pub last_items : ℕ → List Session → ℕ → Body → Change
+last_items me sessions f body = record nothing { sent = map (λ session. item_on (party me) session body) (sessions_of f sessions) }
 
 -- Sub: the frame begins above the others, of which there are 8 at most
 abbrev pub pushes : {F : Type 0} → Environment F → ℕ → ℕ → Checkpoint F → F → Effect F
@@ -196,19 +162,19 @@ pushes w me now at frame =
 
 -- Return: the frame below goes on with the value; at the bottom the flow has ended, which each of its sessions is told
 abbrev pub returns : {F : Type 0} → Environment F → ℕ → NodeState F → ℕ → Checkpoint F → Value → List F → Effect F
-returns w me s now at value [] = record { flow = now_ended at.flow (at.step + 1) at.class value; change = last_items me s at.flow body_of.End }
+returns w me s now at value [] = record { flow = now_ended at.flow (at.step + 1) at.class value; change = last_items me s.sessions at.flow body_of.End }
 returns w me s now at value (frame ∷ below) = record { flow = onwards w me now at frame below (resumed.Returned value); change = nothing }
 
 -- Fail: the flow has failed, which each of its sessions is told
 abbrev pub fails : {F : Type 0} → ℕ → NodeState F → Checkpoint F → ℕ → Effect F
-fails me s at code = record { flow = now_failed at.flow (at.step + 1) at.class code; change = last_items me s at.flow (body_of.Error code) }
+fails me s at code = record { flow = now_failed at.flow (at.step + 1) at.class code; change = last_items me s.sessions at.flow (body_of.Error code) }
 
 -- the act that a flow waits on is performed, where it is enabled other than by a lapse
 abbrev pub performed : {F : Type 0} → Environment F → ℕ → NodeState F → ℕ → Checkpoint F → Act F → Option (Effect F)
-performed w me s now at (act.Open to class first) = Some (goes_on w me now at (opens w me s at.flow to class first))
-performed w me s now at (act.Send key value) = Some (goes_on w me now at (sends me value (owned s at.flow key)))
-performed w me s now at (act.Receive key) = option_map (goes_on w me now at) (receives (owned s at.flow key))
-performed w me s now at (act.ReceiveBy key until) = option_map (goes_on w me now at) (receives (owned s at.flow key))
+performed w me s now at (act.Open to class first) = Some (goes_on w me now at (opens w.nodes me s.sessions at.flow to class first))
+performed w me s now at (act.Send key value) = Some (goes_on w me now at (sends me value (owned at.flow key s.sessions)))
+performed w me s now at (act.Receive key) = option_map (goes_on w me now at) (receives (owned at.flow key s.sessions))
+performed w me s now at (act.ReceiveBy key until) = option_map (goes_on w me now at) (receives (owned at.flow key s.sessions))
 performed w me s now at (act.Sleep until) = None
 performed w me s now at (act.Sub frame) = Some (pushes w me now at frame)
 performed w me s now at (act.Verify tx) = Some (goes_on w me now at (verifies w tx (resolved_of (with_ids s.stored) tx)))
@@ -221,11 +187,6 @@ performed w me s now at (act.Record stx) = Some (goes_on w me now at (records w 
 performed w me s now at (act.Return value) = Some (returns w me s now at value at.stack.below)
 performed w me s now at (act.Fail code) = Some (fails me s at code)
 
--- whether a session is there, and no item of it is
-abbrev pub waits_for : Option Session → Bool
-waits_for None = false
-waits_for (Some session) = is_none (next_item session session.ending)
-
 -- a flow goes on where its act lapses
 abbrev pub lapsed : {F : Type 0} → Environment F → ℕ → ℕ → Checkpoint F → Bool → Option (Effect F)
 lapsed w me now at true = Some (goes_on w me now at (resumed.Lapsed, nothing))
@@ -234,7 +195,7 @@ lapsed w me now at false = None
 -- whether the act that a flow waits on lapses now
 abbrev pub lapses : {F : Type 0} → NodeState F → ℕ → ℕ → Act F → Bool
 lapses s now f (act.Sleep until) = nat_le until now
-lapses s now f (act.ReceiveBy key until) = nat_le until now && waits_for (owned s f key)
+lapses s now f (act.ReceiveBy key until) = nat_le until now && waits_for (owned f key s.sessions)
 lapses s now f _ = false
 
 -- the checkpoint of a flow that is live
@@ -270,36 +231,14 @@ abbrev pub answered_with : {F : Type 0} → Environment F → ℕ → NodeState 
 answered_with w me s now key (body_of.Init class first) = Some (answering key (length s.flows) class (body_of.Init class first) (w.machine.begun class key (place w me (length s.flows) 0 now)))
 answered_with w me s now key _ = None
 
--- whether a key is new here, and its initiator is another node
-abbrev pub is_new_key : {F : Type 0} → Environment F → ℕ → NodeState F → Key → Bool
-is_new_key w me s key = is_none (session_of key s.sessions) && (not (key.initiator.0 == me) && nat_lt key.initiator.0 w.nodes)
-
 -- the first item of a new session is answered
 abbrev pub answered : {F : Type 0} → Environment F → ℕ → NodeState F → ℕ → Key → Body → Option (Effect F)
-answered w me s now key body = if is_new_key w me s key then answered_with w me s now key body else None
-
--- whether a body is an Init
-abbrev pub is_init : Body → Bool
-is_init (body_of.Init class first) = true
-is_init _ = false
-
--- whether a body may stand at that number of that direction: Init at the first of all, Confirm or Reject at the first of the answers, all else behind them
-abbrev pub is_lawful : ℕ → ℕ → Body → Bool
-is_lawful direction number (body_of.Init class first) = (direction == 0) && (number == 0)
-is_lawful direction number body_of.Confirm = (direction == 1) && (number == 0)
-is_lawful direction number (body_of.Reject code) = (direction == 1) && (number == 0)
-is_lawful direction number (body_of.Data value) = not (number == 0)
-is_lawful direction number (body_of.Error code) = not (number == 0)
-is_lawful direction number body_of.End = not (number == 0)
-
--- whether an item is the next one that comes, lawful there, and no Init
-abbrev pub is_next : ℕ → Key → ℕ → ℕ → Body → Session → Bool
-is_next me key direction number body session = (direction == 1 - direction_out me key) && ((number == length session.came) && (is_lawful direction number body && not (is_init body)))
+answered w me s now key body = if is_new_key w.nodes (party me) s.sessions key then answered_with w me s now key body else None
 
 -- the next item of a session arrives
 abbrev pub arrived : {F : Type 0} → ℕ → Key → ℕ → ℕ → Body → Session → Option (Effect F)
 arrived me key direction number body session =
-    if is_next me key direction number body session
+    if is_next (party me) key direction number body session
     then Some (record { flow = no_flow; change = record nothing { came = Some body } })
     else None
 
@@ -313,30 +252,22 @@ meant_of w me s now (event.Arrive key direction number) body = option_and_then (
 meant_of w me s now (event.Move f) body = option_and_then (λ at. performed w me s now at at.waiting) (live_at s f)
 meant_of w me s now (event.Lapse f) body = option_and_then (λ at. lapsed w me now at (lapses s now at.flow at.waiting)) (live_at s f)
 
--- whether nodes perform an act so far: they sleep, they begin a frame and return from one, and they fail
-abbrev pub is_act_built : {F : Type 0} → Act F → Bool
-is_act_built (act.Sleep until) = true
-is_act_built (act.Sub frame) = true
-is_act_built (act.Return value) = true
-is_act_built (act.Fail code) = true
-is_act_built _ = false
+-- whether nodes perform the act that a flow waits on
+abbrev pub is_flow_built : {F : Type 0} → Environment F → Option (Checkpoint F) → Bool
+is_flow_built w None = false
+is_flow_built w (Some at) = w.performs at.waiting
 
--- whether nodes perform the act that a flow waits on so far
-abbrev pub is_flow_built : {F : Type 0} → Option (Checkpoint F) → Bool
-is_flow_built None = false
-is_flow_built (Some at) = is_act_built at.waiting
-
--- whether nodes do so far what an event says; what they don't yet is never enabled. Here alone the machine is less than its definitions say
-abbrev pub is_built : {F : Type 0} → NodeState F → Event → Bool
-is_built s (event.Start f class args) = true
-is_built s (event.Answer key) = false
-is_built s (event.Arrive key direction number) = false
-is_built s (event.Move f) = is_flow_built (live_at s f)
-is_built s (event.Lapse f) = is_flow_built (live_at s f)
+-- whether nodes do what an event says; what they don't is never enabled. Here alone the machine may be less than its definitions say
+abbrev pub is_built : {F : Type 0} → Environment F → NodeState F → Event → Bool
+is_built w s (event.Start f class args) = true
+is_built w s (event.Answer key) = w.talks
+is_built w s (event.Arrive key direction number) = w.talks
+is_built w s (event.Move f) = is_flow_built w (live_at s f)
+is_built w s (event.Lapse f) = is_flow_built w (live_at s f)
 
 -- the effect of an event that nodes perform, where it is defined
 unfoldable pub effect_of : {F : Type 0} → Environment F → ℕ → NodeState F → ℕ → Event → Option Body → Option (Effect F)
-effect_of w me s now event body = if is_built s event then meant_of w me s now event body else None
+effect_of w me s now event body = if is_built w s event then meant_of w me s now event body else None
 
 -- the body of an item
 abbrev pub body_in : Option Sent → Option Body

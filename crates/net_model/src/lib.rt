@@ -1,8 +1,12 @@
 //! The network machine: what a cause does to a node, which causes are a run of the network, and what is printed of it.
 //!
-//! The definitions stand in `specs/`, in this order: `Names`, `Environment`, `State`, `Steps`, `Enabled`, `Runs`, `Cut`, `Fits`,
+//! The definitions stand in `specs/`, in this order: `Environment`, `State`, `Steps`, `Enabled`, `Runs`, `Cut`, `Fits`,
 //! `Left`, `Tags`, `Stores`, `Books`, `Print`. Each function here without a body is a law of these definitions, which is its contract;
 //! `merge` puts the causes of all nodes into the order of their run, and `copy_cause` copies one.
+//!
+//! Which acts nodes perform, and whether they accept items, is part of the environment. A law holds whatever is said there, but where it
+//! names a premise: `flows_alone`, `local_is_matched` and the clause `narrow` of `enabled_is_defined` hold of nodes that do what nodes do
+//! so far, as `environment` says it.
 #![tactic(auto)]
 
 mod laws;
