@@ -3,3 +3,5 @@ pub mod Sizes
 pub mod Meaning
 pub mod Checkpoints
 pub mod Told
+pub mod Stepping
+pub mod Lengths

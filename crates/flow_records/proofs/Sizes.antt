@@ -15,6 +15,7 @@ use Rattle.net_base.specs.Values.{party, moment}
 use Rattle.net_base.specs.Names.{key, IsCode, token}
 use Rattle.ledger_types.specs.declared.value.Value.{Value}
 use Rattle.ledger_types.specs.Values.{IsValue, value}
+use Rattle.session_wire.specs.declared.change.SessionChange.{SessionChange}
 use Rattle.session_wire.specs.declared.effect.FlowPart.{FlowPart as SpokenPart}
 use Rattle.session_wire.specs.declared.effect.FlowPart.TheVariants as part
 use Rattle.session_wire.specs.Sizes.{Fits, tx_fits, signed_fits, request_fits, value_fits}
@@ -27,14 +28,14 @@ use Rattle.flow_machine.specs.Checkpoints.{bottom_up, stack_text, IsCheckpoint, 
 use Rattle.transition_record.specs.Causes.{IsEvent, event_text, IsCause, cause_text}
 use Rattle.transition_record.specs.Changes.{part_text, session_text, ledger_text}
 use Rattle.transition_record.specs.Records.{effect_text, record_text}
-use Rattle.flow_records.specs.Spelling.{lone}
+use Rattle.flow_records.specs.Steps.{spoken_by}
 
 -- the bytes of numbers
-number16 : (n : ℕ) → length (number w16 n) ≤ 2
+pub number16 : (n : ℕ) → length (number w16 n) ≤ 2
 unfolding number
 number16 n = omega (arith, wide16.len n)
 
-number32 : (n : ℕ) → length (number w32 n) ≤ 4
+pub number32 : (n : ℕ) → length (number w32 n) ≤ 4
 unfolding number
 number32 n = omega (arith, wide32.len n)
 
@@ -43,10 +44,10 @@ unfolding number
 number64 n = omega (arith, wide64.len n)
 
 -- two parts, one behind the other
-joined : (a b : List ℕ) (m n : ℕ) → length a ≤ m → length b ≤ n → length (a ++ b) ≤ m + n
+pub joined : (a b : List ℕ) (m n : ℕ) → length a ≤ m → length b ≤ n → length (a ++ b) ≤ m + n
 joined a b m n ha hb = omega (arith, length-append a b, ha, hb)
 
-key_short : (k : Key) → length (key k) ≤ 5
+pub key_short : (k : Key) → length (key k) ≤ 5
 key_short k = joined (party k.initiator) (number w32 k.number) 1 4 (omega arith) (number32 k.number)
 
 code_short : (code : List ℕ) → IsCode code → length code ≤ 3
@@ -153,11 +154,11 @@ failed_fits flow step class code =
 
 -- ---- records
 
--- a record of a flow alone is short where what is spelt of the flow is
-pub lone_fits : (c : Cause) (owner : ℕ) (ended : Bool) (p : SpokenPart) → IsCause c → length (part_text p) ≤ 400000 → length (record_text c (lone c owner ended p)) ≤ 524288
-lone_fits c owner ended p h short =
-    let e = lone c owner ended p in
-    let rest = joined (session_text e.session) (ledger_text e.ledger) 4 3 (omega arith) (omega arith) in
-    let effect = joined (part_text p) (session_text e.session ++ ledger_text e.ledger) 400000 7 short rest in
-    let all = joined (cause_text c) (effect_text e) 65560 400007 (cause_fits c h) effect in
+-- a record that changes nothing of the ledger is short where what is spelt of the flow and of the sessions is
+pub spoken_fits : (c : Cause) (p : SpokenPart) (s : SessionChange) (owner : ℕ) (over : Bool) → IsCause c → length (part_text p) ≤ 400000 → length (session_text s) ≤ 50000 → length (record_text c (spoken_by p s owner over)) ≤ 524288
+spoken_fits c p s owner over h short few =
+    let e = spoken_by p s owner over in
+    let rest = joined (session_text s) (ledger_text e.ledger) 50000 3 few (omega arith) in
+    let effect = joined (part_text p) (session_text s ++ ledger_text e.ledger) 400000 50003 short rest in
+    let all = joined (cause_text c) (effect_text e) 65560 450003 (cause_fits c h) effect in
     omega (arith, all)

@@ -39,22 +39,33 @@ right : (a b : Bool) → (a && b) ≡ true → b ≡ true
 right true b h = h
 right false b h = absurd cc
 
+-- nothing is recorded, locked or booked
+pub record IsStill (recorded : Option SignedTx) (locked : List StateRef) (booked : Option Entry) : Type 0 where
+  pub recorded_is : recorded ≡ None
+  pub locked_is : locked ≡ []
+  pub booked_is : booked ≡ None
+
+-- where the ledger is left, nothing is
+pub ledger_still : (recorded : Option SignedTx) (locked : List StateRef) (booked : Option Entry) → (is_none recorded && (length locked == 0 && is_none booked)) ≡ true → IsStill recorded locked booked
+ledger_still recorded locked booked h =
+    let rest = right (is_none recorded) _ h in record {
+      recorded_is = no_value recorded (left (is_none recorded) _ h);
+      locked_is = no_items locked (left (length locked == 0) _ rest);
+      booked_is = no_value booked (right (length locked == 0) _ rest);
+    }
+
 -- a change that leaves the sessions and the ledger is none
 still_is : (c : Change) → (leaves_sessions c && leaves_ledger c) ≡ true → c ≡ nothing
 still_is c h =
     let s = left (leaves_sessions c) (leaves_ledger c) h in
-    let l = right (leaves_sessions c) (leaves_ledger c) h in
+    let l = ledger_still c.recorded c.locked c.booked (right (leaves_sessions c) (leaves_ledger c) h) in
     let s1 = right (is_none c.opened) _ s in
     let s2 = right (length c.sent == 0) _ s1 in
-    let l1 = right (is_none c.recorded) _ l in
     let opened = no_value c.opened (left (is_none c.opened) _ s) in
     let sent = no_items c.sent (left (length c.sent == 0) _ s1) in
     let came = no_value c.came (left (is_none c.came) _ s2) in
     let taken = no_value c.taken (right (is_none c.came) _ s2) in
-    let recorded = no_value c.recorded (left (is_none c.recorded) _ l) in
-    let locked = no_items c.locked (left (length c.locked == 0) _ l1) in
-    let booked = no_value c.booked (right (length c.locked == 0) _ l1) in
-    λ i. record { opened = opened i; sent = sent i; came = came i; taken = taken i; recorded = recorded i; locked = locked i; booked = booked i }
+    λ i. record { opened = opened i; sent = sent i; came = came i; taken = taken i; recorded = l.recorded_is i; locked = l.locked_is i; booked = l.booked_is i }
 
 -- ---- the laws
 
@@ -95,7 +106,7 @@ not_alone cause c (Some p) true is h = rw h refl
 not_alone cause c (Some p) false is h = rw (is, and_false (is_flow p)) refl
 
 -- what a test lets through passed it
-passed : {X : Type 0} (b : Bool) (o : Option X) (x : X) → (if b then o else None) ≡ Some x → (b ≡ true) × (o ≡ Some x)
+pub passed : {X : Type 0} (b : Bool) (o : Option X) (x : X) → (if b then o else None) ≡ Some x → (b ≡ true) × (o ≡ Some x)
 passed true o x h = (refl, h)
 passed false o x h = absurd cc
 

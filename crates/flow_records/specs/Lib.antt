@@ -2,3 +2,4 @@ pub mod Records
 pub mod Alone
 pub mod Spelling
 pub mod Telling
+pub mod Steps

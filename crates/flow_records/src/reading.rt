@@ -2,7 +2,7 @@
 
 ghost use Rattle.std.specs.Prelude.{◌≡◌, ℕ, List, Bool, Option, Some, None, IfOk, IfSome, MatchOption, option_map};
 ghost use Rattle.transition_record.specs.Causes.{IsCause};
-ghost use Rattle.transition_record.specs.Changes.{IsFlowPart};
+ghost use Rattle.transition_record.specs.Changes.{IsFlowPart, checkpoint_flow, part_flow};
 ghost use Rattle.net_model.specs.Sound.{IsNumbered};
 ghost use Rattle.flow_machine.specs.declared.flows.FlowState.TheVariants.{Live};
 ghost use Rattle.flow_machine.specs.Checkpoints.{IsCheckpoint, checkpoint_at};
@@ -29,7 +29,7 @@ fn leaves_sessions(change: &SessionChange) -> bool
 }
 
 /// Whether nothing was recorded, locked or booked.
-fn leaves_ledger(change: &LedgerChange) -> bool
+pub(crate) fn leaves_ledger(change: &LedgerChange) -> bool
     ensures { result ≡ leaves_ledger_of change.now }
 {
     change.recorded.is_none() && change.locked.len() == 0 && change.booked.is_none()
@@ -42,6 +42,7 @@ fn read_checkpoint<F: Spelt + Drop>(
 ) -> Result<Option<Checkpoint<F>>, AllocError>
     ensures read { IfOk result (λ r. r ≡ whole (checkpoint_at F.reading bytes.now)) }
     ensures within { IfOk result (λ r. IfSome r (IsCheckpoint F.within)) }
+    ensures own { IfOk result (λ r. IfSome r (λ at. at.flow ≡ checkpoint_flow bytes.now)) }
 {
     match decode_whole(alloc, bytes) {
         Ok(at) => Ok(Some(at)),
@@ -58,12 +59,13 @@ fn live<F: Drop>(at: Checkpoint<F>) -> (u32, FlowState<F>)
 }
 
 /// The flow of which a part tells, and its number.
-fn flow_after<F: Spelt + Drop>(
+pub(crate) fn flow_after<F: Spelt + Drop>(
     alloc: Global,
     part: FlowPart,
 ) -> Result<Option<(u32, FlowState<F>)>, AllocError>
     requires { IsFlowPart part }
-    ensures { IfOk result (TellsFlow F.within (flow_part F.reading part)) }
+    ensures tells { IfOk result (TellsFlow F.within (flow_part F.reading part)) }
+    ensures own { IfOk result (λ r. IfSome r (λ s. s.0 ≡ part_flow part)) }
 {
     match part {
         FlowPart::Absent => Ok(None),

@@ -9,6 +9,7 @@ ghost use Rattle.net_model.specs.Sound.{IsNumbered};
 ghost use Rattle.flow_machine.specs.Checkpoints.{IsCheckpoint, checkpoint_text};
 ghost use Rattle.flow_records.specs.Records.{record_of, flow_part, effect_to, IsFlow};
 ghost use Rattle.flow_records.specs.Spelling.{lone, is_over, IsPartOf};
+ghost use Rattle.flow_records.specs.Steps.{no_ledger};
 
 use flow_machine::{Checkpoint, FlowSet, FlowState};
 use ledger_types::LedgerChange;
@@ -29,7 +30,7 @@ fn came_key(event: &Event) -> Option<Key>
 }
 
 /// Whether the flow has ended or failed.
-fn is_over<F>(state: &FlowState<F>) -> bool
+pub(crate) fn is_over<F>(state: &FlowState<F>) -> bool
     ensures { result ≡ is_over state.now }
 {
     match state {
@@ -49,7 +50,7 @@ fn spell_checkpoint<F: FlowSet>(alloc: Global, at: &Checkpoint<F>) -> Result<Byt
 }
 
 /// What becomes of the flow of the number where it is this.
-fn part_of_flow<F: FlowSet>(
+pub(crate) fn part_of_flow<F: FlowSet>(
     alloc: Global,
     number: u32,
     state: &FlowState<F>,
@@ -77,6 +78,19 @@ fn part_of_flow<F: FlowSet>(
     }
 }
 
+/// Nothing changes of the ledger, by the flow of the number, which is over or not.
+pub(crate) fn no_ledger(alloc: Global, number: u32, ended: bool) -> LedgerChange
+    ensures { result ≡ no_ledger number ended }
+{
+    LedgerChange {
+        recorded: None,
+        locked: ListOf::new(alloc),
+        owner: number,
+        ended,
+        booked: None,
+    }
+}
+
 /// The effect of a cause by which this becomes of the flow of the number, and by which nothing else changes.
 fn effect_with(alloc: Global, cause: &Cause, number: u32, ended: bool, flow: FlowPart) -> Effect
     ensures { result ≡ lone cause.now number ended flow }
@@ -91,13 +105,7 @@ fn effect_with(alloc: Global, cause: &Cause, number: u32, ended: bool, flow: Flo
             came_key: came_key(&cause.event),
             taken: None,
         },
-        ledger: LedgerChange {
-            recorded: None,
-            locked: ListOf::new(alloc),
-            owner: number,
-            ended,
-            booked: None,
-        },
+        ledger: no_ledger(alloc, number, ended),
     }
 }
 

@@ -1,17 +1,22 @@
 //! Records against bytes that were worked out by hand. What holds a flow is let go without its destructor: a proof of a test would go
 //! through each kind of value that may stand in it.
 
+ghost use Rattle.std.specs.Prelude.{◌≤◌, length};
 ghost use Rattle.flow_machine.specs.Counter.{IsCounter};
 ghost use Rattle.net_model.specs.Sound.{IsNumbered};
 ghost use Rattle.flow_records.specs.Records.{IsFlow};
 
-use crate::{Transition, alone_tells_of_a_flow, effects_are_alone, read, spell};
+use crate::{
+    Step, Transition, alone_tells_of_a_flow, effects_are_alone, few_values_are_short,
+    flows_are_steps, read, read_step, spell, spell_step,
+};
 use flow_machine::{Act, Checkpoint, Counter, FlowState, Phase, Stack};
 use ledger_types::Value;
 use net_base::{ByteList, Cause, Event, ListOf, Moment};
 use std::alloc::{AllocError, Global};
 use std::mem;
 use std::test::Fail;
+use transition_record::decode_record;
 
 /// Flow 0 of class 1 begins, and waits to return the number 0.
 const STARTED: &str =
@@ -35,6 +40,22 @@ const ARRIVED: &str =
 /// Flow 0 fails, and sends a confirmation in session 0.
 const SENDING: &str =
     "00000000000000020000000000000000040000000003000000000000000100010036000100000000000000000000020000000000";
+/// Time lapses for flow 1, which opens session 0 with party 1, and has taken two of its items.
+const OPENING: &str =
+    "000000000000000500000000000000090500000001010000000100000002000103000000000001000a010200000000000000000100000000000101000000000000000000000100020100000000000000000001000000000000000002000000";
+/// Flow 0 ends, and ends sessions 0 and 2, which it opened and which party 1 opened.
+const ENDING: &str =
+    "00000000000000060000000000000009040000000002000000000000000100010100000000000000000002000000000000000000010601000000020100000001060000000000";
+
+/// Flow 0 ends, and a transaction is recorded that has nothing in it.
+const RECORDED: &str =
+    "00000000000000020000000000000000040000000002000000000000000100010100000000000000000000000001000000000000000000000000000000000000000000000000000000000000000000000000000000000000";
+/// Flow 0 ends, and a state is locked.
+const LOCKED: &str =
+    "000000000000000200000000000000000400000000020000000000000001000101000000000000000000000000000100000000000000000000000000000000000000000000000000000000000000000000000000";
+/// Flow 0 ends, and the notary books an answer to a request.
+const BOOKED: &str =
+    "000000000000000200000000000000000400000000020000000000000001000101000000000000000000000000000001000000000000000000000000000000000000000000000000000000000000000000000000000000000000000000000000000000000000000000000000000000000000000000000000000000000000000000000000000000000000000000000000000000000000000029";
 
 /// Flow 0 as it begins.
 fn counting(alloc: Global) -> FlowState<Counter>
@@ -143,5 +164,101 @@ fn other_bytes_tell_of_no_flow_alone(rt: HostRuntime) -> Result<(), Fail> {
     bytes.push(0)?;
     let told = told_again(rt.alloc(), &bytes)?;
     assert!(rt; told.is_none());
+    Ok(())
+}
+
+/// What a step is, in few words: the number of its flow, whether it opens a session, how many items it sends, whether it accepts one,
+/// and whether it takes some.
+type StepWords = (Option<u32>, bool, usize, bool, bool);
+
+/// A step in few words.
+fn step_words(step: &Step<Counter>) -> StepWords {
+    let number = match &step.flow {
+        None => None,
+        Some(after) => Some(after.number),
+    };
+    let session = &step.session;
+    (
+        number,
+        session.opened.is_some(),
+        session.sent.len(),
+        session.came.is_some(),
+        session.taken.is_some(),
+    )
+}
+
+/// The step whose record the bytes are, in few words, and the bytes of its record.
+fn step_again(alloc: Global, bytes: &[u8]) -> Result<Option<(StepWords, ByteList)>, AllocError>
+    requires { length bytes.now ≤ 50000 }
+{
+    match read_step::<Counter>(alloc, bytes)? {
+        None => Ok(None),
+        Some(step) => {
+            let words = step_words(&step);
+            let again = spell_step(alloc, &step);
+            mem::forget(step);
+            Ok(Some((words, again?)))
+        }
+    }
+}
+
+#[test]
+fn steps_are_read_again(rt: HostRuntime) -> Result<(), Fail> {
+    flows_are_steps::<Counter>();
+    few_values_are_short();
+    let rows = [
+        (STARTED, (Some(0), false, 0, false, false)),
+        (ARRIVED, (None, false, 0, true, false)),
+        (SENDING, (Some(0), false, 1, false, false)),
+        (OPENING, (Some(1), true, 1, false, true)),
+        (ENDING, (Some(0), false, 2, false, false)),
+    ];
+    for (text, expected) in rows {
+        let bytes = hex::decode(rt.alloc(), text)?;
+        if bytes.len() > 50_000 {
+            continue;
+        }
+        let told = step_again(rt.alloc(), &bytes)?;
+        let Some((words, again)) = told else {
+            assert!(rt; false, "{text}");
+            continue;
+        };
+        assert_eq!(rt; words, expected, "{text}");
+        assert_eq!(rt; again.as_slice(), bytes.as_slice(), "{text}");
+    }
+    Ok(())
+}
+
+/// Whether the bytes are a record.
+fn is_record(alloc: Global, bytes: &[u8]) -> bool {
+    match decode_record(alloc, bytes) {
+        Err(_) => false,
+        Ok(record) => {
+            mem::forget(record);
+            true
+        }
+    }
+}
+
+/// Whether the bytes are the record of a step.
+fn is_step(alloc: Global, bytes: &[u8]) -> Result<bool, AllocError> {
+    match read_step::<Counter>(alloc, bytes)? {
+        None => Ok(false),
+        Some(step) => {
+            mem::forget(step);
+            Ok(true)
+        }
+    }
+}
+
+#[test]
+fn records_of_the_ledger_are_no_steps(rt: HostRuntime) -> Result<(), Fail> {
+    for text in [RECORDED, LOCKED, BOOKED] {
+        let bytes = hex::decode(rt.alloc(), text)?;
+        assert!(rt; is_record(rt.alloc(), &bytes), "{text}");
+        assert!(rt; !is_step(rt.alloc(), &bytes)?, "{text}");
+    }
+    let foreign = hex::decode(rt.alloc(), OTHER_MACHINE)?;
+    assert!(rt; !is_step(rt.alloc(), &foreign)?);
     Ok(())
 }

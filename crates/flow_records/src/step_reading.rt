@@ -1,0 +1,135 @@
+//! What the bytes of a record tell of beside the ledger.
+
+ghost use Rattle.std.specs.Prelude.{◌≡◌, ◌≤◌, ℕ, length, List, Bool, Option, Some, None, IfOk, IfSome, option_map, if◌then◌else◌};
+ghost use Rattle.transition_record.specs.Causes.{IsCause};
+ghost use Rattle.transition_record.specs.Changes.{IsFlowPart, part_flow, session_text};
+ghost use Rattle.transition_record.specs.Records.{IsEffect};
+ghost use Rattle.flow_records.specs.Records.{flow_part, record_over, record_of};
+ghost use Rattle.flow_records.specs.Steps.{is_absent, after_told, owner_of, step_with, TellsAfter, TellsStep};
+
+use crate::reading::{flow_after, leaves_ledger};
+use crate::step::{FlowAfter, Step};
+use flow_machine::FlowState;
+use net_base::{Cause, DecodeFault, Spelt};
+use session_wire::{Effect, FlowPart, SessionChange};
+use std::alloc::{AllocError, Global};
+use transition_record::decode_record;
+
+/// Whether the part tells of no flow.
+fn is_absent(part: &FlowPart) -> bool
+    ensures { result ≡ is_absent part.now }
+{
+    match part {
+        FlowPart::Absent => true,
+        FlowPart::Live { .. } | FlowPart::Ended { .. } | FlowPart::Failed { .. } => false,
+    }
+}
+
+/// The flow that was told, or that a part tells of none; `None` where it should tell of a flow and doesn't.
+fn after_told<F: Drop>(
+    absent: bool,
+    told: Option<(u32, FlowState<F>)>,
+) -> Option<Option<FlowAfter<F>>>
+    ensures { result ≡ after_told absent told }
+{
+    match told {
+        None => { if absent { Some(None) } else { None } }
+        Some((number, state)) => Some(Some(FlowAfter { number, state })),
+    }
+}
+
+/// The flow of which a part tells, or that it tells of none; `None` where its checkpoint is none of the flow set's.
+fn part_told<F: Spelt + Drop>(
+    alloc: Global,
+    part: FlowPart,
+) -> Result<Option<Option<FlowAfter<F>>>, AllocError>
+    requires { IsFlowPart part }
+    ensures tells { IfOk result (TellsAfter F.within (flow_part F.reading part)) }
+    ensures own { IfOk result (λ r. IfSome r (λ flow. owner_of flow ≡ part_flow part)) }
+{
+    let absent = is_absent(&part);
+    let told = flow_after(alloc, part)?;
+    Ok(after_told(absent, told))
+}
+
+/// The same where the ledger stays as it is, else `None`.
+fn part_told_if<F: Spelt + Drop>(
+    alloc: Global,
+    still: bool,
+    part: FlowPart,
+) -> Result<Option<Option<FlowAfter<F>>>, AllocError>
+    requires { IsFlowPart part }
+    ensures tells { IfOk result (TellsAfter F.within (if still then flow_part F.reading part else None)) }
+    ensures own { IfOk result (λ r. IfSome r (λ flow. owner_of flow ≡ part_flow part)) }
+{
+    if still {
+        part_told(alloc, part)
+    } else {
+        drop(part);
+        Ok(None)
+    }
+}
+
+/// The step of a cause, the flow after it, and what it changes in the sessions, where the flow was told.
+fn joined<F: Drop>(
+    told: Option<Option<FlowAfter<F>>>,
+    cause: Cause,
+    session: SessionChange,
+) -> Option<Step<F>>
+    ensures { result ≡ option_map (step_with cause session) told }
+{
+    match told {
+        None => {
+            drop(session);
+            None
+        }
+        Some(flow) => Some(Step {
+            cause,
+            flow,
+            session,
+        }),
+    }
+}
+
+/// The step of a cause and its effect, `None` where the effect changes the ledger or its checkpoint is none of the flow set's.
+fn step_of<F: Spelt + Drop>(
+    alloc: Global,
+    cause: Cause,
+    effect: Effect,
+) -> Result<Option<Step<F>>, AllocError>
+    requires cause { IsCause cause }
+    requires effect { IsEffect cause effect }
+    ensures tells { IfOk result (TellsStep F.within (record_over F.reading cause effect)) }
+    ensures session { IfOk result (λ r. IfSome r (λ step. step.session ≡ effect.session)) }
+{
+    let Effect {
+        flow,
+        session,
+        ledger,
+    } = effect;
+    let still = leaves_ledger(&ledger);
+    drop(ledger);
+    let told = part_told_if(alloc, still, flow)?;
+    Ok(joined(told, cause, session))
+}
+
+/// The step whose record the bytes are: `None` exactly where they are no record, where their checkpoint is none of the flow set's,
+/// and where they change the ledger. The bytes of what the step changes in the sessions
+/// are a part of the record's.
+///
+/// # Errors
+///
+/// Want of memory.
+pub fn read_step<F: Spelt + Drop>(
+    alloc: Global,
+    bytes: &[u8],
+) -> Result<Option<Step<F>>, AllocError>
+    ensures tells { IfOk result (TellsStep F.within (record_of F.reading bytes.now)) }
+    ensures few { IfOk result (λ r. IfSome r (λ step. length (session_text step.session) ≤ length bytes.now)) }
+{
+    match decode_record(alloc, bytes) {
+        Ok((cause, effect)) => step_of(alloc, cause, effect),
+        Err(DecodeFault::Memory) => Err(AllocError),
+        Err(DecodeFault::Malformed { .. }) => Ok(None),
+    }
+}

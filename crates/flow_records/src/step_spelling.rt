@@ -1,0 +1,71 @@
+//! The bytes of a record of a flow or of none, and of sessions.
+
+ghost use Rattle.std.specs.Prelude.{◌≡◌, ◌≤◌, ℕ, List, Some, IfOk, IfSome, length};
+ghost use Rattle.transition_record.specs.Causes.{IsCause, came_key_of};
+ghost use Rattle.transition_record.specs.Changes.{IsSession, session_text};
+ghost use Rattle.flow_records.specs.Records.{record_of};
+ghost use Rattle.flow_records.specs.Steps.{step_record, owner_of, ends_with, IsAfter, IsPartAfter};
+
+use crate::spelling::{is_over, no_ledger, part_of_flow};
+use crate::step::{FlowAfter, Step};
+use flow_machine::FlowSet;
+use net_base::ByteList;
+use session_wire::FlowPart;
+use std::alloc::{AllocError, Global};
+use transition_record::encode_parts;
+
+/// The flow that owns what a step makes, 0 where it changes none.
+fn owner_of<F>(flow: &Option<FlowAfter<F>>) -> u32
+    ensures { result ≡ owner_of flow.now }
+{
+    match flow {
+        None => 0,
+        Some(after) => after.number,
+    }
+}
+
+/// Whether the flow is over with the step.
+fn ends_with<F>(flow: &Option<FlowAfter<F>>) -> bool
+    ensures { result ≡ ends_with flow.now }
+{
+    match flow {
+        None => false,
+        Some(after) => is_over(&after.state),
+    }
+}
+
+/// What becomes of the flow.
+fn part_after<F: FlowSet>(
+    alloc: Global,
+    flow: &Option<FlowAfter<F>>,
+) -> Result<FlowPart, AllocError>
+    requires { IfSome flow.now (IsAfter F.within) }
+    ensures { IfOk result (IsPartAfter F.reading flow.now) }
+{
+    match flow {
+        None => Ok(FlowPart::Absent),
+        Some(after) => part_of_flow(alloc, after.number, &after.state),
+    }
+}
+
+/// The bytes of the record of a step. They are at most 524,288, since what changes in the sessions is spelt in at most 50,000: an act
+/// opens one session at most, sends one item of its own, and ends no more than 65 sessions.
+///
+/// # Errors
+///
+/// Want of memory.
+pub fn spell_step<F: FlowSet>(alloc: Global, step: &Step<F>) -> Result<ByteList, AllocError>
+    requires cause { IsCause step.now.cause }
+    requires flow { IfSome step.now.flow (IsAfter F.within) }
+    requires session { IsSession (owner_of step.now.flow) (came_key_of step.now.cause.event) step.now.session }
+    requires few { length (session_text step.now.session) ≤ 50000 }
+    ensures record { IfOk result (λ bytes. record_of F.reading bytes ≡ Some (step_record step.now)) }
+    ensures size { IfOk result (λ bytes. length bytes ≤ 524288) }
+{
+    let part = part_after(alloc, &step.flow)?;
+    let ledger = no_ledger(alloc, owner_of(&step.flow), ends_with(&step.flow));
+    let bytes = encode_parts(alloc, &step.cause, &part, &step.session, &ledger);
+    drop(part);
+    drop(ledger);
+    bytes
+}
