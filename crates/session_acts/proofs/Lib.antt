@@ -1,0 +1,4 @@
+pub mod Fitting
+pub mod Limits
+pub mod Meant
+pub mod Owning
