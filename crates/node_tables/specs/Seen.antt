@@ -1,0 +1,74 @@
+-- What contracts see of a node's tables, and what their calls answer.
+use Rattle.std.specs.Prelude.{◌≡◌, ℕ, ◌*◌, ◌<◌, ◌≤◌, ◌^◌, true, false, List, [], ◌∷◌, ◌++◌, length, map, Option, Some, None, Result, Ok, Err, ⊤}
+use Rattle.std.specs.List.{AllByRecursion}
+use Rattle.net_base.specs.declared.values.Party.{Party}
+use Rattle.net_base.specs.declared.causes.Cause.{Cause}
+use Rattle.session_wire.specs.Sessions.{Session}
+use Rattle.session_wire.specs.Rules.{is_opened_by}
+use Rattle.flow_machine.specs.declared.flows.FlowState.{FlowState}
+use Rattle.checkpoints.specs.Tables.{with_flow}
+use Rattle.net_model.specs.State.{NodeState}
+use Rattle.net_model.specs.Fits.{IsSound}
+use Rattle.net_model.specs.Sound.{AreNumbered, steps_of}
+use Rattle.flow_records.specs.declared.step.FlowAfter.{FlowAfter}
+use Rattle.flow_records.specs.declared.step.Step.{Step}
+use Rattle.flow_records.specs.Records.{record_of, IsFlow}
+use Rattle.flow_records.specs.Steps.{step_record, IsStep}
+use Rattle.node_tables.specs.declared.boot.RebuildFault.{RebuildFault}
+use Rattle.node_tables.specs.declared.boot.RebuildFault.TheVariants as rebuild_fault
+use Rattle.node_tables.specs.Journals.{Reads, state_of, causes_of, lone}
+use Rattle.node_tables.specs.Fits.{fits, fits_read, misfit}
+
+-- the flows once one of them is this afterwards
+abbrev pub flows_after : {F : Type 0} → Option (FlowAfter F) → List (FlowState F) → List (FlowState F)
+flows_after None flows = flows
+flows_after (Some after) flows = with_flow after.number after.state flows
+
+-- a session of the party has so many sent and arrived items at most, and the first of them arrived where another party opened it
+pub record IsSmall (me : Party) (sent came : ℕ) (session : Session) : Type 0 where
+  pub few_sent : length session.sent ≤ sent
+  pub few_came : length session.came ≤ came
+  pub begun : is_opened_by me session.key ≡ false → 0 < length session.came
+
+-- what the tables of a node of the party keep: they are those of its bodies
+pub record Keeps {F : Type 0} (me : Party) (frame_at : Reads F) (is_frame : F → Type 0) (bodies : List (List ℕ)) (causes : List Cause) (flows : List (FlowState F)) (sessions : List Session) (stamp moment : ℕ) : Type 0 where
+  pub state : state_of frame_at bodies ≡ lone flows sessions stamp moment
+  pub told : causes ≡ causes_of frame_at bodies
+  pub few : length bodies ≤ 65536
+  pub held : length flows ≤ length bodies
+  pub steps : AllByRecursion (λ flow. steps_of flow ≤ length bodies) flows
+  pub limits : AllByRecursion (IsFlow is_frame) flows
+  pub numbered : AreNumbered 0 flows
+  pub late : stamp < 2 ^ 63
+  pub made : length sessions ≤ 2 * length bodies
+  pub small : AllByRecursion (IsSmall me (255 * length bodies) (length bodies)) sessions
+  pub sound : IsSound me.0 (lone flows sessions stamp moment)
+
+-- the tables as contracts see them
+pub record TablesSeen : Type 0 where
+  -- the node's party, and how many nodes its network has
+  pub party : Party
+  pub nodes : ℕ
+  -- the bodies of the records, of which all else is made but what is acknowledged
+  pub bodies : List (List ℕ)
+  -- how many of the items that the node sent are acknowledged, session by session
+  pub acked : List ℕ
+  -- for how many more sessions and items one more record has room
+  pub room : ℕ
+
+-- what a body is read as after a state: a record that fits, or none
+abbrev pub IsRead : {F : Type 0} → ℕ → Party → Reads F → (F → Type 0) → NodeState F → List ℕ → Option (Step F) → Type 0
+IsRead nodes me frame_at within s body None = fits_read nodes me s (record_of frame_at body) ≡ false
+IsRead nodes me frame_at within s body (Some step) = (record_of frame_at body ≡ Some (step_record step)) × (fits nodes me s (step_record step) ≡ true) × IsStep within step
+
+-- what the taking of a body answers, whose gate is at a place
+abbrev pub TakesAs : {F : Type 0} → Reads F → ℕ → Party → List (List ℕ) → ℕ → List ℕ → {T : Type 0} → Result T RebuildFault → List (List ℕ) → Type 0
+TakesAs frame_at nodes me old at body (Ok _) new = (fits_read nodes me (state_of frame_at old) (record_of frame_at body) ≡ true) × (new ≡ old ++ body ∷ [])
+TakesAs frame_at nodes me old at body (Err (rebuild_fault.Damaged place)) new = (fits_read nodes me (state_of frame_at old) (record_of frame_at body) ≡ false) × (place ≡ at)
+TakesAs frame_at nodes me old at body (Err rebuild_fault.Memory) new = ⊤
+
+-- what a rebuilding of the tables answers
+abbrev pub RebuildsAs : {F : Type 0} → Reads F → ℕ → Party → List (ℕ × List ℕ) → Result TablesSeen RebuildFault → Type 0
+RebuildsAs frame_at nodes me list (Ok tables) = (tables.bodies ≡ map (λ x. x.1) list) × (tables.party ≡ me) × (tables.nodes ≡ nodes) × (misfit frame_at nodes me list ≡ None)
+RebuildsAs frame_at nodes me list (Err (rebuild_fault.Damaged at)) = misfit frame_at nodes me list ≡ Some at
+RebuildsAs frame_at nodes me list (Err rebuild_fault.Memory) = ⊤

@@ -1,0 +1,320 @@
+//! The tables of a node.
+
+ghost use Rattle.std.specs.Prelude.{◌≡◌, ◌++◌, ◌∷◌, [], ◌<◌, ◌≤◌, ◌^◌, ◌+◌, ◌-◌, ◌&&◌, OnOk, IfOk, IfSome, length, nat_lt, nat_le, Some, None, true, false, ℕ};
+ghost use Rattle.checkpoints.specs.Tables.{IsNumbered};
+ghost use Rattle.session_wire.specs.Sessions.{Session, session_of};
+ghost use Rattle.session_wire.specs.Rules.{is_new_key, sessions_of};
+ghost use Rattle.session_table.specs.Changes.{acks_after, room_for};
+ghost use Rattle.session_table.specs.Tables.{raised};
+ghost use Rattle.net_model.specs.State.{flow_of};
+ghost use Rattle.net_model.specs.Fits.{IsSound};
+ghost use Rattle.net_model.specs.Sound.{AreNumbered};
+ghost use Rattle.flow_records.specs.declared.step.FlowAfter.{FlowAfter as After};
+ghost use Rattle.flow_records.specs.Records.{record_of};
+ghost use Rattle.flow_records.specs.Steps.{part_after, effect_by, step_record, IsStep};
+ghost use Rattle.node_tables.specs.Journals.{state_of, causes_of, lone};
+ghost use Rattle.node_tables.specs.Fits.{rises, is_no_flow, only_accepts, arrives_in, fits_event, may_open, made_by, begun_by, fits};
+ghost use Rattle.node_tables.specs.Seen.{flows_after, IsRead};
+
+use crate::fitting::{
+    LAST_STAMP, accepts_init, goes_on, is_lawful_item, is_new_flow, is_no_flow, made_by, rises,
+};
+use crate::roomy::Roomy;
+use checkpoints::Flows;
+use flow_records::{FlowAfter, Step, read_step};
+use net_base::{ByteList, Cause, Event, Key, Moment, Party, Spelt};
+use session_table::Sessions;
+use session_wire::SessionChange;
+use std::alloc::{AllocError, Global};
+use std::marker::Model;
+
+/// The tables of a node, seen as the bodies of its records: all else is what these make, but how many of the items that it sent are
+/// acknowledged. Nothing is asked of frames but how they are spelt, so no flow is resumed here.
+#[derive(Drop)]
+pub struct Tables<F: Spelt + Drop> {
+    party: Party,
+    nodes: u8,
+    bodies: Roomy<ByteList>,
+    causes: Roomy<Cause>,
+    flows: Flows<F>,
+    sessions: Sessions,
+    stamp: u64,
+    moment: Moment,
+}
+
+impl<F: Spelt + Drop> Model for Tables<F> {
+    ghost use Rattle.std.specs.Prelude.{◌≡◌, ◌&&◌, nat_lt, if◌then◌else◌};
+    ghost use Rattle.node_tables.specs.Seen.{TablesSeen, Keeps};
+
+    ghost Value = { TablesSeen };
+
+    ghost view = { λ t. record { party = t.party; nodes = t.nodes; bodies = t.bodies.items; acked = t.sessions.acked; room = if nat_lt 0 t.bodies.room && (nat_lt 0 t.causes.room && nat_lt 0 t.flows.room) then t.sessions.room else 0 } };
+
+    ghost invariant = { λ t. (t.sessions.party ≡ t.party) × Keeps t.party F.reading F.within t.bodies.items t.causes.items t.flows.flows t.sessions.list t.stamp t.moment.0 };
+}
+
+impl<F: Spelt + Drop> Tables<F> {
+    /// The tables of a node to which nothing has happened. Takes no memory.
+    pub fn new(alloc: Global, party: Party, nodes: u8) -> Tables<F>
+        ensures party { result.party ≡ party }
+        ensures nodes { result.nodes ≡ nodes }
+        ensures bodies { result.bodies ≡ [] }
+        ensures acked { result.acked ≡ [] }
+    {
+        Tables {
+            party,
+            nodes,
+            bodies: Roomy::new(alloc),
+            causes: Roomy::new(alloc),
+            flows: Flows::new(alloc),
+            sessions: Sessions::new(alloc, party),
+            stamp: 0,
+            moment: Moment(0),
+        }
+    }
+
+    /// Makes room for one more record, which changes this of the sessions. Want of memory leaves the tables as they were.
+    pub fn make_room(&mut self, alloc: Global, change: &SessionChange) -> Result<(), AllocError>
+        ensures party { self.new.party ≡ self.old.party }
+        ensures nodes { self.new.nodes ≡ self.old.nodes }
+        ensures bodies { self.new.bodies ≡ self.old.bodies }
+        ensures acked { self.new.acked ≡ self.old.acked }
+        ensures room { OnOk result (room_for change.now ≤ self.new.room) }
+    {
+        self.bodies.make_room()?;
+        self.causes.make_room()?;
+        self.flows.make_room()?;
+        self.sessions.make_room(alloc, change)
+    }
+
+    /// Whether a record fits here: whether its cause and what it makes of a flow and of the sessions follow on what there is.
+    pub fn fits(&self, step: &Step<F>) -> bool
+        requires { IsStep F.within step.now }
+        ensures { result ≡ fits self.now.nodes self.now.party (state_of F.reading self.now.bodies) (step_record step.now) }
+    {
+        rises(self.stamp, self.moment, &step.cause)
+            && (self.fits_event(step) && (self.may_open(step) && self.sessions.fits(&step.session)))
+    }
+
+    /// Whether the effect is one that such an event may have.
+    fn fits_event(&self, step: &Step<F>) -> bool
+        ensures { result ≡ fits_event self.now.nodes self.now.party (state_of F.reading self.now.bodies) step.now.cause.event (effect_by step.now.flow step.now.session) }
+    {
+        let came = &step.session.came;
+        match &step.cause.event {
+            Event::Start { flow, class, .. } => {
+                *flow == self.flows.count()
+                    && (is_new_flow(*flow, *class, &step.flow) && came.is_none())
+            }
+            Event::Answer { key } => {
+                let sent = step.session.sent.as_slice();
+                self.is_new_key(key)
+                    && accepts_init(self.flows.count(), key, &step.flow, sent, came)
+            }
+            Event::Arrive {
+                key,
+                direction,
+                number,
+            } => self.arrives(key, *direction, *number, step),
+            Event::Move { flow } | Event::Lapse { flow } => {
+                goes_on(&self.flows, *flow, &step.flow) && came.is_none()
+            }
+        }
+    }
+
+    /// Whether a key is new here, and its initiator is another node of the network.
+    fn is_new_key(&self, key: &Key) -> bool
+        ensures { result ≡ is_new_key self.now.nodes self.now.party (state_of F.reading self.now.bodies).sessions key.now }
+    {
+        let from = key.initiator.0;
+        self.sessions.peer(key).is_none() && !(from == self.party.0 || self.nodes <= from)
+    }
+
+    /// Whether an item comes next in the session of the key, if it stands, and nothing else happens.
+    fn arrives(&self, key: &Key, direction: u8, number: u32, step: &Step<F>) -> bool
+        ensures { result ≡ arrives_in self.now.party key.now direction number (effect_by step.now.flow step.now.session) (session_of key.now (state_of F.reading self.now.bodies).sessions) }
+    {
+        match self.sessions.expected(key, direction) {
+            Some(next) => {
+                number == next
+                    && (is_lawful_item(direction, number, &step.session.came) && only_accepts(step))
+            }
+            None => false,
+        }
+    }
+
+    /// Whether the flow that opens a session, if one does, opens it with a node of the network and owns 64 sessions at most with it.
+    fn may_open(&self, step: &Step<F>) -> bool
+        requires { IsStep F.within step.now }
+        ensures { result ≡ may_open self.now.nodes (begun_by step.now.cause (effect_by step.now.flow step.now.session) (state_of F.reading self.now.bodies).sessions) (flow_of (part_after step.now.flow)) step.now.session.opened }
+    {
+        match &step.session.opened {
+            Some((_, peer)) => self.owns_few(*peer, &step.cause.event, &step.flow),
+            None => true,
+        }
+    }
+
+    /// Whether the peer is a node of the network, and the flow owns 64 sessions at most once the event and an opening made theirs.
+    fn owns_few(&self, peer: Party, event: &Event, after: &Option<FlowAfter<F>>) -> bool
+        ensures none { after.now ≡ None → result ≡ false }
+        ensures some { (flow : After F) → after.now ≡ Some flow → result ≡ (nat_lt peer.0 self.now.nodes && nat_le (length (sessions_of flow.number (state_of F.reading self.now.bodies).sessions) + made_by event.now + 1) 64) }
+    {
+        match after {
+            Some(flow) => {
+                let owned = self.sessions.count_of_flow(flow.number) as u64;
+                peer.0 < self.nodes && owned + made_by(event) + 1 <= 64
+            }
+            None => false,
+        }
+    }
+
+    /// What a body is read as here: a record that fits, or none.
+    ///
+    /// # Errors
+    ///
+    /// Want of memory.
+    pub fn read(&self, alloc: Global, body: &[u8]) -> Result<Option<Step<F>>, AllocError>
+        ensures { IfOk result (λ r. IsRead self.now.nodes self.now.party F.reading F.within (state_of F.reading self.now.bodies) body.now r) }
+    {
+        let Some(step) = read_step::<F>(alloc, body)? else {
+            return Ok(None);
+        };
+        if self.fits(&step) {
+            return Ok(Some(step));
+        }
+        let_go(step);
+        Ok(None)
+    }
+
+    /// Takes a record that fits, in the room that was made.
+    pub fn add(&mut self, body: ByteList, step: Step<F>)
+        requires room { room_for step.session ≤ self.old.room }
+        requires few { length self.old.bodies < 65536 }
+        requires reads { record_of F.reading body ≡ Some (step_record step) }
+        requires fits { fits self.old.nodes self.old.party (state_of F.reading self.old.bodies) (step_record step) ≡ true }
+        requires limits { IsStep F.within step }
+        ensures party { self.new.party ≡ self.old.party }
+        ensures nodes { self.new.nodes ≡ self.old.nodes }
+        ensures bodies { self.new.bodies ≡ self.old.bodies ++ body ∷ [] }
+        ensures acked { self.new.acked ≡ acks_after step.session self.old.acked }
+    {
+        let Step {
+            cause,
+            flow,
+            session,
+        } = step;
+        let stamp = cause.stamp;
+        self.stamp = stamp;
+        self.moment = cause.moment;
+        self.causes.add(cause);
+        self.bodies.add(body);
+        self.sessions.apply(session, stamp);
+        set_flow(&mut self.flows, flow);
+    }
+
+    /// Raises the number of acknowledged items of the session to `upto`, and never lowers it. Items of the direction in which this
+    /// node sends nothing are never acknowledged, nor are those of a session that doesn't stand.
+    pub fn acknowledge(&mut self, key: &Key, direction: u8, upto: u32)
+        requires { (s : Session) → session_of key.now (state_of F.reading self.old.bodies).sessions ≡ Some s → upto ≤ length s.sent }
+        ensures party { self.new.party ≡ self.old.party }
+        ensures nodes { self.new.nodes ≡ self.old.nodes }
+        ensures bodies { self.new.bodies ≡ self.old.bodies }
+        ensures acked { self.new.acked ≡ raised self.old.party key.now direction upto (state_of F.reading self.old.bodies).sessions self.old.acked }
+    {
+        self.sessions.acknowledge(key, direction, upto);
+    }
+
+    /// The node's party.
+    pub fn party(&self) -> Party
+        ensures { result ≡ self.now.party }
+    {
+        self.party
+    }
+
+    /// How many nodes the network has.
+    pub fn nodes(&self) -> u8
+        ensures { result ≡ self.now.nodes }
+    {
+        self.nodes
+    }
+
+    /// Whether the last stamp was given.
+    pub fn is_late(&self) -> bool
+        ensures { result ≡ nat_le (2 ^ 63 - 1) (state_of F.reading self.now.bodies).stamp }
+    {
+        self.stamp >= LAST_STAMP
+    }
+
+    /// The stamp of the last record, 0 before the first.
+    pub fn stamp(&self) -> u64
+        ensures same { result ≡ (state_of F.reading self.now.bodies).stamp }
+        ensures small { result < 2 ^ 63 }
+    {
+        self.stamp
+    }
+
+    /// The moment of the last record, 0 before the first.
+    pub fn last_moment(&self) -> Moment
+        ensures { result.0 ≡ (state_of F.reading self.now.bodies).moment }
+    {
+        self.moment
+    }
+
+    /// The flows, by number.
+    pub fn flows(&self) -> &Flows<F>
+        ensures { result.now.flows ≡ (state_of F.reading self.now.bodies).flows }
+    {
+        &self.flows
+    }
+
+    /// The sessions, in order of making.
+    pub fn sessions(&self) -> &Sessions
+        ensures party { result.now.party ≡ self.now.party }
+        ensures list { result.now.list ≡ (state_of F.reading self.now.bodies).sessions }
+        ensures acked { result.now.acked ≡ self.now.acked }
+    {
+        &self.sessions
+    }
+
+    /// The causes, in order.
+    pub fn causes(&self) -> &[Cause]
+        ensures { result.now ≡ causes_of F.reading self.now.bodies }
+    {
+        self.causes.as_slice()
+    }
+
+    /// Tells a proof what the tables keep. It does nothing when it runs.
+    pub fn kept(&self)
+        ensures few { length self.now.bodies ≤ 65536 }
+        ensures alone { state_of F.reading self.now.bodies ≡ lone (state_of F.reading self.now.bodies).flows (state_of F.reading self.now.bodies).sessions (state_of F.reading self.now.bodies).stamp (state_of F.reading self.now.bodies).moment }
+        ensures numbered { AreNumbered 0 (state_of F.reading self.now.bodies).flows }
+        ensures sound { IsSound self.now.party.0 (state_of F.reading self.now.bodies) }
+    {
+        let _ = &self.bodies;
+    }
+}
+
+/// Whether no flow changes, no session is opened, and nothing is sent or taken.
+fn only_accepts<F>(step: &Step<F>) -> bool
+    ensures { result ≡ only_accepts (effect_by step.now.flow step.now.session) }
+{
+    is_no_flow(&step.flow)
+        && (step.session.opened.is_none()
+            && (step.session.sent.len() == 0 && step.session.taken.is_none()))
+}
+
+/// The flow is this one now, if one changed.
+fn set_flow<F: Drop>(flows: &mut Flows<F>, after: Option<FlowAfter<F>>)
+    requires room { 0 < flows.old.room }
+    requires place { IfSome after (λ flow. (flow.number ≤ length flows.old.flows) × IsNumbered flow.number flow.state) }
+    ensures { flows.new.flows ≡ flows_after after flows.old.flows }
+{
+    if let Some(FlowAfter { number, state }) = after {
+        flows.set(number, state);
+    }
+}
+
+/// Lets a value go.
+pub(crate) fn let_go<T: Drop>(value: T) {
+    let _ = value;
+}

@@ -1,0 +1,177 @@
+//! Tables of records that were worked out by hand, at party 1 of three nodes. What holds a flow is let go without its destructor: a
+//! proof of a test would go through each kind of value that may stand in it.
+
+use crate::{RebuildFault, Tables, fits_as_ruled, rebuild};
+use flow_machine::Counter;
+use net_base::{ByteList, Key, ListOf, Party};
+use std::alloc::{AllocError, Global};
+use std::mem;
+use std::test::Fail;
+
+/// The Init of session 0 of party 0 is answered with Reject, code 51.
+const ANSWERED: &str =
+    "00000000000000010000000000000005020000000000000001000000000001000000000300330101000101000000000000000000000000";
+/// An Error arrives in that session.
+const ARRIVED: &str =
+    "0000000000000002000000000000000603000000000000000000010000000105003800000000";
+/// Flow 0 of class 1 begins; it opens session 0 with party 2, and sends its Init.
+const OPENED: &str =
+    "000000000000000300000000000000060100000000000100040000000001000000000000000000010e01000000000000000001000a010200000000000000000101000000000201010000000000000000000100010100000000000000000000000000";
+
+/// A record that doesn't fit after the first one, for the one reason that is named; there are 20.
+fn unfit(number: u32) -> (&'static str, &'static str) {
+    match number {
+        0 => (
+            "the stamp does not rise",
+            "0000000000000001000000000000000603000000000000000000010000000105003800000000",
+        ),
+        1 => (
+            "the moment falls",
+            "0000000000000002000000000000000403000000000000000000010000000105003800000000",
+        ),
+        2 => (
+            "an item is left out",
+            "0000000000000002000000000000000603000000000000000000020000000105003800000000",
+        ),
+        3 => (
+            "it comes the other way",
+            "0000000000000002000000000000000603000000000001000000010000000105003800000000",
+        ),
+        4 => (
+            "a Confirm at number 1",
+            "000000000000000200000000000000060300000000000000000001000000010200000000",
+        ),
+        5 => (
+            "nothing is accepted",
+            "0000000000000002000000000000000603000000000000000000010000000000000000",
+        ),
+        6 => (
+            "no such session",
+            "0000000000000002000000000000000603000000000100000000010000000105003800000000",
+        ),
+        7 => (
+            "the session stands",
+            "00000000000000020000000000000006020000000000000001000000000001000000000300330101000101000000000000000000000000",
+        ),
+        8 => (
+            "the node's own session",
+            "00000000000000020000000000000006020100000000000001010000000001000000000300330101000101000000000000000000000000",
+        ),
+        9 => (
+            "no node of the network",
+            "00000000000000020000000000000006020300000000000001030000000001000000000300330101000101000000000000000000000000",
+        ),
+        10 => (
+            "no answer",
+            "000000000000000200000000000000060200000000010000000101000101000000000000000000000000",
+        ),
+        11 => (
+            "more is taken than arrived",
+            "000000000000000200000000000000060100000000000100040000000001000000000000000000010e01000000000000000001000a0102000000000000000000000001000000000000000002000000",
+        ),
+        12 => (
+            "no node to open with",
+            "000000000000000200000000000000060100000000000100040000000001000000000000000000010e01000000000000000001000a010200000000000000000101000000000301010000000000000000000100010100000000000000000000000000",
+        ),
+        13 => (
+            "not the next session",
+            "000000000000000200000000000000060100000000000100040000000001000000000000000000010e01000000000000000001000a010200000000000000000101000000010201010000000100000000000100010100000000000000000000000000",
+        ),
+        14 => (
+            "its Init is not sent",
+            "000000000000000200000000000000060100000000000100040000000001000000000000000000010e01000000000000000001000a0102000000000000000001010000000002000000000000",
+        ),
+        15 => (
+            "an item is sent twice",
+            "000000000000000200000000000000060100000000000100040000000001000000000000000000010e01000000000000000001000a01020000000000000000010100000000020201000000000000000000010001010000000000000000010000000000000000000100010100000000000000000000000000",
+        ),
+        16 => (
+            "another class",
+            "000000000000000200000000000000060100000000000200040000000001000000000000000000010e01000000000000000001000a0102000000000000000000000000000000",
+        ),
+        17 => (
+            "not the next flow",
+            "000000000000000200000000000000060100000001000100040000000001000000000000000000010e01000000000000000001000a0102000000000000000000000000000000",
+        ),
+        18 => (
+            "no flow goes on",
+            "000000000000000200000000000000060400000000020000000000000001000101000000000000000000000000000000",
+        ),
+        _ => (
+            "the ledger changes",
+            "0000000000000002000000000000000603000000000000000000010000000105003800000100000000000000000000000000000000000000000000000000000000000000000000000000",
+        ),
+    }
+}
+
+/// The record of a text, with its place.
+fn record(alloc: Global, at: u64, text: &str) -> Result<(u64, ByteList), Fail> {
+    Ok((at, ListOf::from_vec(hex::decode(alloc, text)?)))
+}
+
+/// The place of the first of two records that doesn't fit, if there is one.
+fn misfit(alloc: Global, first: &str, second: &str) -> Result<Option<u64>, Fail> {
+    let first = record(alloc, 0, first)?;
+    let second = record(alloc, 1, second)?;
+    let list = ListOf::from_vec(vec![in alloc; first, second]?);
+    match rebuild::<Counter>(alloc, Party(1), 3, list) {
+        Ok(tables) => {
+            mem::forget(tables);
+            Ok(None)
+        }
+        Err(RebuildFault::Damaged { at }) => Ok(Some(at)),
+        Err(RebuildFault::Memory) => Err(AllocError)?,
+    }
+}
+
+/// What is looked at: the stamp, the moment, and how many flows and causes there are.
+fn summary(tables: &Tables<Counter>) -> (u64, u64, u32, usize) {
+    (
+        tables.stamp(),
+        tables.last_moment().0,
+        tables.flows().count(),
+        tables.causes().len(),
+    )
+}
+
+/// How many items arrived in the session.
+fn arrived(tables: &Tables<Counter>, initiator: u8, direction: u8) -> Option<u32> {
+    let key = Key {
+        initiator: Party(initiator),
+        number: 0,
+    };
+    tables.sessions().expected(&key, direction)
+}
+
+#[test]
+fn tables_are_those_of_their_records(rt: HostRuntime) -> Result<(), Fail> {
+    fits_as_ruled::<Counter>();
+    let first = record(rt.alloc(), 0, ANSWERED)?;
+    let second = record(rt.alloc(), 1, ARRIVED)?;
+    let third = record(rt.alloc(), 2, OPENED)?;
+    let list = ListOf::from_vec(vec![in rt.alloc(); first, second, third]?);
+    let Ok(tables) = rebuild::<Counter>(rt.alloc(), Party(1), 3, list) else {
+        assert!(rt; false);
+        return Ok(());
+    };
+    let words = summary(&tables);
+    let answered = arrived(&tables, 0, 0);
+    let opened = arrived(&tables, 1, 1);
+    let next = tables.sessions().next_number();
+    mem::forget(tables);
+    assert_eq!(rt; words, (3, 6, 1, 3));
+    assert_eq!(rt; answered, Some(2));
+    assert_eq!(rt; opened, Some(0));
+    assert_eq!(rt; next, 1);
+    Ok(())
+}
+
+#[test]
+fn what_does_not_fit_is_refused(rt: HostRuntime) -> Result<(), Fail> {
+    for number in 0..20 {
+        let (why, text) = unfit(number);
+        let at = misfit(rt.alloc(), ANSWERED, text)?;
+        assert_eq!(rt; at, Some(1), "{why}");
+    }
+    Ok(())
+}
