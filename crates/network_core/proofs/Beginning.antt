@@ -1,7 +1,6 @@
 -- From disks to a network.
-use Rattle.std.proofs.Common.{◌≡◌, ◌⊎◌, inl, inr, ⊎_elim, ℕ, zero, suc, ◌+◌, max, ◌<◌, ◌≤◌, Bool, true, false, List, [], ◌∷◌, ◌++◌, length, map, Option, Some, None, Result, Ok, Err, refl, sym, ◌∙◌, ap, subst, arith, slice_set, length-append}
+use Rattle.std.proofs.Common.{◌≡◌, ◌⊎◌, inl, inr, ⊎_elim, ℕ, zero, suc, ◌+◌, ◌<◌, false, List, [], ◌∷◌, length, map, Option, Some, None, refl, sym, ◌∙◌, ap, subst, arith}
 use Rattle.std.specs.List.{slice_get, AllByRecursion}
-use Rattle.std.specs.Option.{MatchOption}
 use Rattle.std.proofs.lemmas.Bool.{cases_lt, true≢false}
 use Rattle.std.proofs.lemmas.Option.{same_Some, none-some}
 use Rattle.outside.specs.Disk.{DiskView, IsImage}
@@ -9,7 +8,7 @@ use Rattle.net_base.specs.declared.names.Identity.{Identity}
 use Rattle.net_base.specs.declared.values.Party.{Party}
 use Rattle.flow_machine.specs.Machine.{Machine}
 use Rattle.disk_journal.specs.Journal.{journal_of}
-use Rattle.net_model.specs.Environment.{Environment, environment, identity}
+use Rattle.net_model.specs.Environment.{Environment, environment}
 use Rattle.net_model.proofs.Faithful.{get_less}
 use Rattle.node_core.specs.declared.faults.BootFault.{BootFault}
 use Rattle.node_core.specs.declared.faults.BootFault.TheVariants as boot_fault
@@ -17,10 +16,9 @@ use Rattle.node_core.specs.Journals.{Reads, state_of}
 use Rattle.node_core.specs.Disks.{roomless}
 use Rattle.node_core.specs.Seen.{NodeSeen, BootsAs, IsBy}
 use Rattle.network_core.specs.Worlds.{NodeWorld, World, NetSeen, MaySpell, ShowsJournal, NodeShows, NodeCoherent, Sound, Shows, Coherent}
-use Rattle.network_core.specs.Begins.{BeginsUp, LeavesDisk, member, came_up, no_boot, IsLast, BootsUpTo, BootStops, node_over, nodes_over, net_over, Begun, BeginsWorld, StayDown, IsRefused}
+use Rattle.network_core.specs.Begins.{BeginsUp, LeavesDisk, member, came_up, no_boot, IsLast, BootsUpTo, BootStops, node_over, nodes_over, net_over, BeginsWorld, StayDown, IsRefused}
 use Rattle.network_core.proofs.Faithful.{get_beside, map_length}
-use Rattle.network_core.proofs.Places.{set_length, get_set}
-use Rattle.network_core.proofs.Booting.{Unmoved, down_world, same_kept, booted_world}
+use Rattle.network_core.proofs.Booting.{down_world, same_kept, booted_world}
 
 -- ---- lists
 

@@ -4,25 +4,22 @@ use Rattle.std.specs.List.{slice_get, AllByRecursion}
 use Rattle.std.specs.Option.{MatchOption}
 use Rattle.std.proofs.lemmas.Bool.{cases_lt, true≢false}
 use Rattle.std.proofs.lemmas.Option.{same_Some}
-use Rattle.outside.specs.Disk.{DiskState, DiskView, IsImage}
+use Rattle.outside.specs.Disk.{DiskView, IsImage}
 use Rattle.outside.specs.Faults.{Rose}
-use Rattle.net_base.specs.declared.names.Identity.{Identity}
 use Rattle.flow_machine.specs.Machine.{Machine}
 use Rattle.disk_journal.specs.Journal.{journal_of, WasSpelt}
-use Rattle.disk_journal.specs.declared.fault.OpenFault.{OpenFault}
 use Rattle.disk_journal.specs.declared.fault.OpenFault.TheVariants as open_fault
-use Rattle.net_model.specs.Environment.{Environment, environment, identity}
+use Rattle.net_model.specs.Environment.{Environment, environment}
 use Rattle.node_core.specs.declared.faults.BootFault.{BootFault}
 use Rattle.node_core.specs.declared.faults.BootFault.TheVariants as boot_fault
 use Rattle.node_core.specs.Journals.{Reads, state_of}
 use Rattle.node_core.specs.Disks.{Moves}
 use Rattle.node_core.specs.Seen.{NodeSeen, BootsAs, Booted, Unbooted, Unopened, Unfit, IsBy}
 use Rattle.network_core.specs.declared.steps.Outcome.{Outcome}
-use Rattle.network_core.specs.declared.steps.Outcome.TheVariants as outcome
 use Rattle.network_core.specs.Worlds.{NodeWorld, World, NetSeen, MaySpell, ShowsJournal, NodeShows, NodeCoherent, Shows, Coherent, KeepsWorld}
-use Rattle.network_core.specs.Answers.{said, boot_outcome, Restored, DownBoots, BootServes, BootClock, AtPlace}
-use Rattle.network_core.specs.Serves.{WorldPlace, WorldBoots, StaysDown, ComesUp}
-use Rattle.network_core.proofs.Stands.{shows_down, images_now, not_true}
+use Rattle.network_core.specs.Answers.{said, boot_outcome, Restored, BootServes, BootClock, AtPlace}
+use Rattle.network_core.specs.Serves.{WorldPlace, WorldBoots, StaysDown}
+use Rattle.network_core.proofs.Stands.{shows_down, images_now}
 use Rattle.network_core.proofs.Faithful.{get_beside}
 use Rattle.network_core.proofs.Served.{Goes}
 use Rattle.network_core.proofs.Places.{place_world}

@@ -4,6 +4,7 @@ pub mod Stands
 pub mod Served
 pub mod Places
 pub mod Booting
+pub mod Draining
 pub mod Turning
 pub mod Linking
 pub mod Beginning

@@ -1,13 +1,11 @@
 -- Steps, one after another.
-use Rattle.std.proofs.Common.{◌≡◌, ◌≤◌, length, arith, ℕ, zero, suc, take, drop, List, [], ◌∷◌, ◌++◌, Some, None, true, false, Result, Ok, Err, refl, sym, ◌∙◌, ap, subst}
+use Rattle.std.proofs.Common.{◌≡◌, ◌≤◌, length, arith, ℕ, zero, suc, take, drop, List, [], ◌∷◌, ◌++◌, Some, None, true, false, refl, ap, subst}
 use Rattle.std.specs.List.{slice_get}
 use Rattle.flow_machine.specs.Machine.{Machine}
-use Rattle.net_model.specs.Environment.{environment}
 use Rattle.node_core.specs.Journals.{Reads}
 use Rattle.network_core.specs.declared.steps.Outcome.{Outcome}
 use Rattle.network_core.specs.declared.steps.Step.{Step}
-use Rattle.network_core.specs.Worlds.{World, NetSeen, Shows, Coherent, KeepsWorld}
-use Rattle.network_core.specs.Answers.{said}
+use Rattle.network_core.specs.Worlds.{NetSeen, KeepsWorld}
 use Rattle.network_core.specs.Served.{Serve, Links, none, more, Follows}
 
 take_past : {X : Type 0} (xs : List X) (i : ℕ) → length xs ≤ i → take i xs ≡ xs

@@ -1,14 +1,12 @@
 -- A journal of a node's own steps goes on by a step.
-use Rattle.std.proofs.Common.{◌≡◌, ℕ, zero, suc, ◌+◌, ◌≤◌, List, [], ◌∷◌, ◌++◌, length, Option, Some, None, option_to_list, refl, sym, ◌∙◌, ap, subst, arith, append_assoc, append-nil, length-append}
+use Rattle.std.proofs.Common.{◌≡◌, ℕ, ◌+◌, ◌≤◌, List, [], ◌∷◌, ◌++◌, length, Some, None, option_to_list, refl, sym, ◌∙◌, ap, subst, arith, append_assoc, append-nil, length-append}
 use Rattle.net_base.specs.declared.causes.Cause.{Cause}
 use Rattle.net_base.specs.declared.causes.Event.{Event}
-use Rattle.session_wire.specs.declared.body.Body.{Body}
 use Rattle.net_model.specs.Environment.{Environment}
 use Rattle.net_model.specs.State.{NodeState, Record, Effect, apply_effect, fresh, replay, replay_from}
 use Rattle.net_model.specs.Steps.{node_step, next_cause}
-use Rattle.net_model.specs.Runs.{IsLocal, IsLocalFrom, stamped}
-use Rattle.net_model.proofs.Effects.{step_is_its_effect}
-use Rattle.net_model.proofs.Cut.{flows_alone, local_is_alone}
+use Rattle.net_model.specs.Runs.{IsLocalFrom, stamped}
+use Rattle.net_model.proofs.Effects.{effect_bare, step_taken, step_is_its_effect}
 use Rattle.flow_records.specs.Records.{record_of}
 use Rattle.node_core.specs.Journals.{Reads, records_of, state_of}
 use Rattle.node_core.specs.Seen.{Pends}
@@ -40,9 +38,8 @@ module _ {F : Type 0} (e : Environment F) (p : ℕ) where
       let r : Record F = record { cause = cause; effect = pends.effect } in
       let s = state_of f bodies in
       let pushed : records_of f (bodies ++ body ∷ []) ≡ records_of f bodies ++ r ∷ [] = records_push f bodies body ∙ ap (λ o. records_of f bodies ++ option_to_list o) pends.reads in
-      let none = (local_is_alone e p (records_of f bodies) sound.local).1.sessions in
-      let alone = (flows_alone e p s (state_of f (bodies ++ body ∷ [])) cause None pends.effect none pends.step).change in
-      let item : stamped 0 pends.effect.change.came ≡ None = ap (λ c. stamped 0 c.came) alone in
+      let taken = step_taken e p s (state_of f (bodies ++ body ∷ [])) cause None pends.effect pends.step in
+      let item : stamped 0 pends.effect.change.came ≡ None = ap (stamped 0) (effect_bare e p s cause.moment.0 cause.event pends.effect taken.effect) in
       let step : node_step e p s cause (stamped 0 pends.effect.change.came) ≡ Some (state_of f (bodies ++ body ∷ []), pends.effect) = rw item pends.step in
       let local = local_push fresh (records_of f bodies) r 0 (state_of f (bodies ++ body ∷ [])) sound.local step in
       let state : state_of f (bodies ++ body ∷ []) ≡ apply_effect s cause pends.effect = step_is_its_effect e p s (state_of f (bodies ++ body ∷ [])) cause None pends.effect pends.step in

@@ -1,5 +1,5 @@
 -- The place of a node in its network.
-use Rattle.std.proofs.Common.{◌≡◌, ◌⊎◌, inl, inr, ⊎_elim, ℕ, zero, suc, ◌+◌, ◌<◌, ◌≤◌, List, [], ◌∷◌, length, slice_set, Option, Some, None, Result, refl, sym, ◌∙◌, ap, subst, arith}
+use Rattle.std.proofs.Common.{◌≡◌, ◌⊎◌, inl, inr, ⊎_elim, ℕ, zero, suc, ◌<◌, ◌≤◌, List, [], ◌∷◌, length, slice_set, Option, Some, Result, refl, sym, ◌∙◌, ap, subst, arith}
 use Rattle.std.specs.List.{slice_get}
 use Rattle.net_base.specs.declared.names.Identity.{Identity}
 use Rattle.flow_machine.specs.Machine.{Machine}
@@ -8,7 +8,7 @@ use Rattle.node_core.specs.Journals.{Reads}
 use Rattle.node_core.specs.Seen.{NodeSeen}
 use Rattle.network_core.specs.declared.steps.Outcome.{Outcome}
 use Rattle.network_core.specs.declared.steps.Outcome.TheVariants as outcome
-use Rattle.network_core.specs.Worlds.{NodeWorld, World, NetSeen, NodeShows, NodeCoherent, Coherent, Shows, KeepsWorld}
+use Rattle.network_core.specs.Worlds.{NodeWorld, World, NetSeen, NodeShows, NodeCoherent, Shows, KeepsWorld}
 use Rattle.network_core.specs.Answers.{said, StartServes, TurnServes, CutServes, AtPlace, ClockServes}
 use Rattle.network_core.specs.Serves.{WorldStarts, WorldTurns, WorldCuts, WorldPlace, WorldClock}
 use Rattle.network_core.proofs.Locals.{sound_later}

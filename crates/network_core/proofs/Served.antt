@@ -1,15 +1,14 @@
 -- What a step at one node makes of the world.
-use Rattle.std.proofs.Common.{◌≡◌, ◌⊎◌, inl, inr, ⊎_elim, ℕ, zero, suc, ◌+◌, ◌<◌, ◌≤◌, Bool, true, false, List, [], ◌∷◌, ◌++◌, length, slice_set, Option, Some, None, Result, Ok, Err, IsOk, refl, sym, ◌∙◌, ap, subst, arith}
-use Rattle.std.specs.List.{slice_get}
-use Rattle.std.proofs.lemmas.Option.{MatchOption-at_none, MatchOption-at_some, none-some, same_Some}
-use Rattle.outside.specs.Disk.{IsImage, DiskState, DiskView}
+use Rattle.std.proofs.Common.{◌≡◌, ◌⊎◌, inl, inr, ℕ, zero, suc, true, false, List, Option, Some, None, Result, Ok, Err, IsOk, refl, sym, ◌∙◌, ap, subst, arith}
+use Rattle.std.proofs.lemmas.Option.{MatchOption-at_none, MatchOption-at_some, none-some}
+use Rattle.outside.specs.Disk.{IsImage, DiskView}
 use Rattle.net_base.specs.declared.names.Identity.{Identity}
 use Rattle.net_base.specs.declared.causes.Event.{Event}
 use Rattle.net_base.specs.declared.causes.Event.TheVariants as event
 use Rattle.flow_machine.specs.Machine.{Machine}
 use Rattle.flow_machine.specs.declared.flow_set.MakeFault.TheVariants as make
 use Rattle.disk_journal.specs.Journal.{journal_of}
-use Rattle.net_model.specs.Environment.{Environment, environment, identity}
+use Rattle.net_model.specs.Environment.{Environment, environment}
 use Rattle.net_model.specs.Steps.{place}
 use Rattle.node_core.specs.declared.faults.StartFault.{StartFault}
 use Rattle.node_core.specs.declared.faults.StartFault.TheVariants as start_fault
@@ -22,12 +21,10 @@ use Rattle.node_core.specs.declared.faults.CutFault.TheVariants as cut_fault
 use Rattle.node_core.specs.Journals.{Reads, is_full}
 use Rattle.node_core.specs.Disks.{OneOf}
 use Rattle.node_core.specs.Seen.{NodeSeen, StartsAs, StartAnswers, TurnsAs, TurnAnswers, CutsAs, CutAnswers, flow_count, picked_at}
-use Rattle.network_core.specs.declared.steps.Outcome.{Outcome}
 use Rattle.network_core.specs.declared.steps.Outcome.TheVariants as outcome
-use Rattle.network_core.specs.Worlds.{NodeWorld, World, NetSeen, NodeShows, NodeCoherent, Coherent, Shows, ShowsJournal, KeepsWorld}
-use Rattle.network_core.specs.Answers.{said, start_outcome, turn_outcome, cut_outcome, StartServes, TurnServes, CutServes, AtPlace, ClockServes}
-use Rattle.network_core.specs.Serves.{WorldStarts, WorldTurns, WorldCuts, WorldFaults, RefusesStart, RefusesTurn, WorldPlace, WorldClock}
-use Rattle.network_core.proofs.Locals.{sound_later}
+use Rattle.network_core.specs.Worlds.{NodeWorld, NodeShows, NodeCoherent}
+use Rattle.network_core.specs.Answers.{start_outcome, turn_outcome, cut_outcome}
+use Rattle.network_core.specs.Serves.{WorldStarts, WorldTurns, WorldCuts, WorldFaults, RefusesStart, RefusesTurn}
 use Rattle.network_core.proofs.Stands.{commits_world, faults_world, shows_down, shows_same, images_now}
 
 -- the node is now k, and its world is so

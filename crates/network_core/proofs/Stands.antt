@@ -1,17 +1,17 @@
 -- What a call of a node makes of its world.
-use Rattle.std.proofs.Common.{◌≡◌, ◌⊎◌, inl, inr, ⊎_elim, ℕ, ◌+◌, ◌≤◌, Bool, true, false, List, [], ◌∷◌, ◌++◌, Option, Some, None, Result, Ok, Err, refl, sym, ◌∙◌, ap, subst, arith}
+use Rattle.std.proofs.Common.{◌≡◌, ◌⊎◌, inl, inr, ⊎_elim, ℕ, Bool, true, false, List, [], ◌∷◌, ◌++◌, Option, Some, None, refl, sym, ◌∙◌, ap, subst}
 use Rattle.std.proofs.lemmas.Option.{same_Some}
 use Rattle.std.proofs.lemmas.Bool.{true≢false}
-use Rattle.outside.specs.Disk.{DiskState, DiskView, IsImage, EachImage}
+use Rattle.outside.specs.Disk.{DiskState, DiskView, IsImage}
 use Rattle.outside.specs.Faults.{Rose}
 use Rattle.outside.proofs.Moments.{at_now}
 use Rattle.net_base.specs.declared.names.Identity.{Identity}
 use Rattle.net_base.specs.declared.causes.Event.{Event}
 use Rattle.flow_machine.specs.Machine.{Machine}
 use Rattle.disk_journal.specs.Journal.{journal_of}
-use Rattle.net_model.specs.Environment.{Environment, environment, identity}
-use Rattle.node_core.specs.Journals.{Reads, is_full}
-use Rattle.node_core.specs.Disks.{Moves, Holds, OldOrMore}
+use Rattle.net_model.specs.Environment.{Environment, environment}
+use Rattle.node_core.specs.Journals.{Reads}
+use Rattle.node_core.specs.Disks.{Moves, OldOrMore}
 use Rattle.node_core.specs.Seen.{NodeSeen, Pends, Commits, Faults}
 use Rattle.network_core.specs.Worlds.{NodeWorld, MaySpell, ShowsJournal, NodeShows, NodeCoherent, Sound}
 use Rattle.network_core.specs.Serves.{WorldCommits, WorldFaults}

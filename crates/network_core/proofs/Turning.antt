@@ -1,9 +1,8 @@
 -- Each turn keeps the network's worlds, and each that commits takes from its room.
-use Rattle.std.proofs.Common.{◌≡◌, ◌⊎◌, inl, inr, ⊎_elim, ℕ, zero, suc, ◌+◌, ◌-◌, ◌<◌, ◌≤◌, ◌^◌, Bool, List, [], ◌∷◌, ◌++◌, length, slice_set, Option, Some, None, IfSome, Result, Ok, Err, IsErr, ◌==◌, if◌then◌else◌, true, false, refl, sym, ◌∙◌, ap, subst, arith, length-append, nat_le, nat_lt}
+use Rattle.std.proofs.Common.{◌≡◌, ◌⊎◌, inl, inr, ⊎_elim, ℕ, zero, suc, ◌+◌, ◌-◌, ◌<◌, ◌≤◌, ◌^◌, Bool, List, [], ◌∷◌, length, slice_set, Option, Some, None, IfSome, Result, Ok, Err, ◌==◌, if◌then◌else◌, true, false, refl, sym, ◌∙◌, ap, subst, arith, length-append, nat_le, nat_lt}
 use Rattle.std.specs.List.{slice_get}
 use Rattle.std.proofs.lemmas.Bool.{or_parts, leb-false, eqb-true, true≢false, cases_lt}
 use Rattle.std.proofs.lemmas.Option.{MatchOption-at_none, MatchOption-at_some, slice_get_past, none-some, same_Some}
-use Rattle.net_base.specs.declared.names.Identity.{Identity}
 use Rattle.flow_machine.specs.Machine.{Machine}
 use Rattle.disk_journal.specs.Journal.{is_full_at}
 use Rattle.net_model.specs.Environment.{Environment, environment}
@@ -18,14 +17,14 @@ use Rattle.network_core.specs.declared.net.Turning.{Turning}
 use Rattle.network_core.specs.declared.net.Turning.TheVariants as turning
 use Rattle.network_core.specs.declared.steps.Outcome.{Outcome}
 use Rattle.network_core.specs.declared.steps.Outcome.TheVariants as outcome
-use Rattle.network_core.specs.Worlds.{NodeWorld, World, NetSeen, NodeShows, ShowsJournal, Shows, Coherent, KeepsWorld}
+use Rattle.network_core.specs.Worlds.{NodeWorld, World, NetSeen, ShowsJournal, Shows, KeepsWorld}
 use Rattle.network_core.specs.Answers.{said, turn_outcome, TurnServes, AtPlace}
-use Rattle.network_core.specs.Serves.{WorldPlace, WorldTurns}
-use Rattle.network_core.specs.Drains.{room, total_room, journal_room, takes, Runs, none, more, RunsTo, TurnAt, Turns, Drains, Drives, Quiet, QuietAt, turned}
+use Rattle.network_core.specs.Drains.{room, total_room, journal_room, takes, TurnAt, Drains, Drives, Quiet, QuietAt, turned}
 use Rattle.network_core.specs.Served.{WorldDrains}
 use Rattle.network_core.proofs.Faithful.{get_beside}
 use Rattle.net_model.proofs.Faithful.{get_less}
-use Rattle.network_core.proofs.Places.{get_set, set_length, turn_world, keeps_map}
+use Rattle.network_core.proofs.Places.{get_set, set_length, turn_world, keeps_map, stays_world}
+use Rattle.network_core.proofs.Draining.{drained}
 
 -- ---- the room
 
@@ -143,47 +142,33 @@ module _ {F : Type 0} (m : Machine F) (f : Reads F) where
 
   -- ---- the worlds
 
-  -- no turns
-  pub drives_none : (old new : NetSeen) → new ≡ old → Drives m f old new (λ e w v. Runs e w v)
-  drives_none old new same = record {
-    world = λ id w shows coherent. (w, subst (λ (z : NetSeen). Shows (environment m f id) z w) (sym same) shows, coherent, none refl);
+  -- nothing was done yet
+  pub drives_none : (old new : NetSeen) (goal : Environment F → World → World → Type 0) → new ≡ old → ((e : Environment F) (w : World) → goal e w w) → Drives m f old new goal
+  drives_none old new goal same holds = record {
+    world = stays_world m f old new goal same holds;
     clock = ap (λ z. z.now) same;
     left = omega (arith, ap room same);
     count = ap (λ z. length z.nodes) same;
   }
 
-  -- one turn more, which met no full journal
-  pub drives_more : {E : Type 0} (p : ℕ) (old mid new : NetSeen) (result : Result Outcome E) (o : Outcome) → Drives m f old mid (λ e w v. Runs e w v) → new.now ≡ mid.now → AtPlace p mid result new (λ n r k. TurnServes m f mid.now None n r k) → result ≡ Ok o → (o ≡ outcome.Refused 9 → ⊥)
-      → Drives m f old new (λ e w v. Runs e w v)
-  drives_more p old mid new result o before clock at was full = record {
+  -- one turn, at a place of the network
+  pub drives_turn : {E : Type 0} (p : ℕ) (old new : NetSeen) (result : Result Outcome E) (o : Option Outcome) → p < length old.nodes → new.now ≡ old.now → AtPlace p old result new (λ n r k. TurnServes m f old.now None n r k) → said result ≡ o
+      → Drives m f old new (λ e w v. (p < length w.nodes) × TurnAt e p w o v)
+  drives_turn p old new result o lt clock at was = record {
     world = λ id w shows coherent.
-        let one = before.world id w shows coherent in
-        let two = turn_world m f p mid new result None clock at id one.0 one.1 one.2 in
-        (two.0, two.1, two.2, more p o one.3 (subst (λ (s : Option Outcome). TurnAt (environment m f id) p one.0 s two.0) (ap said was) two.3) full);
-    clock = clock ∙ before.clock;
-    left = omega (arith, before.left, narrows mid.now p None mid new result at);
-    count = same_count p mid new result (λ n r k. TurnServes m f mid.now None n r k) at ∙ before.count;
-  }
-
-  -- a last turn
-  pub drives_last : {E : Type 0} (p : ℕ) (old mid new : NetSeen) (result : Result Outcome E) (o : Option Outcome) → Drives m f old mid (λ e w v. Runs e w v) → new.now ≡ mid.now → AtPlace p mid result new (λ n r k. TurnServes m f mid.now None n r k) → said result ≡ o
-      → Drives m f old new (λ e w v. RunsTo e w o v)
-  drives_last p old mid new result o before clock at was = record {
-    world = λ id w shows coherent.
-        let one = before.world id w shows coherent in
-        let two = turn_world m f p mid new result None clock at id one.0 one.1 one.2 in
-        (two.0, two.1, two.2, (one.0, p, one.3, subst (λ (s : Option Outcome). TurnAt (environment m f id) p one.0 s two.0) was two.3));
-    clock = clock ∙ before.clock;
-    left = omega (arith, before.left, narrows mid.now p None mid new result at);
-    count = same_count p mid new result (λ n r k. TurnServes m f mid.now None n r k) at ∙ before.count;
+        let one = turn_world m f p old new result None clock at id w shows coherent in
+        (one.0, one.1, one.2, (omega (arith, lt, shows.count), subst (λ (s : Option Outcome). TurnAt (environment m f id) p w s one.0) was one.3));
+    clock = clock;
+    left = omega (arith, narrows old.now p None old new result at);
+    count = same_count p old new result (λ n r k. TurnServes m f old.now None n r k) at;
   }
 
   pub drives_map : (old new : NetSeen) (goal wider : Environment F → World → World → Type 0) → ((e : Environment F) (w v : World) → goal e w v → wider e w v) → Drives m f old new goal → Drives m f old new wider
   drives_map old new goal wider map d = record { world = keeps_map m f old new goal wider map d.world; clock = d.clock; left = d.left; count = d.count }
 
-  -- some turns more
-  pub drives_through : (old mid new : NetSeen) (goal wider : Environment F → World → World → Type 0) → ((e : Environment F) (w u v : World) → Runs e w u → goal e u v → wider e w v) → Drives m f old mid (λ e w v. Runs e w v) → Drives m f mid new goal → Drives m f old new wider
-  drives_through old mid new goal wider join before after = record {
+  -- one thing after another
+  pub drives_then : (old mid new : NetSeen) (first second wider : Environment F → World → World → Type 0) → ((e : Environment F) (w u v : World) → first e w u → second e u v → wider e w v) → Drives m f old mid first → Drives m f mid new second → Drives m f old new wider
+  drives_then old mid new first second wider join before after = record {
     world = λ id w shows coherent.
         let one = before.world id w shows coherent in
         let two = after.world id one.0 one.1 one.2 in
@@ -193,9 +178,20 @@ module _ {F : Type 0} (m : Machine F) (f : Reads F) where
     count = after.count ∙ before.count;
   }
 
+  -- a world that the network shows has as many nodes
+  pub drives_counted : (old new : NetSeen) (goal : Environment F → World → World → Type 0) → Drives m f old new goal → Drives m f old new (λ e w v. (length w.nodes ≡ length old.nodes) × goal e w v)
+  drives_counted old new goal d = record {
+    world = λ id w shows coherent.
+        let one = d.world id w shows coherent in
+        (one.0, one.1, one.2, (shows.count, one.3));
+    clock = d.clock;
+    left = d.left;
+    count = d.count;
+  }
+
   -- a network of quiet nodes shows a quiet world
-  pub drives_quiet : (old new : NetSeen) → Drives m f old new (λ e w v. Runs e w v) → ((p : ℕ) → QuietAt f new p) → Drives m f old new (λ e w v. Runs e w v × Quiet e v)
-  drives_quiet old new d quiet = record {
+  pub drives_quiet : (old new : NetSeen) (goal : Environment F → World → World → Type 0) → Drives m f old new goal → ((p : ℕ) → QuietAt f new p) → Drives m f old new (λ e w v. goal e w v × Quiet e v)
+  drives_quiet old new goal d quiet = record {
     world = λ id w shows coherent.
         let one = d.world id w shows coherent in
         (one.0, one.1, one.2, (one.3, λ p x at up. quiet_shown (environment m f id) new one.0 p x one.1 (quiet p) at up));
@@ -203,35 +199,6 @@ module _ {F : Type 0} (m : Machine F) (f : Reads F) where
     left = d.left;
     count = d.count;
   }
-
-pub runs_after : {F : Type 0} (e : Environment F) (w u v : World) → Runs e w u → Runs e u v → Runs e w v
-runs_after e w u v a (none is) = subst (λ (z : World). Runs e w z) (sym is) a
-runs_after e w u v a (more {u = t} p o b step full) = more p o (runs_after e w u t a b) step full
-
-pub runs_to_after : {F : Type 0} (e : Environment F) (o : Option Outcome) (w u v : World) → Runs e w u → RunsTo e u o v → RunsTo e w o v
-runs_to_after e o w u v a (t, p, b, step) = (t, p, runs_after e w u t a b, step)
-
--- turns that met no full journal
-pub turns_ok : (E : Type 0) {F : Type 0} (e : Environment F) (w v : World) (t : Turning) → (t ≡ turning.Full → ⊥) → Runs e w v → Turns {E = E} e w (Ok t) v
-turns_ok E e w v turning.Full other runs = absurd (other refl)
-turns_ok E e w v turning.Moved other runs = runs
-turns_ok E e w v turning.Quiet other runs = runs
-
-pub drained : (E : Type 0) {F : Type 0} (e : Environment F) (w v : World) (full : Bool) → Drains {E = E} e w (Ok full) v → WorldDrains e w (Some (outcome.Drained full)) v
-drained E e w v true d = d
-drained E e w v false d = d
-
--- what turns came to, by their answer
-pub turns_err : {F E : Type 0} (e : Environment F) (w v : World) (r : Result Turning E) (x : E) → r ≡ Err x → Turns e w r v → RunsTo e w None v
-turns_err e w v r x is h = subst (λ (z : Result Turning _). Turns e w z v) is h
-
-pub turns_full : {F E : Type 0} (e : Environment F) (w v : World) (r : Result Turning E) (t : Turning) → r ≡ Ok t → t ≡ turning.Full → Turns e w r v → RunsTo e w (Some (outcome.Refused 9)) v
-turns_full e w v r t is full h = subst (λ (z : Result Turning _). Turns e w z v) (is ∙ ap Ok full) h
-
-pub turns_runs : {F E : Type 0} (e : Environment F) (w v : World) (r : Result Turning E) (t : Turning) → r ≡ Ok t → (t ≡ turning.Full → ⊥) → Turns e w r v → Runs e w v
-turns_runs e w v r turning.Full is other h = absurd (other refl)
-turns_runs e w v r turning.Moved is other h = subst (λ (z : Result Turning _). Turns e w z v) is h
-turns_runs e w v r turning.Quiet is other h = subst (λ (z : Result Turning _). Turns e w z v) is h
 
 code_moved : {o : Outcome} (code : ℕ) (b : Bool) → (if b then turning.Full else turning.Quiet) ≡ turning.Moved → (g : ℕ) × (o ≡ outcome.Moved g)
 code_moved code true h = cc
@@ -260,15 +227,6 @@ was_moved _ h = cc
 pub not_moved : (o : Outcome) → turned o ≡ turning.Quiet → (g : ℕ) → o ≡ outcome.Moved g → ⊥
 not_moved o h g is = quiet_is_no_move (turned o) h (ap turned is)
 
--- an answer that is an error
-pub turns_short : {F E : Type 0} (e : Environment F) (w v : World) (r : Result Turning E) → IsErr r → RunsTo e w None v → Turns e w r v
-turns_short e w v (Ok t) is h = cc
-turns_short e w v (Err x) is h = h
-
-pub drains_short : {F E : Type 0} (e : Environment F) (w v : World) (r : Result Bool E) → IsErr r → RunsTo e w None v → Drains e w r v
-drains_short e w v (Ok t) is h = cc
-drains_short e w v (Err x) is h = h
-
 pub count_turn : {F E : Type 0} (m : Machine F) (f : Reads F) (now : ℕ) (pick : Option ℕ) (p : ℕ) (old new : NetSeen) (result : Result Outcome E) → AtPlace p old result new (λ n r k. TurnServes m f now pick n r k) → length new.nodes ≡ length old.nodes
 count_turn m f now pick p old new result at = same_count p old new result (λ n r k. TurnServes m f now pick n r k) at
 
@@ -291,11 +249,3 @@ moved_is_no_full t a b = cc
 -- a place up to another one
 pub up_to : (p place : ℕ) (P : Type 0) → p < place + 1 → (p < place → P) → (p ≡ place) ⊎ P
 up_to p place P lt below = ⊎_elim (λ l. inr (below l)) (λ g. inl (omega (arith, g, lt))) (cases_lt p place)
-
--- a result that is no error
-pub no_error : (E : Type 0) → Result Bool E
-no_error E = Ok true
-
--- turns that met no full journal; an answer of a turn gives the type of errors
-pub drives_ok : {F T E : Type 0} (m : Machine F) (f : Reads F) (other : Result T E) (old new : NetSeen) (t : Turning) → (t ≡ turning.Full → ⊥) → Drives m f old new (λ e w v. Runs e w v) → Drives m f old new (λ e w v. Turns {E = E} e w (Ok t) v)
-drives_ok {E} m f r old new t other d = drives_map m f old new (λ e w v. Runs e w v) (λ e w v. Turns {E = E} e w (Ok t) v) (λ e w v h. turns_ok E e w v t other h) d

@@ -1,5 +1,5 @@
 -- Serve: what each step makes of a world, and what it answers.
-use Rattle.std.specs.Prelude.{◌≡◌, ◌⊎◌, ℕ, ◌<◌, ◌≤◌, Bool, List, [], ◌∷◌, ◌++◌, Option, Some, None, true, false, Ok, Err}
+use Rattle.std.specs.Prelude.{◌≡◌, ◌⊎◌, ◌<◌, ◌≤◌, Bool, List, [], ◌∷◌, ◌++◌, Option, Some, None, true, false}
 use Rattle.net_model.specs.Environment.{Environment}
 use Rattle.network_core.specs.declared.steps.Outcome.{Outcome}
 use Rattle.network_core.specs.declared.steps.Outcome.TheVariants as outcome
@@ -7,13 +7,13 @@ use Rattle.network_core.specs.declared.steps.Step.{Step}
 use Rattle.network_core.specs.declared.steps.Step.TheVariants as step
 use Rattle.network_core.specs.Worlds.{World}
 use Rattle.network_core.specs.Serves.{WorldClock, WorldPlace, WorldStarts, WorldTurns, WorldCuts, WorldBoots}
-use Rattle.network_core.specs.Drains.{Runs, RunsTo, Quiet}
+use Rattle.network_core.specs.Drains.{IsDrained, DrainStops}
 
 -- what a drain makes of a world, by its outcome
 abbrev pub WorldDrains : {F : Type 0} → Environment F → World → Option Outcome → World → Type 0
-WorldDrains e w None v = RunsTo e w None v
-WorldDrains e w (Some (outcome.Drained true)) v = RunsTo e w (Some (outcome.Refused 9)) v
-WorldDrains e w (Some (outcome.Drained false)) v = Runs e w v × Quiet e v
+WorldDrains e w None v = DrainStops e None w v
+WorldDrains e w (Some (outcome.Drained true)) v = DrainStops e (Some (outcome.Refused 9)) w v
+WorldDrains e w (Some (outcome.Drained false)) v = IsDrained e w v
 WorldDrains e w (Some outcome.Fine) v = ⊥
 WorldDrains e w (Some (outcome.Started f)) v = ⊥
 WorldDrains e w (Some (outcome.Moved f)) v = ⊥

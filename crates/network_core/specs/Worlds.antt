@@ -5,6 +5,7 @@ use Rattle.net_base.specs.declared.names.Identity.{Identity}
 use Rattle.flow_machine.specs.Machine.{Machine}
 use Rattle.disk_journal.specs.Journal.{journal_of}
 use Rattle.net_model.specs.Environment.{Environment, environment, identity}
+use Rattle.net_model.specs.Cut.{IsNarrow}
 use Rattle.net_model.specs.Runs.{IsLocal, IsFaithful, network_of}
 use Rattle.node_core.specs.Journals.{Reads, records_of, state_of, causes_of}
 use Rattle.node_core.specs.Seen.{NodeSeen}
@@ -91,7 +92,7 @@ pub record Choice (w : World) (lists : List (List (List ℕ))) : Type 0 where
   pub count : length lists ≡ length w.nodes
   pub each : (p : ℕ) (x : NodeWorld) (l : List (List ℕ)) → slice_get w.nodes p ≡ Some x → slice_get lists p ≡ Some l → MaySpell x l
 
--- whichever journals a power cut leaves of a coherent world, they are those of one run of the network, which leads to the states that they make
+-- whichever journals a power cut leaves of a coherent world whose nodes do what nodes do so far, they are those of one run of the network, which leads to the states that they make
 abbrev pub CoherentIsFaithful : (F : Type 0) → Type 0
-CoherentIsFaithful F = (e : Environment F) (w : World) (lists : List (List (List ℕ))) → Coherent e w → Choice w lists
+CoherentIsFaithful F = (e : Environment F) → IsNarrow e → (w : World) (lists : List (List (List ℕ))) → Coherent e w → Choice w lists
     → IsFaithful e (map (records_of e.frame_at) lists) × (network_of e (map (causes_of e.frame_at) lists) ≡ Some (map (state_of e.frame_at) lists))

@@ -11,7 +11,7 @@ mod serving;
 mod steps;
 
 pub use begin::BeginRefused;
-pub use laws::coherent_is_faithful;
+pub use laws::{coherent_is_faithful, drains_by_turns};
 pub use net::Net;
 pub use steps::{Outcome, Step};
 

@@ -5,7 +5,7 @@ ghost use Rattle.node_core.specs.Disks.{roomless};
 ghost use Rattle.network_core.specs.Worlds.{KeepsWorld};
 ghost use Rattle.network_core.specs.Answers.{AtPlace, StartServes, TurnServes, CutServes, BootServes, ClockServes, BootClock, said};
 ghost use Rattle.network_core.specs.Begins.{BeginsWorld, IsRefused, BootsUpTo, nodes_over as over_disks};
-ghost use Rattle.network_core.specs.Drains.{Drains, Drives, QuietAt, Turns, room, turned};
+ghost use Rattle.network_core.specs.Drains.{Drains, Drives, QuietAt, Round, RoundStops, StopsAt, Turns, TurnsAt, room, turned};
 ghost use Rattle.network_core.specs.Served.{Serve, Follows};
 ghost use Rattle.network_core.specs.declared.net.Turning.TheVariants as turning;
 
@@ -157,8 +157,9 @@ impl<D: Bay, F: FlowSet> Net<D, F> {
         true
     }
 
-    /// Makes turns until no flow at a node that is up can go on, and then answers false; or until a turn meets a full journal, and
-    /// then answers true.
+    /// Makes rounds of turns. A round makes turns at each node in the order of places, until no flow of it can go on, its disk failed, or
+    /// it is down. After the first round in which no flow went on no flow at a node that is up can go on, and the answer is false; a turn
+    /// that meets a full journal ends all, and the answer is true.
     ///
     /// # Errors
     ///
@@ -175,27 +176,28 @@ impl<D: Bay, F: FlowSet> Net<D, F> {
         }
     }
 
-    /// Makes turns at each node in order, until one meets a full journal.
+    /// Makes the turns at each node in the order of places, until one meets a full journal.
     fn round(&mut self, alloc: Global) -> Result<Turning, AllocError>
-        ensures drives { Drives F.machine F.reading self.old self.new (λ e w v. Turns e w result v) }
+        ensures drives { Drives F.machine F.reading self.old self.new (λ e w v. Turns result (Round e) (RoundStops e) w v) }
         ensures moved { IfOk result (λ t. t ≡ turning.Moved → room self.new < room self.old) }
         ensures quiet { IfOk result (λ t. t ≡ turning.Quiet → (p : ℕ) → QuietAt F.reading self.new p) }
     {
-        let mut moved = false;
+        let mut any_moved = false;
         let count = self.nodes.len();
         'places: for place in 0..count {
             match self.turns_at(alloc, place)? {
                 Turning::Quiet => {}
                 Turning::Full => return Ok(Turning::Full),
-                Turning::Moved => moved = true,
+                Turning::Moved => any_moved = true,
             }
         }
-        Ok(turning_of(moved))
+        Ok(turning_of(any_moved))
     }
 
-    /// Makes turns at one node, until no flow of it can go on, it went down, or a turn meets a full journal.
+    /// Makes turns at one node, until no flow of it can go on, its disk failed, or it is down; or until one meets a full journal.
     fn turns_at(&mut self, alloc: Global, place: usize) -> Result<Turning, AllocError>
-        ensures drives { Drives F.machine F.reading self.old self.new (λ e w v. Turns e w result v) }
+        requires { place < length self.old.nodes }
+        ensures drives { Drives F.machine F.reading self.old self.new (λ e w v. Turns result (TurnsAt e place) (StopsAt e place) w v) }
         ensures moved { IfOk result (λ t. t ≡ turning.Moved → room self.new < room self.old) }
         ensures quiet { IfOk result (λ t. t ≡ turning.Quiet → (p : ℕ) → (p ≡ place) ⊎ QuietAt F.reading self.old p → QuietAt F.reading self.new p) }
         ensures count { length self.new.nodes ≡ length self.old.nodes }

@@ -31,7 +31,7 @@ pub enum Step {
     Boot {
         node: u8,
     },
-    /// Turns at each node that is up, until no flow can go on.
+    /// Rounds of turns at the nodes that are up, in the order of places, until no flow can go on.
     Drain,
 }
 

@@ -1,4 +1,4 @@
-use super::{BeginRefused, Net, Outcome, Step, coherent_is_faithful};
+use super::{BeginRefused, Net, Outcome, Step, coherent_is_faithful, drains_by_turns};
 use disk_mem::MemDisk;
 use flow_machine::Counter;
 use net_base::{ByteList, Moment, Party};
@@ -7,12 +7,12 @@ use outside::Bay;
 use std::alloc::Global;
 use std::test::Fail;
 
-// What is asked of node 0, or of the network.
+// What is asked of node 0 where none is named, or of the network.
 #[derive(Clone, Copy, Debug, PartialEq, Eq)]
 enum Asked {
     Clock(u64),
     // A flow that counts sleeps so many times.
-    Count(u32),
+    Count { node: u8, sleeps: u32 },
     Turn { node: u8, pick: Option<u32> },
     Cut { calls: u64, outcome: u8 },
     Boot,
@@ -23,8 +23,8 @@ enum Asked {
 fn step_of(alloc: Global, asked: Asked) -> Result<Step, Fail> {
     Ok(match asked {
         Asked::Clock(to) => Step::Clock { to: Moment(to) },
-        Asked::Count(sleeps) => Step::Start {
-            node: 0,
+        Asked::Count { node, sleeps } => Step::Start {
+            node,
             class: 1,
             args: ByteList::from_vec(sleeps.to_be_bytes().to_vec(alloc)?),
         },
@@ -61,18 +61,21 @@ fn ask(
 
 type Begun = Result<Net<MemDisk, Counter>, BeginRefused<MemDisk>>;
 
-// A network of one node over this disk.
+// A network of one node over each disk.
 fn begin_over(alloc: Global, disks: Vec<MemDisk>) -> Result<Begun, Fail> {
-    if disks.len() != 1 {
+    let nodes = disks.len();
+    if nodes == 0 || nodes > 16 {
         return Err(Fail::new("another number of disks"));
     }
-    Ok(Net::begin(alloc, 1, Party(0), disks))
+    Ok(Net::begin(alloc, nodes as u8, Party(0), disks))
 }
 
-// A network of one node over a fresh disk.
-fn begin(alloc: Global) -> Result<Net<MemDisk, Counter>, Fail> {
-    let mut disks = Vec::with_capacity(alloc, 1)?;
-    disks.push(MemDisk::new(alloc))?;
+// A network over this number of fresh disks.
+fn begin(alloc: Global, nodes: usize) -> Result<Net<MemDisk, Counter>, Fail> {
+    let mut disks = Vec::with_capacity(alloc, nodes)?;
+    for _ in 0..nodes {
+        disks.push(MemDisk::new(alloc))?;
+    }
     match begin_over(alloc, disks)? {
         Ok(net) => Ok(net),
         Err(_) => Err(Fail::new("refused")),
@@ -84,6 +87,10 @@ const TURN: Asked = Asked::Turn {
     pick: None,
 };
 
+fn count(node: u8, sleeps: u32) -> Asked {
+    Asked::Count { node, sleeps }
+}
+
 fn cut(calls: u64, outcome: u8) -> Asked {
     Asked::Cut { calls, outcome }
 }
@@ -92,12 +99,13 @@ fn cut(calls: u64, outcome: u8) -> Asked {
 fn a_node_runs(rt: HostRuntime) -> Result<(), Fail> {
     let alloc = rt.alloc();
     coherent_is_faithful::<Counter>();
-    let mut net = begin(alloc)?;
+    drains_by_turns::<Counter>();
+    let mut net = begin(alloc, 1)?;
     assert_eq!(rt; net.nodes().len(), 1);
     let rows = [
         (Asked::Clock(5), Outcome::Fine),
         (Asked::Clock(4), Outcome::Refused { code: 10 }),
-        (Asked::Count(1), Outcome::Started { flow: 0 }),
+        (count(0, 1), Outcome::Started { flow: 0 }),
         (
             Asked::Turn {
                 node: 0,
@@ -123,14 +131,14 @@ fn a_node_runs(rt: HostRuntime) -> Result<(), Fail> {
 #[test]
 fn a_node_is_cut(rt: HostRuntime) -> Result<(), Fail> {
     let alloc = rt.alloc();
-    let mut net = begin(alloc)?;
+    let mut net = begin(alloc, 1)?;
     let rows = [
         // The power goes before the record stands, and after it.
         (cut(1, 0), Outcome::Armed),
-        (Asked::Count(2), Outcome::Fault),
-        (Asked::Count(2), Outcome::Refused { code: 3 }),
+        (count(0, 2), Outcome::Fault),
+        (count(0, 2), Outcome::Refused { code: 3 }),
         (Asked::Boot, Outcome::Booted),
-        (Asked::Count(2), Outcome::Started { flow: 0 }),
+        (count(0, 2), Outcome::Started { flow: 0 }),
         (cut(4, 1), Outcome::Armed),
         (TURN, Outcome::Fault),
         (Asked::Boot, Outcome::Booted),
@@ -144,10 +152,10 @@ fn a_node_is_cut(rt: HostRuntime) -> Result<(), Fail> {
 
 // The disk of a network whose node lost its power after a flow began at moment 5.
 fn cut_disk(alloc: Global) -> Result<Vec<MemDisk>, Fail> {
-    let mut net = begin(alloc)?;
+    let mut net = begin(alloc, 1)?;
     let rows = [
         (Asked::Clock(5), Outcome::Fine),
-        (Asked::Count(0), Outcome::Started { flow: 0 }),
+        (count(0, 0), Outcome::Started { flow: 0 }),
         (cut(0, 0), Outcome::Down),
     ];
     ask(alloc, &mut net, rows.as_slice())?;
@@ -179,7 +187,7 @@ fn a_network_begins_again_with_power(rt: HostRuntime) -> Result<(), Fail> {
 #[test]
 fn steps_are_answered_in_order(rt: HostRuntime) -> Result<(), Fail> {
     let alloc = rt.alloc();
-    let mut net = begin(alloc)?;
+    let mut net = begin(alloc, 1)?;
     let mut steps = Vec::with_capacity(alloc, 2)?;
     steps.push(Step::Drain)?;
     steps.push(Step::Boot { node: 0 })?;
@@ -192,4 +200,29 @@ fn steps_are_answered_in_order(rt: HostRuntime) -> Result<(), Fail> {
     ];
     assert_eq!(rt; outcomes.as_slice(), wanted.as_slice());
     Ok(())
+}
+
+#[test]
+fn a_drain_passes_over_a_node_that_is_down(rt: HostRuntime) -> Result<(), Fail> {
+    let alloc = rt.alloc();
+    let mut net = begin(alloc, 2)?;
+    let rows = [
+        (count(0, 2), Outcome::Started { flow: 0 }),
+        (count(1, 3), Outcome::Started { flow: 0 }),
+        (cut(0, 0), Outcome::Down),
+        (Asked::Drain, Outcome::Drained { full: false }),
+        (
+            Asked::Turn {
+                node: 1,
+                pick: None,
+            },
+            Outcome::Idle,
+        ),
+        // Node 0 begins again where it went down.
+        (Asked::Boot, Outcome::Booted),
+        (TURN, Outcome::Moved { flow: 0 }),
+        (Asked::Drain, Outcome::Drained { full: false }),
+        (TURN, Outcome::Idle),
+    ];
+    ask(alloc, &mut net, rows.as_slice())
 }

@@ -169,6 +169,7 @@ pub fn event_at<F>(number: u32, now: Moment, waiting: &Act<F>) -> Option<Event>
 }
 
 /// What becomes of a live flow once its act, which is enabled, is performed.
+#[tactic(auto, unfolding(net_model::specs::Environment::is_act_built))]
 pub fn perform<F: FlowSet>(
     alloc: Global,
     identity: &Identity,

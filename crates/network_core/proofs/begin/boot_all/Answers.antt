@@ -1,7 +1,6 @@
-use Rattle.std.proofs.Common.{◌≡◌, ◌+◌, ◌<◌, ◌≤◌, refl, arith, length, Some, sym, ◌∙◌}
-use Rattle.std.specs.List.{slice_get}
+use Rattle.std.proofs.Common.{◌<◌, refl, arith, length}
 use Rattle.std.proofs.lemmas.Option.{slice_get_read}
-use Rattle.network_core.proofs.Loops.{boots_none, boots_more, boots_stop, boots_whole}
+use Rattle.network_core.proofs.Loops.{boots_more, boots_stop}
 use Rattle.network_core.proofs.begin.boot_all.Goals as goal
 
 pub places-preserved : goal.places-preserved

@@ -1,4 +1,3 @@
-use Rattle.std.proofs.Common.{◌≡◌, ◌≤◌, length}
 use Rattle.network_core.specs.Begins.{BootsUpTo}
 use Rattle.network_core.proofs.begin.boot_all.Given as goal
 

@@ -1,4 +1,4 @@
-use Rattle.std.proofs.Common.{◌≡◌, ◌≤◌, length, vec_capacity}
+use Rattle.std.proofs.Common.{◌≤◌, length, vec_capacity}
 use Rattle.network_core.proofs.Loops.{Handing}
 use Rattle.network_core.proofs.begin.disks_of.Given as goal
 

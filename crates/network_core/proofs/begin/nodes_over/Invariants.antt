@@ -1,4 +1,4 @@
-use Rattle.std.proofs.Common.{◌≡◌, ◌≤◌, length, vec_capacity}
+use Rattle.std.proofs.Common.{◌≤◌, length, vec_capacity}
 use Rattle.network_core.proofs.Loops.{Making}
 use Rattle.network_core.proofs.begin.nodes_over.Given as goal
 

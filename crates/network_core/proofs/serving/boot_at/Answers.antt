@@ -1,4 +1,4 @@
-use Rattle.std.proofs.Common.{rules, ◌≡◌, inr, None, arith}
+use Rattle.std.proofs.Common.{◌≡◌, inr, None, arith}
 use Rattle.std.proofs.lemmas.Grind.{common_steps}
 use Rattle.network_core.proofs.serving.boot_at.Goals as goal
 

@@ -1,4 +1,4 @@
-use Rattle.std.proofs.Common.{◌≡◌, arith}
+use Rattle.std.proofs.Common.{arith}
 use Rattle.network_core.proofs.Places.{start_world, turn_world, cut_within, clock_world}
 use Rattle.network_core.proofs.Booting.{boot_world}
 use Rattle.network_core.proofs.Turning.{same_count, drained_world, short_world}

@@ -1,4 +1,4 @@
-use Rattle.std.proofs.Common.{◌≡◌, ◌+◌, refl, arith, ap, length, rules, sym, ◌∙◌, add-one, take, ℕ, suc, ◌++◌, ◌∷◌, [], length-append}
+use Rattle.std.proofs.Common.{◌≡◌, ◌+◌, refl, arith, ap, length, rules, add-one, take, ◌++◌, ◌∷◌, [], length-append}
 use Rattle.std.proofs.lemmas.Option.{slice_get_read}
 use Rattle.network_core.proofs.Linking.{links_none, links_more, links_end, links_all, split_there}
 use Rattle.network_core.proofs.net.Net.apply_all.Goals as goal

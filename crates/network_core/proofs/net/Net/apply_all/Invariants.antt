@@ -1,4 +1,4 @@
-use Rattle.std.proofs.Common.{◌≡◌, ◌≤◌, ◌+◌, ◌-◌, length, take, vec_capacity, vec_len}
+use Rattle.std.proofs.Common.{◌≡◌, ◌≤◌, length, take, vec_capacity, vec_len}
 use Rattle.network_core.specs.Worlds.{KeepsWorld}
 use Rattle.network_core.specs.Served.{Links}
 use Rattle.network_core.proofs.net.Net.apply_all.Given as goal

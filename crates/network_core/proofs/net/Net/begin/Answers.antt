@@ -1,6 +1,5 @@
-use Rattle.std.proofs.Common.{◌≡◌, ◌+◌, ◌<◌, ◌≤◌, refl, arith, ap, length, map, Some, sym, ◌∙◌, subst, List, ℕ}
+use Rattle.std.proofs.Common.{◌≡◌, refl, arith, ap, length, map, Some, ◌∙◌, subst, List, ℕ}
 use Rattle.std.specs.List.{slice_get}
-use Rattle.outside.specs.Disk.{DiskView}
 use Rattle.node_core.specs.Disks.{roomless}
 use Rattle.node_core.specs.Seen.{NodeSeen}
 use Rattle.network_core.specs.Begins.{nodes_over, BootsUpTo, BootStops}

@@ -1,5 +1,4 @@
-use Rattle.std.proofs.Common.{◌≡◌, ◌<◌, inr, refl, arith, ap, length, Some, rules, slice_set}
-use Rattle.std.specs.List.{slice_get}
+use Rattle.std.proofs.Common.{◌<◌, inr, refl, arith, length}
 use Rattle.std.proofs.lemmas.Option.{slice_get_read}
 use Rattle.network_core.proofs.Booting.{all_by, clock_boot}
 use Rattle.network_core.proofs.Places.{set_length}

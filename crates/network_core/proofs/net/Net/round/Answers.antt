@@ -1,52 +1,85 @@
-use Rattle.std.proofs.Common.{◌≡◌, ◌⊎◌, inl, inr, ⊎_elim, ◌+◌, ◌≤◌, ◌<◌, Some, None, true, false, refl, arith, ap, sym, ◌∙◌, ℕ, length}
+use Rattle.std.proofs.Common.{◌≡◌, ◌+◌, ◌≤◌, ◌<◌, Some, None, true, false, refl, arith, ap, sym, ◌∙◌, ℕ, length, Ok, Option}
 use Rattle.std.proofs.lemmas.Bool.{true≢false}
 use Rattle.network_core.specs.Worlds.{NetSeen}
-use Rattle.network_core.specs.declared.net.Turning.TheVariants as turning
+use Rattle.network_core.specs.declared.steps.Outcome.{Outcome}
 use Rattle.network_core.specs.declared.steps.Outcome.TheVariants as outcome
-use Rattle.network_core.specs.Drains.{Drives, Runs, RunsTo, Turns, QuietAt, room}
-use Rattle.network_core.proofs.Turning.{drives_none, drives_through, drives_ok, no_error, turns_err, turns_short, quiet_is_no_full, moved_is_no_full, turns_full, turns_runs, runs_after, runs_to_after, quiet_past, up_to}
+use Rattle.network_core.specs.Drains.{TurnsAt, StopsAt, InOrder, Round, RoundStops, Turns, QuietAt, room}
+use Rattle.network_core.proofs.Draining.{Counts, order_still, order_more, round_stops, round_of, turns_made, turns_short, turns_err, turns_full, turns_moved, turns_quiet}
+use Rattle.network_core.proofs.Turning.{drives_none, drives_map, drives_then, drives_counted, quiet_past, up_to}
 use Rattle.network_core.proofs.net.Net.round.Goals.{in-Quiet, in-Moved}
 use Rattle.std.specs.contracts.alloc.AllocError.{the_row}
 use Rattle.network_core.proofs.net.Net.round.Goals as goal
 
 pub places-init : goal.places-init
-places-init g c = record { drives = drives_none g.F.FlowSet.machine g.F.Spelt.reading _ _ refl; fell = λ e. cc; count = refl; quiet = λ e p lt. absurd (omega (arith, lt)) }
+places-init g c = record {
+  drives = drives_none g.F.FlowSet.machine g.F.Spelt.reading _ _ (λ e w v. InOrder (TurnsAt e) 0 0 w v) refl (λ e w. (refl, refl));
+  fell = λ e. cc;
+  count = refl;
+  within = omega arith;
+  quiet = λ e p lt. absurd (omega (arith, lt));
+}
+
+-- the place is one of the network
+pub turns_at-requires : goal.turns_at-requires
+turns_at-requires g c = omega (arith, c.places.invariant.count, ap (λ (z : NetSeen). length z.nodes) c.self.view_is, c.self.inside.nodes.ok.0, c.len-count.ensures, c.places-test.true)
 
 pub returns-in_err-turns_at-clause-drives : goal.returns-in_err-turns_at-clause-drives
 returns-in_err-turns_at-clause-drives g c =
-    drives_through g.F.FlowSet.machine g.F.Spelt.reading _ _ _ (λ e w v. Turns e w c.turns_at.result v) (λ e w v. Turns e w c.from_residual.result v) (λ e w u v a b. turns_short e w v c.from_residual.result c.from_residual.ensures.0 (runs_to_after e None w u v a (turns_err e u v c.turns_at.result _ c.in_err-turns_at.was b))) c.places.invariant.drives c.turns_at.ensures.drives
+    let p = c.places.place in
+    let before = c.places.invariant in
+    let lt : p < length c.places.self.nodes = omega (arith, c.places.invariant.count, ap (λ (z : NetSeen). length z.nodes) c.self.view_is, c.self.inside.nodes.ok.0, c.len-count.ensures, c.places-test.true) in
+    drives_then g.F.FlowSet.machine g.F.Spelt.reading _ _ _ (λ e w v. (length w.nodes ≡ length c.args.self.now.nodes) × Counts c.places.any_moved (InOrder (TurnsAt e) p) w v) (λ e w v. Turns c.turns_at.result (TurnsAt e p) (StopsAt e p) w v) (λ e w v. Turns c.from_residual.result (Round e) (RoundStops e) w v)
+    (λ e w u v a b. turns_short (Round e) (RoundStops e) w v c.from_residual.result c.from_residual.ensures.0 (round_stops e None p c.places.any_moved w u v (omega (arith, a.0, before.count, lt)) a.1 (turns_err (TurnsAt e p) (StopsAt e p) u v c.turns_at.result _ c.in_err-turns_at.was b)))
+    (drives_counted g.F.FlowSet.machine g.F.Spelt.reading _ _ (λ e w v. Counts c.places.any_moved (InOrder (TurnsAt e) p) w v) before.drives)
+    c.turns_at.ensures.drives
 
 pub returns-in-Full-clause-drives : goal.returns-in-Full-clause-drives
 returns-in-Full-clause-drives g c =
-    drives_through g.F.FlowSet.machine g.F.Spelt.reading _ _ _ (λ e w v. Turns e w c.turns_at.result v) (λ e w v. RunsTo e w (Some (outcome.Refused 9)) v) (λ e w u v a b. runs_to_after e (Some (outcome.Refused 9)) w u v a (turns_full e u v c.turns_at.result _ c.in_ok-turns_at.was c.in-Full.is b)) c.places.invariant.drives c.turns_at.ensures.drives
+    let p = c.places.place in
+    let before = c.places.invariant in
+    let lt : p < length c.places.self.nodes = omega (arith, c.places.invariant.count, ap (λ (z : NetSeen). length z.nodes) c.self.view_is, c.self.inside.nodes.ok.0, c.len-count.ensures, c.places-test.true) in
+    let full : Option Outcome = Some (outcome.Refused 9) in
+    drives_then g.F.FlowSet.machine g.F.Spelt.reading _ _ _ (λ e w v. (length w.nodes ≡ length c.args.self.now.nodes) × Counts c.places.any_moved (InOrder (TurnsAt e) p) w v) (λ e w v. Turns c.turns_at.result (TurnsAt e p) (StopsAt e p) w v) (λ e w v. RoundStops e full w v)
+    (λ e w u v a b. round_stops e full p c.places.any_moved w u v (omega (arith, a.0, before.count, lt)) a.1 (turns_full (TurnsAt e p) (StopsAt e p) u v c.turns_at.result _ c.in_ok-turns_at.was c.in-Full.is b))
+    (drives_counted g.F.FlowSet.machine g.F.Spelt.reading _ _ (λ e w v. Counts c.places.any_moved (InOrder (TurnsAt e) p) w v) before.drives)
+    c.turns_at.ensures.drives
 
 pub places-preserved : goal.places-preserved
 places-preserved g c =
     let before = c.places.invariant in
-    let other : c.in_ok-turns_at.field-0 ≡ turning.Full → ⊥ =
+    let p = c.places.place in
+    let lt : p < length c.places.self.nodes = omega (arith, c.places.invariant.count, ap (λ (z : NetSeen). length z.nodes) c.self.view_is, c.self.inside.nodes.ok.0, c.len-count.ensures, c.places-test.true) in
+    let fell : c.match-branch-2.any_moved ≡ true → room c.turns_at.new.self < room c.args.self.now =
     elim c.match-branch-2.branch [
-      | in-Quiet w ↦ quiet_is_no_full _ w.in-Quiet.is
-      | in-Moved w ↦ moved_is_no_full _ w.in-Moved.is
-    ] in
-    let fell : c.match-branch-2.moved ≡ true → room c.turns_at.new.self < room c.args.self.now =
-    elim c.match-branch-2.branch [
-      | in-Quiet w ↦ λ e. omega (arith, before.fell (sym w.moved-is ∙ e), c.turns_at.ensures.drives.left)
+      | in-Quiet w ↦ λ e. omega (arith, before.fell (sym w.any_moved-is ∙ e), c.turns_at.ensures.drives.left)
       | in-Moved w ↦ λ e. omega (arith, c.in_ok-turns_at.ensures.moved w.in-Moved.is, before.drives.left)
     ] in
-    let quiet : c.match-branch-2.moved ≡ false → (p : ℕ) → p < c.places.place + 1 → QuietAt g.F.Spelt.reading c.turns_at.new.self p =
+    let quiet : c.match-branch-2.any_moved ≡ false → (p : ℕ) → p < c.places.place + 1 → QuietAt g.F.Spelt.reading c.turns_at.new.self p =
     elim c.match-branch-2.branch [
-      | in-Quiet w ↦ λ e p lt. c.in_ok-turns_at.ensures.quiet w.in-Quiet.is p (up_to p c.places.place _ lt (before.quiet (sym w.moved-is ∙ e) p))
-      | in-Moved w ↦ λ e. absurd (true≢false (sym w.moved-is ∙ e))
+      | in-Quiet w ↦ λ e p lt. c.in_ok-turns_at.ensures.quiet w.in-Quiet.is p (up_to p c.places.place _ lt (before.quiet (sym w.any_moved-is ∙ e) p))
+      | in-Moved w ↦ λ e. absurd (true≢false (sym w.any_moved-is ∙ e))
     ] in
     record {
-      drives = drives_through g.F.FlowSet.machine g.F.Spelt.reading _ _ _ (λ e w v. Turns e w c.turns_at.result v) (λ e w v. Runs e w v) (λ e w u v a b. runs_after e w u v a (turns_runs e u v c.turns_at.result _ c.in_ok-turns_at.was other b)) before.drives c.turns_at.ensures.drives;
+      drives =
+          drives_then g.F.FlowSet.machine g.F.Spelt.reading _ _ _ (λ e w v. Counts c.places.any_moved (InOrder (TurnsAt e) p) w v) (λ e w v. Turns c.turns_at.result (TurnsAt e p) (StopsAt e p) w v) (λ e w v. Counts c.match-branch-2.any_moved (InOrder (TurnsAt e) (p + 1)) w v)
+          (λ e w u v a h. elim c.match-branch-2.branch [
+            | in-Quiet b ↦ order_still (TurnsAt e) p w u v c.places.any_moved c.match-branch-2.any_moved b.any_moved-is a (turns_quiet (TurnsAt e p) (StopsAt e p) u v c.turns_at.result _ c.in_ok-turns_at.was b.in-Quiet.is h)
+            | in-Moved b ↦ order_more (TurnsAt e) p w u v c.places.any_moved c.match-branch-2.any_moved b.any_moved-is a (turns_moved (TurnsAt e p) (StopsAt e p) u v c.turns_at.result _ c.in_ok-turns_at.was b.in-Moved.is h)
+          ])
+          before.drives c.turns_at.ensures.drives;
+      within = omega (arith, lt, before.count);
       fell = fell;
       count = c.turns_at.ensures.count ∙ before.count;
       quiet = quiet;
     }
 
 pub returns-clause-drives : goal.returns-clause-drives
-returns-clause-drives g c = drives_ok g.F.FlowSet.machine g.F.Spelt.reading (no_error the_row.Denot) _ _ c.turning_of.result c.turning_of.ensures.more c.places.invariant.drives
+returns-clause-drives g c =
+    let p = c.places.place in
+    let all : length c.args.self.now.nodes ≡ p = omega (arith, ap (λ (z : NetSeen). length z.nodes) c.self.view_is, c.self.inside.nodes.ok.0, c.len-count.ensures, c.places-test.false, c.places.invariant.within) in
+    drives_map g.F.FlowSet.machine g.F.Spelt.reading _ _ (λ e w v. (length w.nodes ≡ length c.args.self.now.nodes) × Counts c.places.any_moved (InOrder (TurnsAt e) p) w v) (λ e w v. Turns {E = the_row.Denot} (Ok c.turning_of.result) (Round e) (RoundStops e) w v)
+    (λ e w v a. turns_made the_row.Denot (Round e) (RoundStops e) w v c.places.any_moved c.turning_of.result c.turning_of.ensures.more c.turning_of.ensures.moved c.turning_of.ensures.quiet (round_of e p c.places.any_moved w v (a.0 ∙ all) a.1))
+    (drives_counted g.F.FlowSet.machine g.F.Spelt.reading _ _ (λ e w v. Counts c.places.any_moved (InOrder (TurnsAt e) p) w v) c.places.invariant.drives)
 
 pub returns-clause-quiet : goal.returns-clause-quiet
 returns-clause-quiet g c is p =

@@ -1,17 +1,28 @@
-use Rattle.std.proofs.Common.{◌≡◌, ◌+◌, ◌≤◌, ◌<◌, None, Some, Ok, true, refl, arith, ap, sym, subst, ◌∙◌}
+use Rattle.std.proofs.Common.{◌<◌, None, Some, Ok, true, refl, arith, ap, sym, ◌∙◌, length, Option}
+use Rattle.network_core.specs.declared.steps.Outcome.{Outcome}
 use Rattle.network_core.specs.declared.steps.Outcome.TheVariants as outcome
 use Rattle.network_core.specs.Answers.{said}
-use Rattle.network_core.specs.Drains.{Drives, Runs, RunsTo, Turns, room, takes}
-use Rattle.network_core.proofs.Turning.{drives_none, drives_more, drives_last, drives_map, drives_ok, narrows, narrows_moved, turns_short, quiet_turn, not_full, not_moved, was_full, was_moved, count_turn, quiet_is_no_full, moved_is_no_full}
+use Rattle.network_core.specs.Drains.{TurnAt, Moves, TurnsAt, StopsAt, Turns}
+use Rattle.network_core.proofs.Draining.{Counts, moves_more, stops_at, ends_at, turns_made, turns_short}
+use Rattle.network_core.proofs.Turning.{drives_none, drives_turn, drives_then, narrows, narrows_moved, quiet_turn, not_full, not_moved, was_full, was_moved, count_turn, quiet_is_no_full}
+use Rattle.std.specs.contracts.alloc.AllocError.{the_row}
 use Rattle.network_core.proofs.net.Net.turns_at.Goals as goal
 
 pub turns-init : goal.turns-init
-turns-init g c = record { drives = drives_none g.F.FlowSet.machine g.F.Spelt.reading _ _ refl; fell = λ e. cc; still = λ e. refl; count = refl }
+turns-init g c = record {
+  drives = drives_none g.F.FlowSet.machine g.F.Spelt.reading _ _ (λ e w v. Moves e c.args.place 0 w v) refl (λ e w. refl);
+  fell = λ e. cc;
+  still = λ e. refl;
+  count = refl;
+}
 
 pub returns-in_err-outcome-clause-drives : goal.returns-in_err-outcome-clause-drives
 returns-in_err-outcome-clause-drives g c =
-    drives_map g.F.FlowSet.machine g.F.Spelt.reading _ _ (λ e w v. RunsTo e w None v) (λ e w v. Turns e w c.from_residual.result v) (λ e w v h. turns_short e w v c.from_residual.result c.from_residual.ensures.0 h)
-    (drives_last g.F.FlowSet.machine g.F.Spelt.reading c.args.place _ c.turns.self c.turn.new.self c.turn.result None c.turns.invariant.drives c.turn.ensures.clock c.turn.ensures.serves (ap said c.in_err-outcome.was))
+    let p = c.args.place in
+    drives_then g.F.FlowSet.machine g.F.Spelt.reading _ _ _ (λ e w v. Counts c.turns.moved (Moves e p) w v) (λ e w v. (p < length w.nodes) × TurnAt e p w None v) (λ e w v. Turns c.from_residual.result (TurnsAt e p) (StopsAt e p) w v)
+    (λ e w u v a b. turns_short (TurnsAt e p) (StopsAt e p) w v c.from_residual.result c.from_residual.ensures.0 (stops_at e p c.turns.moved None w u v a b.1))
+    c.turns.invariant.drives
+    (drives_turn g.F.FlowSet.machine g.F.Spelt.reading p c.turns.self c.turn.new.self c.turn.result None (omega (arith, c.requires, c.turns.invariant.count)) c.turn.ensures.clock c.turn.ensures.serves (ap said c.in_err-outcome.was))
 
 pub turns-smaller : goal.turns-smaller
 turns-smaller g c =
@@ -20,23 +31,40 @@ turns-smaller g c =
 
 pub turns-preserved : goal.turns-preserved
 turns-preserved g c =
-    let moved = was_moved c.in_ok-outcome.outcome (sym c.turned.ensures ∙ c.in-Moved.is) in
-    let less = narrows_moved g.F.FlowSet.machine g.F.Spelt.reading c.turns.self.now c.args.place None c.turns.self c.turn.new.self c.turn.result _ _ c.turn.ensures.serves c.in_ok-outcome.was moved.1 in
+    let p = c.args.place in
+    let o = c.in_ok-outcome.outcome in
+    let moved = was_moved o (sym c.turned.ensures ∙ c.in-Moved.is) in
+    let less = narrows_moved g.F.FlowSet.machine g.F.Spelt.reading c.turns.self.now p None c.turns.self c.turn.new.self c.turn.result _ _ c.turn.ensures.serves c.in_ok-outcome.was moved.1 in
     record {
-      drives = drives_more g.F.FlowSet.machine g.F.Spelt.reading c.args.place _ c.turns.self c.turn.new.self c.turn.result _ c.turns.invariant.drives c.turn.ensures.clock c.turn.ensures.serves c.in_ok-outcome.was (not_full _ _ c.turned.ensures (moved_is_no_full _ c.in-Moved.is));
+      drives =
+          drives_then g.F.FlowSet.machine g.F.Spelt.reading _ _ _ (λ e w v. Counts c.turns.moved (Moves e p) w v) (λ e w v. (p < length w.nodes) × TurnAt e p w (Some o) v) (λ e w v. Counts true (Moves e p) w v)
+          (λ e w u v a b. moves_more e p c.turns.moved w u v o moved.0 a b.1 moved.1)
+          c.turns.invariant.drives
+          (drives_turn g.F.FlowSet.machine g.F.Spelt.reading p c.turns.self c.turn.new.self c.turn.result (Some o) (omega (arith, c.requires, c.turns.invariant.count)) c.turn.ensures.clock c.turn.ensures.serves (ap said c.in_ok-outcome.was));
       fell = λ e. omega (arith, c.turns.invariant.drives.left, less);
       still = λ e. cc;
-      count = count_turn g.F.FlowSet.machine g.F.Spelt.reading c.turns.self.now None c.args.place c.turns.self c.turn.new.self c.turn.result c.turn.ensures.serves ∙ c.turns.invariant.count;
+      count = count_turn g.F.FlowSet.machine g.F.Spelt.reading c.turns.self.now None p c.turns.self c.turn.new.self c.turn.result c.turn.ensures.serves ∙ c.turns.invariant.count;
     }
 
 pub returns-in-Full-clause-drives : goal.returns-in-Full-clause-drives
 returns-in-Full-clause-drives g c =
-    drives_last g.F.FlowSet.machine g.F.Spelt.reading c.args.place _ c.turns.self c.turn.new.self c.turn.result (Some (outcome.Refused 9)) c.turns.invariant.drives c.turn.ensures.clock c.turn.ensures.serves (ap said c.in_ok-outcome.was ∙ ap Some (was_full c.in_ok-outcome.outcome (sym c.turned.ensures ∙ c.in-Full.is)))
+    let p = c.args.place in
+    let full : Option Outcome = Some (outcome.Refused 9) in
+    drives_then g.F.FlowSet.machine g.F.Spelt.reading _ _ _ (λ e w v. Counts c.turns.moved (Moves e p) w v) (λ e w v. (p < length w.nodes) × TurnAt e p w full v) (λ e w v. StopsAt e p full w v)
+    (λ e w u v a b. stops_at e p c.turns.moved full w u v a b.1)
+    c.turns.invariant.drives
+    (drives_turn g.F.FlowSet.machine g.F.Spelt.reading p c.turns.self c.turn.new.self c.turn.result full (omega (arith, c.requires, c.turns.invariant.count)) c.turn.ensures.clock c.turn.ensures.serves (ap said c.in_ok-outcome.was ∙ ap Some (was_full c.in_ok-outcome.outcome (sym c.turned.ensures ∙ c.in-Full.is))))
 
 pub returns-in-Quiet-clause-drives : goal.returns-in-Quiet-clause-drives
 returns-in-Quiet-clause-drives g c =
-    drives_ok g.F.FlowSet.machine g.F.Spelt.reading c.turn.result _ _ c.turning_of.result c.turning_of.ensures.more
-    (drives_more g.F.FlowSet.machine g.F.Spelt.reading c.args.place _ c.turns.self c.turn.new.self c.turn.result _ c.turns.invariant.drives c.turn.ensures.clock c.turn.ensures.serves c.in_ok-outcome.was (not_full _ _ c.turned.ensures (quiet_is_no_full _ c.in-Quiet.is)))
+    let p = c.args.place in
+    let o = c.in_ok-outcome.outcome in
+    let unmoved = not_moved o (sym c.turned.ensures ∙ c.in-Quiet.is) in
+    let unfull = not_full o _ c.turned.ensures (quiet_is_no_full _ c.in-Quiet.is) in
+    drives_then g.F.FlowSet.machine g.F.Spelt.reading _ _ _ (λ e w v. Counts c.turns.moved (Moves e p) w v) (λ e w v. (p < length w.nodes) × TurnAt e p w (Some o) v) (λ e w v. Turns {E = the_row.Denot} (Ok c.turning_of.result) (TurnsAt e p) (StopsAt e p) w v)
+    (λ e w u v a b. turns_made the_row.Denot (TurnsAt e p) (StopsAt e p) w v c.turns.moved c.turning_of.result c.turning_of.ensures.more c.turning_of.ensures.moved c.turning_of.ensures.quiet (ends_at e p c.turns.moved o w u v b.0 unmoved unfull a b.1))
+    c.turns.invariant.drives
+    (drives_turn g.F.FlowSet.machine g.F.Spelt.reading p c.turns.self c.turn.new.self c.turn.result (Some o) (omega (arith, c.requires, c.turns.invariant.count)) c.turn.ensures.clock c.turn.ensures.serves (ap said c.in_ok-outcome.was))
 
 pub returns-in-Quiet-clause-moved : goal.returns-in-Quiet-clause-moved
 returns-in-Quiet-clause-moved g c is =

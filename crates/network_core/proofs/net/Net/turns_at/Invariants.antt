@@ -1,9 +1,15 @@
-use Rattle.std.proofs.Common.{◌≡◌, ◌≤◌, ◌<◌, length, true, false}
-use Rattle.network_core.specs.Drains.{Drives, Runs, room}
+use Rattle.std.proofs.Common.{◌≡◌, ◌<◌, length, true, false}
+use Rattle.network_core.specs.Drains.{Drives, Moves, room}
+use Rattle.network_core.proofs.Draining.{Counts}
 use Rattle.network_core.proofs.net.Net.turns_at.Given as goal
 
 abbrev pub invariant-turns : goal.invariant-turns
-invariant-turns g l = record { drives : Drives g.F.FlowSet.machine g.F.Spelt.reading l.fn.self l.self (λ e w v. Runs e w v); fell : l.moved ≡ true → room l.self < room l.fn.self; still : l.moved ≡ false → l.self ≡ l.fn.self; count : length l.self.nodes ≡ length l.fn.self.nodes }
+invariant-turns g l = record {
+  drives : Drives g.F.FlowSet.machine g.F.Spelt.reading l.fn.self l.self (λ e w v. Counts l.moved (Moves e l.fn.place) w v);
+  fell : l.moved ≡ true → room l.self < room l.fn.self;
+  still : l.moved ≡ false → l.self ≡ l.fn.self;
+  count : length l.self.nodes ≡ length l.fn.self.nodes;
+}
 
 abbrev pub decreases-turns : goal.decreases-turns
 decreases-turns g l = room l.self
