@@ -11,5 +11,5 @@ mod words;
 
 pub use commands::{Command, command_of};
 pub use lines::{has_no_answer, is_readable, without_cr};
-pub use program::is_one_node;
+pub use program::{NetworkWords, network_of_words};
 pub use words::{has_mark, is_blank, is_plain, words_of};

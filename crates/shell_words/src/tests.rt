@@ -1,4 +1,6 @@
-use super::{Command, command_of, has_mark, has_no_answer, is_one_node, is_readable, words_of};
+use super::{
+    Command, command_of, has_mark, has_no_answer, is_readable, network_of_words, words_of,
+};
 use std::test::Fail;
 
 #[test]
@@ -56,7 +58,7 @@ fn the_words_of_each_command(rt: HostRuntime) -> Result<(), Fail> {
 }
 
 #[test]
-fn marks_and_the_words_of_the_program(rt: HostRuntime) -> Result<(), Fail> {
+fn marks(rt: HostRuntime) -> Result<(), Fail> {
     let alloc = rt.alloc();
     let rows = [
         ("a #0", true),
@@ -68,7 +70,37 @@ fn marks_and_the_words_of_the_program(rt: HostRuntime) -> Result<(), Fail> {
         let words = words_of(alloc, line.as_bytes())?;
         assert_eq!(rt; has_mark(words.as_slice()), marked, "{line}");
     }
-    let words = words_of(alloc, b"--nodes 1")?;
-    assert!(rt; is_one_node(words.as_slice()));
+    Ok(())
+}
+
+#[test]
+fn the_words_of_the_program(rt: HostRuntime) -> Result<(), Fail> {
+    let alloc = rt.alloc();
+    let rows = [
+        ("", Some((2, 0))),
+        ("--nodes 1", Some((1, 0))),
+        ("--nodes 16 --notary 15", Some((16, 15))),
+        ("--notary 1", Some((2, 1))),
+        ("--notary 2", None),
+        ("--notary 3 --nodes 4", Some((4, 3))),
+        ("--nodes 4 --notary 4", None),
+        ("--nodes 0", None),
+        ("--nodes 17", None),
+        ("--nodes 17 --notary 16", None),
+        ("--nodes 01", None),
+        ("--nodes +1", None),
+        ("--nodes", None),
+        ("--nodes=3", None),
+        ("--nodes 3 --nodes 3", None),
+        ("--nodes 3 --notary", None),
+        ("--nodes 3 --notary 0 more", None),
+        ("--help", None),
+    ];
+    for (line, wanted) in rows {
+        assert!(rt; is_readable(line.as_bytes()));
+        let words = words_of(alloc, line.as_bytes())?;
+        let network = network_of_words(words.as_slice()).map(|n| (n.nodes, n.notary));
+        assert_eq!(rt; network, wanted, "{line}");
+    }
     Ok(())
 }
