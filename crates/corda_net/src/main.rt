@@ -1,4 +1,4 @@
-//! Runs a script of commands over a network of one node: `corda_net --nodes 1 < SCRIPT`.
+//! Runs a script of commands over a network of 1 to 16 nodes: `corda_net [--nodes N] [--notary N] < SCRIPT`.
 //!
 //! The script comes from standard input, and the answers go to standard output.
 #![tactic(auto)]

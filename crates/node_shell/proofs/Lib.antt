@@ -2,5 +2,8 @@ pub mod Stories
 pub mod Going
 pub mod Shown
 pub mod Asked
+pub mod Weaving
+pub mod Readying
+pub mod Running
 pub mod Resting
 pub mod Opening

@@ -1,15 +1,17 @@
--- A whole run: the node opens and its script is played, or it does not open.
-use Rattle.std.proofs.Common.{◌≡◌, ◌⊎◌, inl, inr, ⊎_elim, ℕ, zero, suc, List, [], ◌∷◌, ◌++◌, length, map, Option, Some, refl, sym, ◌∙◌, ap, subst, arith, append_assoc}
-use Rattle.std.specs.Prelude.{codes, decimal, take, drop, slice_index_or, true, None, ◌<◌, ◌≤◌}
+-- A whole run: the nodes open and the script is played, or one does not open.
+use Rattle.std.proofs.Common.{◌≡◌, ◌⊎◌, inl, inr, ⊎_elim, ℕ, zero, suc, ◌*◌, List, [], ◌∷◌, ◌++◌, length, map, Option, Some, refl, sym, ◌∙◌, ap, subst, arith, append_assoc}
+use Rattle.std.specs.Prelude.{codes, decimal, take, drop, slice_set, true, None, ◌<◌, ◌≤◌}
 use Rattle.std.specs.List.{slice_get}
+use Rattle.std.proofs.lemmas.Option.{slice_get_within}
 use Rattle.outside.specs.Disk.{DiskView}
 use Rattle.outside.specs.Faults.{Rose}
 use Rattle.disk_journal.specs.Journal.{journal_of, placed, refusal}
 use Rattle.disk_journal.specs.declared.fault.OpenFault.{OpenFault}
 use Rattle.disk_journal.specs.declared.fault.OpenFault.TheVariants as open_fault
 use Rattle.net_base.specs.declared.names.Identity.{Identity}
+use Rattle.net_base.specs.declared.values.Party.{Party}
 use Rattle.flow_machine.specs.Machine.{Machine}
-use Rattle.net_model.specs.Environment.{environment, party}
+use Rattle.net_model.specs.Environment.{Environment, environment}
 use Rattle.node_core.specs.Journals.{Reads}
 use Rattle.node_core.specs.Disks.{roomless}
 use Rattle.node_core.specs.Fits.{misfit}
@@ -17,19 +19,19 @@ use Rattle.node_core.specs.Seen.{NodeSeen, BootsAs, boot_of, Refuses as SeenRefu
 use Rattle.node_core.specs.declared.faults.BootFault.{BootFault}
 use Rattle.node_core.specs.declared.faults.BootFault.TheVariants as boot
 use Rattle.network_core.specs.Worlds.{World, NetSeen, Shows, Coherent}
-use Rattle.network_core.specs.Begins.{member, node_over, no_boot, Begun, BeginsWorld, IsRefused, BootsUpTo}
+use Rattle.network_core.specs.Begins.{member, node_over, nodes_over, no_boot, Begun, BeginsWorld, IsRefused, BootsUpTo}
+use Rattle.network_core.proofs.Beginning.{over_length}
+use Rattle.network_core.proofs.Faithful.{get_beside}
 use Rattle.node_shell.specs.declared.statuses.Status.{Status}
 use Rattle.node_shell.specs.declared.statuses.Status.TheVariants as status
 use Rattle.node_shell.specs.Story.{ScriptRun, IsScriptStatus, InSome}
-use Rattle.node_shell.specs.Runs.{alone, over, with_faults, number_of_status, Plays, Refuses, RunsAs, journal_line, PlaysOrRefuses, RefusedWith, IsOpeningStatus, Fails, OneFails, HasCause, MisfitsAt, IsUnready, IsToldWhy, KeepsOwn, IsPlayedStatus, IsPlayedNumber}
-use Rattle.node_shell.proofs.Resting.{stands, rests, faulty_shows, faulty_coherent, same_faults, refused_rests, faults_again, down_fewer, same_fewer, from_faulty, same_journals, journals_from}
+use Rattle.node_shell.specs.Pairs.{first_disks}
+use Rattle.node_shell.specs.Runs.{over, number_of_status, Plays, Refuses, RunsAs, journal_line, PlaysOrRefuses, RefusedWith, IsOpeningStatus, Fails, OneFails, HasCause, MisfitsAt, IsUnready, IsToldWhy, KeepsOwn, KeepOwn, IsPlayedStatus, IsPlayedNumber, StaysBut, AllStay, IsRunStatus, MadeReady}
+use Rattle.node_shell.proofs.Readying.{fails_since}
+use Rattle.node_shell.proofs.Resting.{over_at, counted, made_same, made_then, made_fewer, same_fewer, made_journals, same_journals, stands, rests, made_coherent, made_counted, counted_shows, refused_rests, down_fewer}
 
 no_memory : status.DiskFault ≡ status.NoMemory → ⊥
 no_memory same = cc
-
-only_first : {X : Type 0} (n : ℕ) (d x : X) → slice_get (d ∷ []) n ≡ Some x → n ≡ 0
-only_first zero d x at = refl
-only_first (suc n) d x at = cc
 
 pub some_same : {X : Type 0} (a b : X) → Some a ≡ Some b → a ≡ b
 some_same a b same = cc
@@ -57,22 +59,24 @@ boot_cause : {F : Type 0} (f : Reads F) (id : Identity) (why : BootFault) (d b :
 boot_cause f id why d b u =
     ⊎_elim (λ (o : Unopened id (roomless d) why (roomless b)). subst (λ y. HasCause f id d y b) (sym o.1) (refuses_cause f id o.0 d b o.2)) (unfit_cause f id why d b) u.cause
 
--- a count that rose since it was raised rose
-rose_since : (a b c : ℕ) → a ≤ b → Rose b c → Rose a c
-rose_since a b c first then = omega (arith, first, then)
-
-pub fails_since : (d k b : DiskView) → k ≡ record d { faults = k.faults } → d.faults ≤ k.faults → Fails k b → Fails d b
-fails_since d k b same later f = record { rose = rose_since d.faults k.faults b.faults later f.rose; uneasy = λ calm. f.uneasy (ap (λ (x : DiskView). x.calm) same ∙ calm) }
-
 -- a making ready before changes nothing of what is kept
 pub own_since : {F : Type 0} (f : Reads F) (id : Identity) (d k : DiskView) → k ≡ record d { faults = k.faults } → KeepsOwn f id k → KeepsOwn f id d
 own_since f id d k same own = λ tells.
     subst (λ (x : DiskView). (refusal id x.state.kept ≡ None) × (misfit f (placed 16 (journal_of x.state.kept)) ≡ None)) same (own (ap (λ (x : DiskView). x.tells) same ∙ tells))
 
--- a node that came up over a disk opened its own journal
-pub boots_own : {F : Type 0} (f : Reads F) (d : DiskView) (now : ℕ) (new : List NodeSeen) → BootsUpTo f 1 now (node_over 1 (party 0) 0 d ∷ []) new → KeepsOwn f (member 1 (party 0) 0) d
-boots_own f d now [] r = absurd (omega (arith, r.count))
-boots_own f d now (k ∷ ks) r = let b = r.done 0 (node_over 1 (party 0) 0 d) k (omega arith) refl refl in λ tells. (b.3.opens.format tells, subst (λ l. misfit f l ≡ None) (b.3.opens.told tells) b.3.fits)
+-- nodes that came up over disks opened their own journals
+pub boots_own : {F : Type 0} (f : Reads F) (nodes : ℕ) (notary : Party) (ds : List DiskView) (now : ℕ) (new : List NodeSeen) → length ds ≡ nodes → BootsUpTo f nodes now (nodes_over nodes notary 0 ds) new → KeepOwn f nodes notary ds
+boots_own f nodes notary ds now new count r p d at =
+    let n = over_at nodes notary ds p d at in
+    let k = get_beside (nodes_over nodes notary 0 ds) new p (node_over nodes notary p d) (sym r.count) n in
+    let within = slice_get_within ds p d at in
+    let b = r.done p (node_over nodes notary p d) k.0 (omega (arith, within, count)) n k.1 in
+    λ tells. (b.3.opens.format tells, subst (λ l. misfit f l ≡ None) (b.3.opens.told tells) b.3.fits)
+
+pub all_own_since : {F : Type 0} (f : Reads F) (nodes : ℕ) (notary : Party) (ds ks : List DiskView) → AllStay ds ks → KeepOwn f nodes notary ks → KeepOwn f nodes notary ds
+all_own_since f nodes notary ds ks stay own p d at =
+    let k = get_beside ds ks p d (sym stay.count) at in
+    own_since f (member nodes notary p) d k.0 (stay.each p d k.0 at k.1).0 (own p k.0 k.1)
 
 -- a refused opening whose disk failed is told so
 status_of_fault : (node : ℕ) (why : BootFault) (written0 written1 : Option (List ℕ)) (s : Status) → why ≡ boot.Fault → RefusedWith node why written0 written1 s → s ≡ status.DiskFault
@@ -109,16 +113,15 @@ is_bad_journal status.WriteFault is = cc
 is_bad_journal status.DiskFault is = cc
 is_bad_journal status.NoMemory is = cc
 
-pub one_fails_again : {X : Type 0} (f : X → DiskView) (a b c d : List X) → a ≡ b → c ≡ d → OneFails (map f a) (map f c) → OneFails (map f b) (map f d)
-one_fails_again f a b c d one two fails = subst (λ l. OneFails (map f l) (map f d)) one (subst (λ l. OneFails (map f a) (map f l)) two fails)
-
--- a list of 32 has a first
-pub has_first : {X : Type 0} (l : List X) → length l ≡ 32 → (x : X) × (slice_get l 0 ≡ Some x)
-has_first [] count = absurd (omega (arith, count))
-has_first (x ∷ xs) count = (x, refl)
-
-pub first_fails : (old new : List DiskView) (d k b : DiskView) → slice_get old 0 ≡ Some d → slice_get new 0 ≡ Some b → k ≡ record d { faults = k.faults } → d.faults ≤ k.faults → Fails k b → OneFails old new
-first_fails old new d k b at now same later f = record { place = 0; own = omega arith; before = d; after = b; at = at; now = now; fails = fails_since d k b same later f }
+pub is_refused_words : (s : Status) → IsRunStatus s → number_of_status s ≡ 2 → ⊥
+is_refused_words status.Finished is two = cc
+is_refused_words status.BadWords is two = is
+is_refused_words status.TooLong is two = cc
+is_refused_words status.ReadFault is two = cc
+is_refused_words status.WriteFault is two = cc
+is_refused_words status.DiskFault is two = cc
+is_refused_words status.NoMemory is two = cc
+is_refused_words status.BadJournal is two = cc
 
 -- a making ready before changes no cause
 cause_since : {F : Type 0} (f : Reads F) (id : Identity) (why : BootFault) (d k b : DiskView) → k ≡ record d { faults = k.faults } → d.faults ≤ k.faults → HasCause f id k why b → HasCause f id d why b
@@ -129,10 +132,22 @@ cause_since f id (boot.WrongNode found) d k b same later h = λ tells. subst (λ
 cause_since f id (boot.Damaged at) d k b same later h =
     λ tells. subst (λ (x : DiskView). (refusal id x.state.kept ≡ Some (open_fault.Damaged at)) ⊎ MisfitsAt f id x.state.kept at) same (h (ap (λ (x : DiskView). x.tells) same ∙ tells))
 
-pub told_since : {F : Type 0} (f : Reads F) (d k b e : DiskView) (written0 written1 : Option (List ℕ)) (s : Status) → b ≡ e → k ≡ record d { faults = k.faults } → d.faults ≤ k.faults
-    → IsToldWhy f k b written0 written1 s → IsToldWhy f d e written0 written1 s
-told_since f d k b e written0 written1 s there same later t =
-    subst (λ x. IsToldWhy f d x written0 written1 s) there (record { why = t.why; cause = cause_since f (member 1 (party 0) 0) t.why d k b same later t.cause; told = t.told })
+told_since : {F : Type 0} (f : Reads F) (nodes : ℕ) (notary : Party) (ds ks bs : List DiskView) (written0 written1 : Option (List ℕ)) (s : Status) → AllStay ds ks
+    → IsToldWhy f nodes notary ks bs written0 written1 s → IsToldWhy f nodes notary ds bs written0 written1 s
+told_since f nodes notary ds ks bs written0 written1 s stay t = record {
+  node = t.node;
+  within = t.within;
+  why = t.why;
+  cause = λ d b at there.
+      let k = get_beside ds ks t.node d (sym stay.count) at in
+      let stays = stay.each t.node d k.0 at k.1 in
+      cause_since f (member nodes notary t.node) t.why d k.0 b stays.0 stays.1 (t.cause k.0 b k.1 there);
+  told = t.told;
+}
+
+pub told_at : {F : Type 0} (f : Reads F) (nodes : ℕ) (notary : Party) (ds ks bs es : List DiskView) (written0 written1 : Option (List ℕ)) (s : Status) → es ≡ bs → AllStay ds ks
+    → IsToldWhy f nodes notary ks bs written0 written1 s → IsToldWhy f nodes notary ds es written0 written1 s
+told_at f nodes notary ds ks bs es written0 written1 s there stay t = subst (λ x. IsToldWhy f nodes notary ds x written0 written1 s) (sym there) (told_since f nodes notary ds ks bs written0 written1 s stay t)
 
 -- a status that says that the disk failed tells of a fault
 told_of_fault : {F : Type 0} (f : Reads F) (id : Identity) (why : BootFault) (d b : DiskView) (node : ℕ) (written0 written1 : Option (List ℕ)) → HasCause f id d why b
@@ -154,128 +169,138 @@ opening_why status.ReadFault written0 written1 is same = absurd is
 opening_why status.WriteFault written0 written1 is same = absurd is
 opening_why status.BadJournal written0 written1 is same = absurd is
 
-module _ {F : Type 0} (m : Machine F) (f : Reads F) where
-  pub played : (d b : DiskView) (w : World) (begun ended : NetSeen) (left0 left1 written0 written1 : Option (List ℕ)) (count : ℕ) (s : Status)
-      → IsScriptStatus s → KeepsOwn f (member 1 (party 0) 0) d → BeginsWorld m f 1 (party 0) (d ∷ []) begun
+module _ {F : Type 0} (m : Machine F) (f : Reads F) (nodes : ℕ) (notary : Party) where
+  abbrev e : Environment F
+  e = environment m f (member nodes notary 0)
+
+  pub played : (ds bs : List DiskView) (w : World) (begun ended : NetSeen) (left0 left1 written0 written1 : Option (List ℕ)) (count : ℕ) (s : Status)
+      → IsScriptStatus s → KeepOwn f nodes notary ds → BeginsWorld m f nodes notary ds begun
       → ((id : Identity) (start : World) → Shows (environment m f id) begun start → Coherent (environment m f id) start → InSome (environment m f id) ended (λ v. ScriptRun (environment m f id) start left0 left1 written0 written1 count v s))
-      → map (λ (n : NodeSeen). n.disk) ended.nodes ≡ roomless b ∷ []
-      → Shows (alone m f) (over w.now d) w → Coherent (alone m f) w → PlaysOrRefuses (alone m f) w d b left0 left1 written0 written1 count s
-  played d b w begun ended left0 left1 written0 written1 count s script own begins ran disks shows coherent =
+      → map (λ (n : NodeSeen). n.disk) ended.nodes ≡ map roomless bs
+      → Shows e (over e w.now ds) w → Coherent e w → PlaysOrRefuses e w ds bs left0 left1 written0 written1 count s
+  played ds bs w begun ended left0 left1 written0 written1 count s script own begins ran disks shows coherent =
       let start = begins w.now w shows coherent in
-      let end = ran (member 1 (party 0) 0) start.0 start.1 start.2 in
+      let end = ran (member nodes notary 0) start.0 start.1 start.2 in
       inl (record {
         is_script = script;
         own = own;
-        faults = d.faults;
-        later = omega arith;
+        ready = w;
+        made = made_same w;
         start = start.0;
-        begins = subst (λ x. Begun (alone m f) x start.0) (sym (same_faults m f w d shows)) start.3;
+        begins = start.3;
         last = end.world;
         script = end.holds;
-        rests = rests m f ended end.world b end.shows end.coherent disks;
+        rests = rests m f nodes notary ended end.world bs end.shows end.coherent disks;
       })
 
-  refused_first : (d b : DiskView) (node : ℕ) (why : BootFault) → IsRefused m f 1 (party 0) (d ∷ []) node why (b ∷ []) → node ≡ 0
-  refused_first d b node why r =
-      ⊎_elim (λ (p : (why ≡ boot.Memory) × (node ≡ 0) × (b ∷ [] ≡ d ∷ [])). p.1)
-      (λ (q : (x : DiskView) × (y : DiskView) × (slice_get (d ∷ []) node ≡ Some x) × (slice_get (b ∷ []) node ≡ Some y) × BootsAs f (node_over 1 (party 0) node x) (no_boot why) (node_over 1 (party 0) node y)). only_first node d q.0 q.2) r.refused
+  -- the boot that was refused
+  abbrev Stopped : List DiskView → ℕ → BootFault → List DiskView → Type 0
+  Stopped ds node why bs = (x : DiskView) × (y : DiskView) × (slice_get ds node ≡ Some x) × (slice_get bs node ≡ Some y) × BootsAs f (node_over nodes notary node x) (no_boot why) (node_over nodes notary node y)
 
-  first_cause : (d b x y : DiskView) (node : ℕ) (why : BootFault) → node ≡ 0 → slice_get (d ∷ []) node ≡ Some x → slice_get (b ∷ []) node ≡ Some y
-      → BootsAs f (node_over 1 (party 0) node x) (no_boot why) (node_over 1 (party 0) node y) → HasCause f (member 1 (party 0) 0) d why b
-  first_cause d b x y zero why is at there boots =
-      let one : d ≡ x = cc in
-      let two : b ≡ y = cc in
-      subst (λ u. HasCause f (member 1 (party 0) 0) u why b) (sym one) (subst (HasCause f (member 1 (party 0) 0) x why) (sym two) (boot_cause f (member 1 (party 0) 0) why x y boots.2))
-  first_cause d b x y (suc node) why is at there boots = cc
+  stopped_cause : (ds bs : List DiskView) (node : ℕ) (why : BootFault) → Stopped ds node why bs → (d b : DiskView) → slice_get ds node ≡ Some d → slice_get bs node ≡ Some b → HasCause f (member nodes notary node) d why b
+  stopped_cause ds bs node why q d b at there =
+      let one : q.0 ≡ d = cc in
+      let two : q.1 ≡ b = cc in
+      subst (λ u. HasCause f (member nodes notary node) u why b) one (subst (HasCause f (member nodes notary node) q.0 why) two (boot_cause f (member nodes notary node) why q.0 q.1 q.4.2))
 
-  refused_cause : (d b : DiskView) (node : ℕ) (why : BootFault) → IsRefused m f 1 (party 0) (d ∷ []) node why (b ∷ []) → HasCause f (member 1 (party 0) 0) d why b
-  refused_cause d b node why r =
-      ⊎_elim (λ (p : (why ≡ boot.Memory) × (node ≡ 0) × (b ∷ [] ≡ d ∷ [])). subst (λ y. HasCause f (member 1 (party 0) 0) d y b) (sym p.0) tt)
-      (λ (q : (x : DiskView) × (y : DiskView) × (slice_get (d ∷ []) node ≡ Some x) × (slice_get (b ∷ []) node ≡ Some y) × BootsAs f (node_over 1 (party 0) node x) (no_boot why) (node_over 1 (party 0) node y)).
-      first_cause d b q.0 q.1 node why (only_first node d q.0 q.2) q.2 q.3 q.4) r.refused
+  pub told_why : (ds bs : List DiskView) (node : ℕ) (why : BootFault) (written0 written1 : Option (List ℕ)) (s : Status) → 0 < nodes → length ds ≡ nodes → IsRefused m f nodes notary ds node why bs
+      → RefusedWith node why written0 written1 s → IsToldWhy f nodes notary ds bs written0 written1 s
+  told_why ds bs node why written0 written1 s some count r told = record {
+    node = node;
+    within = ⊎_elim (λ (p : (why ≡ boot.Memory) × (node ≡ 0) × (bs ≡ ds)). let first = p.1 in omega (arith, first, some)) (λ (q : Stopped ds node why bs). let within = slice_get_within ds node q.0 q.2 in omega (arith, within, count)) r.refused;
+    why = why;
+    cause = λ d b at there.
+        ⊎_elim (λ (p : (why ≡ boot.Memory) × (node ≡ 0) × (bs ≡ ds)). subst (λ y. HasCause f (member nodes notary node) d y b) (sym p.0) tt) (λ (q : Stopped ds node why bs). stopped_cause ds bs node why q d b at there) r.refused;
+    told = told;
+  }
 
-  pub told_why : (d b : DiskView) (node : ℕ) (why : BootFault) (written0 written1 : Option (List ℕ)) (s : Status) → IsRefused m f 1 (party 0) (d ∷ []) node why (b ∷ [])
-      → RefusedWith node why written0 written1 s → IsToldWhy f d b written0 written1 s
-  told_why d b node why written0 written1 s r told =
-      record { why = why; cause = refused_cause d b node why r; told = subst (λ n. RefusedWith n why written0 written1 s) (refused_first d b node why r) told }
+  pub fault_why : (ds bs : List DiskView) (node : ℕ) (why : BootFault) (written0 written1 : Option (List ℕ)) (s : Status) → length ds ≡ nodes → IsRefused m f nodes notary ds node why bs → RefusedWith node why written0 written1 s → s ≡ status.DiskFault → OneFails nodes ds bs
+  fault_why ds bs node why written0 written1 s count r told is =
+      let so : RefusedWith node why written0 written1 status.DiskFault = subst (RefusedWith node why written0 written1) is told in
+      ⊎_elim
+      (λ (p : (why ≡ boot.Memory) × (node ≡ 0) × (bs ≡ ds)). absurd (no_memory (subst (λ y. RefusedWith node y written0 written1 status.DiskFault) p.0 so).0))
+      (λ (q : Stopped ds node why bs).
+      let within = slice_get_within ds node q.0 q.2 in
+      record { place = node; own = omega (arith, within, count); before = q.0; after = q.1; at = q.2; now = q.3; fails = told_of_fault f (member nodes notary node) why q.0 q.1 node written0 written1 (boot_cause f (member nodes notary node) why q.0 q.1 q.4.2) so })
+      r.refused
 
-  pub fault_why : (d b : DiskView) (node : ℕ) (why : BootFault) (written0 written1 : Option (List ℕ)) (s : Status) → IsRefused m f 1 (party 0) (d ∷ []) node why (b ∷ [])
-      → RefusedWith node why written0 written1 s → s ≡ status.DiskFault → Fails d b
-  fault_why d b node why written0 written1 s r told is =
-      told_of_fault f (member 1 (party 0) 0) why d b node written0 written1 (refused_cause d b node why r) (subst (RefusedWith node why written0 written1) is told)
-
-  pub refused : (d b : DiskView) (w : World) (node : ℕ) (why : BootFault) (left written0 written1 : Option (List ℕ)) (s : Status)
-      → IsRefused m f 1 (party 0) (d ∷ []) node why (b ∷ []) → RefusedWith node why written0 written1 s
-      → Shows (alone m f) (over w.now d) w → Coherent (alone m f) w → PlaysOrRefuses (alone m f) w d b left left written0 written1 0 s
-  refused d b w node why left written0 written1 s r told shows coherent =
+  pub refused : (ds bs : List DiskView) (w : World) (node : ℕ) (why : BootFault) (left written0 written1 : Option (List ℕ)) (s : Status) → 0 < nodes → length ds ≡ nodes
+      → IsRefused m f nodes notary ds node why bs → RefusedWith node why written0 written1 s
+      → Shows e (over e w.now ds) w → Coherent e w → PlaysOrRefuses e w ds bs left left written0 written1 0 s
+  refused ds bs w node why left written0 written1 s some count r told shows coherent =
       let v = r.world w.now w shows coherent in
       inr (record {
         unread = refl;
         none = refl;
         world = v.0;
-        rests = refused_rests m f why w v.0 b v.1 v.2;
+        rests = refused_rests m f nodes notary w v.0 bs v.1 v.2;
         fewer = down_fewer why w v.0 v.3;
         kept = λ no p x y at there. (v.3.each p x y at there).kept (λ (is : why ≡ boot.Fault). no (status_of_fault node why written0 written1 s is told));
-        why = inr (told_why d b node why written0 written1 s r told);
+        why = inr (told_why ds bs node why written0 written1 s some count r told);
       })
 
-  -- the disk was not made ready, or there was no memory for that
-  pub unready : (d e : DiskView) (w : World) (left written : Option (List ℕ)) (s : Status) → IsOpeningStatus s → e ≡ record d { faults = e.faults }
-      → Shows (alone m f) (over w.now d) w → Coherent (alone m f) w → PlaysOrRefuses (alone m f) w d e left left written written 0 s
-  unready d e w left written s is same shows coherent = inr (record {
-    unread = refl;
-    none = refl;
-    world = with_faults e.faults w;
-    rests = stands m f (with_faults e.faults w) e (faulty_shows m f w d e same shows) (faulty_coherent m f e.faults w coherent);
-    fewer = same_fewer e.faults w;
-    kept = λ no. same_journals e.faults w;
-    why = inl (opening_why s written written is refl);
-  })
+  -- the disks were not made ready, or there was no memory for that
+  pub unready : (ds es : List DiskView) (w : World) (left written : Option (List ℕ)) (s : Status) → IsOpeningStatus s → AllStay ds es
+      → Shows e (over e w.now ds) w → Coherent e w → PlaysOrRefuses e w ds es left left written written 0 s
+  unready ds es w left written s is stay shows coherent =
+      let v = counted es w in
+      let made = made_counted m f nodes notary w ds es stay shows in
+      inr (record {
+        unread = refl;
+        none = refl;
+        world = v;
+        rests = stands m f nodes notary v es (counted_shows m f nodes notary w ds es stay shows) (made_coherent m f nodes notary w v made coherent);
+        fewer = made_fewer w v v made (same_fewer v);
+        kept = λ no. made_journals w v v made (same_journals v);
+        why = inl (opening_why s written written is refl);
+      })
 
-  plays_with : (n : ℕ) (w : World) (d k b : DiskView) (left0 left1 written0 written1 : Option (List ℕ)) (count : ℕ) (s : Status) → k ≡ record d { faults = k.faults } → d.faults ≤ k.faults
-      → Plays (alone m f) (with_faults n w) k b left0 left1 written0 written1 count s → Plays (alone m f) w d b left0 left1 written0 written1 count s
-  plays_with n w d k b left0 left1 written0 written1 count s same later p = record {
+  plays_with : (w v : World) (ds ks bs : List DiskView) (left0 left1 written0 written1 : Option (List ℕ)) (count : ℕ) (s : Status) → MadeReady w v → AllStay ds ks
+      → Plays e v ks bs left0 left1 written0 written1 count s → Plays e w ds bs left0 left1 written0 written1 count s
+  plays_with w v ds ks bs left0 left1 written0 written1 count s made stay p = record {
     is_script = p.is_script;
-    own = own_since f (member 1 (party 0) 0) d k same p.own;
-    faults = p.faults;
-    later = omega (arith, later, p.later);
+    own = all_own_since f nodes notary ds ks stay p.own;
+    ready = p.ready;
+    made = made_then w v p.ready made p.made;
     start = p.start;
-    begins = subst (λ x. Begun (alone m f) x p.start) (faults_again p.faults n w) p.begins;
+    begins = p.begins;
     last = p.last;
     script = p.script;
     rests = p.rests;
   }
 
-  refuses_with : (n : ℕ) (w : World) (d k b : DiskView) (left0 left1 written0 written1 : Option (List ℕ)) (count : ℕ) (s : Status) → k ≡ record d { faults = k.faults } → d.faults ≤ k.faults
-      → Refuses (alone m f) (with_faults n w) k b left0 left1 written0 written1 count s → Refuses (alone m f) w d b left0 left1 written0 written1 count s
-  refuses_with n w d k b left0 left1 written0 written1 count s same later r = record {
+  refuses_with : (w v : World) (ds ks bs : List DiskView) (left0 left1 written0 written1 : Option (List ℕ)) (count : ℕ) (s : Status) → MadeReady w v → AllStay ds ks
+      → Refuses e v ks bs left0 left1 written0 written1 count s → Refuses e w ds bs left0 left1 written0 written1 count s
+  refuses_with w v ds ks bs left0 left1 written0 written1 count s made stay r = record {
     unread = r.unread;
     none = r.none;
     world = r.world;
     rests = r.rests;
-    fewer = from_faulty n w r.world r.fewer;
-    kept = λ no. journals_from n w r.world (r.kept no);
-    why = ⊎_elim (λ (u : IsUnready written0 written1 s). inl u) (λ (t : IsToldWhy f k b written0 written1 s). inr (told_since f d k b b written0 written1 s refl same later t)) r.why;
+    fewer = made_fewer w v r.world made r.fewer;
+    kept = λ no. made_journals w v r.world made (r.kept no);
+    why = ⊎_elim (λ (u : IsUnready written0 written1 s). inl u) (λ (t : IsToldWhy f nodes notary ks bs written0 written1 s). inr (told_since f nodes notary ds ks bs written0 written1 s stay t)) r.why;
   }
 
-  -- the disk was made ready, and then its node opened or did not
-  pub ready : (d k b : DiskView) (w : World) (left0 left1 written0 written1 : Option (List ℕ)) (count : ℕ) (s : Status) → k ≡ record d { faults = k.faults } → d.faults ≤ k.faults
-      → ((v : World) → Shows (alone m f) (over v.now k) v → Coherent (alone m f) v → PlaysOrRefuses (alone m f) v k b left0 left1 written0 written1 count s)
-      → Shows (alone m f) (over w.now d) w → Coherent (alone m f) w → PlaysOrRefuses (alone m f) w d b left0 left1 written0 written1 count s
-  ready d k b w left0 left1 written0 written1 count s same later runs shows coherent =
-      ⊎_elim (λ (p : Plays (alone m f) (with_faults k.faults w) k b left0 left1 written0 written1 count s). inl (plays_with k.faults w d k b left0 left1 written0 written1 count s same later p))
-      (λ (r : Refuses (alone m f) (with_faults k.faults w) k b left0 left1 written0 written1 count s). inr (refuses_with k.faults w d k b left0 left1 written0 written1 count s same later r))
-      (runs (with_faults k.faults w) (faulty_shows m f w d k same shows) (faulty_coherent m f k.faults w coherent))
+  -- the disks were made ready, and then the nodes opened or one did not
+  ready : (ds ks bs : List DiskView) (w : World) (left0 left1 written0 written1 : Option (List ℕ)) (count : ℕ) (s : Status) → AllStay ds ks
+      → ((v : World) → Shows e (over e v.now ks) v → Coherent e v → PlaysOrRefuses e v ks bs left0 left1 written0 written1 count s)
+      → Shows e (over e w.now ds) w → Coherent e w → PlaysOrRefuses e w ds bs left0 left1 written0 written1 count s
+  ready ds ks bs w left0 left1 written0 written1 count s stay runs shows coherent =
+      let v = counted ks w in
+      let made = made_counted m f nodes notary w ds ks stay shows in
+      ⊎_elim (λ (p : Plays e v ks bs left0 left1 written0 written1 count s). inl (plays_with w v ds ks bs left0 left1 written0 written1 count s made stay p))
+      (λ (r : Refuses e v ks bs left0 left1 written0 written1 count s). inr (refuses_with w v ds ks bs left0 left1 written0 written1 count s made stay r))
+      (runs v (counted_shows m f nodes notary w ds ks stay shows) (made_coherent m f nodes notary w v made coherent))
 
-  pub ready_at : (d k b e : DiskView) (w : World) (left0 left1 written0 written1 : Option (List ℕ)) (count : ℕ) (s : Status) → b ≡ e → k ≡ record d { faults = k.faults } → d.faults ≤ k.faults
-      → ((v : World) → Shows (alone m f) (over v.now k) v → Coherent (alone m f) v → PlaysOrRefuses (alone m f) v k b left0 left1 written0 written1 count s)
-      → Shows (alone m f) (over w.now d) w → Coherent (alone m f) w → PlaysOrRefuses (alone m f) w d e left0 left1 written0 written1 count s
-  ready_at d k b e w left0 left1 written0 written1 count s there same later runs shows coherent =
-      subst (λ x. PlaysOrRefuses (alone m f) w d x left0 left1 written0 written1 count s) there (ready d k b w left0 left1 written0 written1 count s same later runs shows coherent)
+  pub ready_at : (ds ks bs es : List DiskView) (w : World) (left0 left1 written0 written1 : Option (List ℕ)) (count : ℕ) (s : Status) → es ≡ bs → AllStay ds ks
+      → ((v : World) → Shows e (over e v.now ks) v → Coherent e v → PlaysOrRefuses e v ks bs left0 left1 written0 written1 count s)
+      → Shows e (over e w.now ds) w → Coherent e w → PlaysOrRefuses e w ds es left0 left1 written0 written1 count s
+  ready_at ds ks bs es w left0 left1 written0 written1 count s there stay runs shows coherent =
+      subst (λ x. PlaysOrRefuses e w ds x left0 left1 written0 written1 count s) (sym there) (ready ds ks bs w left0 left1 written0 written1 count s stay runs shows coherent)
 
-  pub runs_as : (w : World) (d b : DiskView) (left0 left1 written0 written1 : Option (List ℕ)) (count counted number : ℕ) (s : Status) → number ≡ number_of_status s → counted ≡ count
-      → PlaysOrRefuses (alone m f) w d b left0 left1 written0 written1 count s → RunsAs (alone m f) w d b left0 left1 written0 written1 counted number
-  runs_as w d b left0 left1 written0 written1 count counted number s is same ran = record { status = s; is = is; ran = subst (λ n. PlaysOrRefuses (alone m f) w d b left0 left1 written0 written1 n s) (sym same) ran }
+  pub runs_as : (w : World) (ds bs : List DiskView) (left0 left1 written0 written1 : Option (List ℕ)) (count counted number : ℕ) (s : Status) → number ≡ number_of_status s → counted ≡ count
+      → PlaysOrRefuses e w ds bs left0 left1 written0 written1 count s → RunsAs e w ds bs left0 left1 written0 written1 counted number
+  runs_as w ds bs left0 left1 written0 written1 count counted number s is same ran = record { status = s; is = is; ran = subst (λ n. PlaysOrRefuses e w ds bs left0 left1 written0 written1 n s) (sym same) ran }
 
 -- the line for a damaged journal
 pub damaged_line : (node at : ℕ) (why : BootFault) (line : List ℕ) → why ≡ boot.Damaged at → line ≡ codes "! journal " ++ (decimal node ++ (codes " damaged " ++ (decimal at ++ 10 ∷ []))) → line ≡ journal_line node why
@@ -295,8 +320,3 @@ written_back n (x ∷ xs) [] here same = absurd (omega (arith, same))
 written_back n [] (y ∷ ys) here same = absurd (omega (arith, same))
 written_back zero (x ∷ xs) (y ∷ ys) here same = absurd (omega (arith, here))
 written_back (suc n) (x ∷ xs) (y ∷ ys) here same = ap (λ l. x ∷ l) (written_back n xs ys (omega (arith, here)) (omega (arith, same)))
-
--- what was taken from the front of a vector stood there
-pub first_of : {X Y : Type 0} (f : X → Y) (l : List X) (x : X) → x ≡ slice_index_or l 0 x → 0 < length l → slice_get (map f l) 0 ≡ Some (f x)
-first_of f [] x is some = absurd (omega (arith, some))
-first_of f (y ∷ ys) x is some = ap (λ z. Some (f z)) (sym is)

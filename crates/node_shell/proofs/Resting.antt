@@ -1,18 +1,23 @@
--- How the disk of the one node rests, and what a count of faults changes of a world.
-use Rattle.std.proofs.Common.{◌≡◌, ℕ, zero, suc, List, [], ◌∷◌, length, map, Some, true, false, refl, sym, ◌∙◌, ap, subst, arith}
+-- How the disks of a network rest, and what a making ready changes of a world.
+use Rattle.std.proofs.Common.{◌≡◌, ℕ, zero, suc, ◌+◌, List, [], ◌∷◌, length, map, Some, true, false, refl, sym, ◌∙◌, ap, subst, arith}
+use Rattle.std.specs.Prelude.{◌≤◌}
 use Rattle.std.specs.List.{slice_get}
 use Rattle.outside.specs.Disk.{DiskView, IsImage}
+use Rattle.net_base.specs.declared.values.Party.{Party}
 use Rattle.flow_machine.specs.Machine.{Machine}
 use Rattle.disk_journal.specs.Journal.{journal_of}
-use Rattle.net_model.specs.Environment.{party}
+use Rattle.net_model.specs.Environment.{Environment, environment}
+use Rattle.net_model.proofs.Cut.{environment_is_narrow}
 use Rattle.node_core.specs.Journals.{Reads}
 use Rattle.node_core.specs.Disks.{roomless}
 use Rattle.node_core.specs.Seen.{NodeSeen}
 use Rattle.node_core.specs.declared.faults.BootFault.{BootFault}
 use Rattle.network_core.specs.Worlds.{World, NodeWorld, NetSeen, MaySpell, NodeShows, Shows, NodeCoherent, Coherent}
-use Rattle.network_core.specs.Begins.{node_over, net_over, StayDown}
-use Rattle.network_core.proofs.Faithful.{coherent_is_faithful}
-use Rattle.node_shell.specs.Runs.{alone, over, all_down, with_faults, Rests, LeavesFewer, KeepsJournals}
+use Rattle.network_core.specs.Begins.{member, node_over, nodes_over, net_over, StayDown}
+use Rattle.network_core.proofs.Beginning.{over_length}
+use Rattle.network_core.proofs.Faithful.{coherent_is_faithful, get_beside}
+use Rattle.node_shell.proofs.Weaving.{map_count, in_map}
+use Rattle.node_shell.specs.Runs.{over, all_down, Rests, LeavesFewer, KeepsJournals, MadeReady, AllStay}
 
 -- ---- mapped lists
 
@@ -22,18 +27,35 @@ of_map f [] p y h = cc
 of_map f (x ∷ xs) zero y h = (x, refl, cc)
 of_map f (x ∷ xs) (suc p) y h = of_map f xs p y h
 
-pub in_map : {X Y : Type 0} (f : X → Y) (xs : List X) (p : ℕ) (x : X) → slice_get xs p ≡ Some x → slice_get (map f xs) p ≡ Some (f x)
-in_map f [] p x h = cc
-in_map f (y ∷ xs) zero x h = cc
-in_map f (y ∷ xs) (suc p) x h = in_map f xs p x h
-
-pub map_count : {X Y : Type 0} (f : X → Y) (xs : List X) → length (map f xs) ≡ length xs
-map_count f [] = refl
-map_count f (x ∷ xs) = ap suc (map_count f xs)
-
 map_again : {X Y Z : Type 0} (g : Y → Z) (f : X → Y) (h : X → Z) (xs : List X) → ((x : X) → g (f x) ≡ h x) → map g (map f xs) ≡ map h xs
 map_again g f h [] same = refl
 map_again g f h (x ∷ xs) same = rw (same x) (ap (λ l. h x ∷ l) (map_again g f h xs same))
+
+-- ---- nodes over disks
+
+node_at : (nodes : ℕ) (notary : Party) (from : ℕ) (ds : List DiskView) (p : ℕ) (d : DiskView) → slice_get ds p ≡ Some d → slice_get (nodes_over nodes notary from ds) p ≡ Some (node_over nodes notary (from + p) d)
+node_at nodes notary from [] p d at = cc
+node_at nodes notary from (x ∷ ds) zero d at =
+    let same : x ≡ d = cc in
+    let place : from ≡ from + zero = omega arith in
+    ap (λ z. Some (node_over nodes notary from z)) same ∙ ap (λ q. Some (node_over nodes notary q d)) place
+node_at nodes notary from (x ∷ ds) (suc p) d at =
+    let place : from + 1 + p ≡ from + suc p = omega arith in
+    node_at nodes notary (from + 1) ds p d at ∙ ap (λ q. Some (node_over nodes notary q d)) place
+
+-- the node over the disk at a place
+pub over_at : (nodes : ℕ) (notary : Party) (ds : List DiskView) (p : ℕ) (d : DiskView) → slice_get ds p ≡ Some d → slice_get (nodes_over nodes notary 0 ds) p ≡ Some (node_over nodes notary p d)
+over_at nodes notary ds p d at =
+    let place : 0 + p ≡ p = omega arith in
+    node_at nodes notary 0 ds p d at ∙ ap (λ q. Some (node_over nodes notary q d)) place
+
+-- the disk under the node at a place
+over_from : (nodes : ℕ) (notary : Party) (ds : List DiskView) (p : ℕ) (n : NodeSeen) → slice_get (nodes_over nodes notary 0 ds) p ≡ Some n → (d : DiskView) × (slice_get ds p ≡ Some d) × (n ≡ node_over nodes notary p d)
+over_from nodes notary ds p n at =
+    let found = get_beside (nodes_over nodes notary 0 ds) ds p n (over_length nodes notary 0 ds) at in
+    let there = over_at nodes notary ds p found.0 found.1 in
+    let same : n ≡ node_over nodes notary p found.0 = cc in
+    (found.0, found.1, same)
 
 -- ---- down
 
@@ -43,9 +65,70 @@ down x = record x { up = false }
 abbrev pub faulty : ℕ → NodeWorld → NodeWorld
 faulty n x = record x { faults = n }
 
-module _ {F : Type 0} (m : Machine F) (f : Reads F) where
-  node_rests : (n : NodeSeen) (x : NodeWorld) (d : DiskView) → n.disk ≡ roomless d → NodeShows (alone m f) 0 n x → NodeShows (alone m f) 0 (node_over 1 (party 0) 0 d) (down x)
-  node_rests n x d same s = record {
+-- ---- counts of faults
+
+-- nodes with these disks' counts of faults
+abbrev pub with_counts : List DiskView → List NodeWorld → List NodeWorld
+with_counts [] xs = xs
+with_counts (d ∷ ds) [] = []
+with_counts (d ∷ ds) (x ∷ xs) = faulty d.faults x ∷ with_counts ds xs
+
+-- a world with these disks' counts of faults
+abbrev pub counted : List DiskView → World → World
+counted ds w = record w { nodes = with_counts ds w.nodes }
+
+counted_count : (ds : List DiskView) (xs : List NodeWorld) → length (with_counts ds xs) ≡ length xs
+counted_count [] xs = refl
+counted_count (d ∷ ds) [] = refl
+counted_count (d ∷ ds) (x ∷ xs) = ap suc (counted_count ds xs)
+
+counted_at : (ds : List DiskView) (xs : List NodeWorld) (p : ℕ) (d : DiskView) (y : NodeWorld) → slice_get ds p ≡ Some d → slice_get (with_counts ds xs) p ≡ Some y → (x : NodeWorld) × (slice_get xs p ≡ Some x) × (faulty d.faults x ≡ y)
+counted_at [] xs p d y at there = cc
+counted_at (c ∷ ds) [] p d y at there = cc
+counted_at (c ∷ ds) (x ∷ xs) zero d y at there =
+    let disk : d ≡ c = cc in
+    let node : faulty c.faults x ≡ y = cc in
+    (x, refl, ap (λ (z : DiskView). faulty z.faults x) disk ∙ node)
+counted_at (c ∷ ds) (x ∷ xs) (suc p) d y at there = counted_at ds xs p d y at there
+
+-- ---- worlds made ready
+
+pub made_same : (w : World) → MadeReady w w
+made_same w = record { count = refl; each = λ p x y at there. let same : x ≡ y = cc in subst (λ (z : NodeWorld). (z ≡ record x { faults = z.faults }) × (x.faults ≤ z.faults)) same (refl, omega arith); clock = refl }
+
+pub made_then : (u v w : World) → MadeReady u v → MadeReady v w → MadeReady u w
+made_then u v w one two = record {
+  count = two.count ∙ one.count;
+  each = λ p x z at there.
+      let mid = get_beside u.nodes v.nodes p x (sym one.count) at in
+      let a = one.each p x mid.0 at mid.1 in
+      let b = two.each p mid.0 z mid.1 there in
+      (b.0 ∙ ap (λ (k : NodeWorld). record k { faults = z.faults }) a.0, omega (arith, a.1, b.1));
+  clock = two.clock ∙ one.clock;
+}
+
+pub made_fewer : (w v u : World) → MadeReady w v → LeavesFewer v u → LeavesFewer w u
+made_fewer w v u made fewer p x y l at there may =
+    let mid = get_beside w.nodes v.nodes p x (sym made.count) at in
+    subst (λ (k : NodeWorld). MaySpell k l) (made.each p x mid.0 at mid.1).0 (fewer p mid.0 y l mid.1 there may)
+
+pub same_fewer : (w : World) → LeavesFewer w w
+same_fewer w p x y l at there may = let same : y ≡ x = cc in subst (λ (k : NodeWorld). MaySpell k l) same may
+
+pub made_journals : (w v u : World) → MadeReady w v → KeepsJournals v u → KeepsJournals w u
+made_journals w v u made kept p x y at there =
+    let mid = get_beside w.nodes v.nodes p x (sym made.count) at in
+    kept p mid.0 y mid.1 there ∙ ap (λ (k : NodeWorld). k.journal) (made.each p x mid.0 at mid.1).0
+
+pub same_journals : (w : World) → KeepsJournals w w
+same_journals w p x y at there = let same : y ≡ x = cc in ap (λ (k : NodeWorld). k.journal) same
+
+module _ {F : Type 0} (m : Machine F) (f : Reads F) (nodes : ℕ) (notary : Party) where
+  abbrev e : Environment F
+  e = environment m f (member nodes notary 0)
+
+  node_rests : (p : ℕ) (n : NodeSeen) (x : NodeWorld) (d : DiskView) → n.disk ≡ roomless d → NodeShows e p n x → NodeShows e p (node_over nodes notary p d) (down x)
+  node_rests p n x d same s = record {
     identity_is = refl;
     tells = ap (λ (v : DiskView). v.tells) (sym same) ∙ s.tells;
     images = λ c i. s.images c (subst (λ (v : DiskView). IsImage v.state.now c) (sym same) i);
@@ -56,109 +139,88 @@ module _ {F : Type 0} (m : Machine F) (f : Reads F) where
     file_is = s.file_is ∙ ap (λ (v : DiskView). v.of_file) same;
   }
 
-  each_rests : (nodes : List NodeSeen) (xs : List NodeWorld) (d : DiskView) → map (λ (n : NodeSeen). n.disk) nodes ≡ roomless d ∷ []
-      → ((p : ℕ) (n : NodeSeen) (x : NodeWorld) → slice_get nodes p ≡ Some n → slice_get xs p ≡ Some x → NodeShows (alone m f) p n x)
-      → (p : ℕ) (n : NodeSeen) (x : NodeWorld) → slice_get (node_over 1 (party 0) 0 d ∷ []) p ≡ Some n → slice_get (map down xs) p ≡ Some x → NodeShows (alone m f) p n x
-  each_rests [] xs d same each p n x at there = cc
-  each_rests (k ∷ ks) [] d same each p n x at there = cc
-  each_rests (k ∷ ks) (y ∷ ys) d same each zero n x at there =
-      let disk : k.disk ≡ roomless d = cc in
-      let here : node_over 1 (party 0) 0 d ≡ n = cc in
-      let world : down y ≡ x = cc in
-      subst (λ (o : NodeSeen). NodeShows (alone m f) 0 o x) here (subst (NodeShows (alone m f) 0 (node_over 1 (party 0) 0 d)) world (node_rests k y d disk (each 0 k y refl refl)))
-  each_rests (k ∷ ks) (y ∷ ys) d same each (suc p) n x at there = cc
+  each_rests : (ns : List NodeSeen) (xs : List NodeWorld) (ds : List DiskView) → map (λ (n : NodeSeen). n.disk) ns ≡ map roomless ds
+      → ((p : ℕ) (n : NodeSeen) (x : NodeWorld) → slice_get ns p ≡ Some n → slice_get xs p ≡ Some x → NodeShows e p n x)
+      → (p : ℕ) (n : NodeSeen) (x : NodeWorld) → slice_get (nodes_over nodes notary 0 ds) p ≡ Some n → slice_get (map down xs) p ≡ Some x → NodeShows e p n x
+  each_rests ns xs ds same each p n x at there =
+      let under = over_from nodes notary ds p n at in
+      let world = of_map down xs p x there in
+      let node = of_map (λ (k : NodeSeen). k.disk) ns p (roomless under.0) (ap (λ (l : List DiskView). slice_get l p) same ∙ in_map roomless ds p under.0 under.1) in
+      subst (NodeShows e p n) world.2 (subst (λ (z : NodeSeen). NodeShows e p z (down world.0)) (sym under.2) (node_rests p node.0 world.0 under.0 node.2 (each p node.0 world.0 node.1 world.1)))
 
-  down_coherent : (w : World) → Coherent (alone m f) w → Coherent (alone m f) (all_down w)
+  down_coherent : (w : World) → Coherent e w → Coherent e (all_down w)
   down_coherent w c = record {
     count = map_count down w.nodes ∙ c.count;
     each = λ p x at.
         let o = of_map down w.nodes p x at in
         let before = c.each p o.0 o.1 in
-        subst (NodeCoherent (alone m f) p w.now) o.2 (record { every = before.every; one = λ (up : false ≡ true). absurd cc });
+        subst (NodeCoherent e p w.now) o.2 (record { every = before.every; one = λ (up : false ≡ true). absurd cc });
   }
 
-  -- a disk that shows a coherent world rests in it
-  pub stands : (w : World) (d : DiskView) → Shows (alone m f) (over w.now d) w → Coherent (alone m f) w → Rests (alone m f) d w
-  stands w d shows coherent = record { shows = shows; coherent = coherent; faithful = λ lists choice. coherent_is_faithful (alone m f) w lists coherent choice }
+  -- disks that show a coherent world rest in it
+  pub stands : (w : World) (ds : List DiskView) → Shows e (over e w.now ds) w → Coherent e w → Rests e ds w
+  stands w ds shows coherent = record { shows = shows; coherent = coherent; faithful = λ lists choice. coherent_is_faithful e (environment_is_narrow m f (member nodes notary 0)) w lists coherent choice }
 
-  -- the disk that comes out of a network of one node rests in the world that the network showed
-  pub rests : (net : NetSeen) (w : World) (d : DiskView) → Shows (alone m f) net w → Coherent (alone m f) w → map (λ (n : NodeSeen). n.disk) net.nodes ≡ roomless d ∷ [] → Rests (alone m f) d (all_down w)
-  rests net w d shows coherent disks = stands (all_down w) d
-      (record { count = map_count down w.nodes ∙ coherent.count; each = each_rests net.nodes w.nodes d disks shows.each; clock = refl })
+  -- the disks that come out of a network rest in the world that the network showed
+  pub rests : (net : NetSeen) (w : World) (ds : List DiskView) → Shows e net w → Coherent e w → map (λ (n : NodeSeen). n.disk) net.nodes ≡ map roomless ds → Rests e ds (all_down w)
+  rests net w ds shows coherent disks = stands (all_down w) ds
+      (record {
+        count = map_count down w.nodes ∙ shows.count ∙ sym (map_count (λ (n : NodeSeen). n.disk) net.nodes) ∙ ap length disks ∙ map_count roomless ds ∙ sym (over_length nodes notary 0 ds);
+        each = each_rests net.nodes w.nodes ds disks shows.each;
+        clock = refl;
+      })
       (down_coherent w coherent)
 
-  -- ---- counts of faults
-
-  each_faulty : (n : ℕ) (xs : List NodeWorld) (d : DiskView)
-      → ((p : ℕ) (k : NodeSeen) (x : NodeWorld) → slice_get (node_over 1 (party 0) 0 d ∷ []) p ≡ Some k → slice_get xs p ≡ Some x → NodeShows (alone m f) p k x)
-      → (p : ℕ) (k : NodeSeen) (x : NodeWorld) → slice_get (node_over 1 (party 0) 0 (record d { faults = n }) ∷ []) p ≡ Some k → slice_get (map (faulty n) xs) p ≡ Some x → NodeShows (alone m f) p k x
-  each_faulty n [] d each p k x at there = cc
-  each_faulty n (y ∷ ys) d each zero k x at there =
-      let here : node_over 1 (party 0) 0 (record d { faults = n }) ≡ k = cc in
-      let world : faulty n y ≡ x = cc in
-      let s = each 0 (node_over 1 (party 0) 0 d) y refl refl in
-      let t : NodeShows (alone m f) 0 (node_over 1 (party 0) 0 (record d { faults = n })) (faulty n y) = record { identity_is = refl; tells = s.tells; images = s.images; kept = s.kept; journal = s.journal; counts = refl; calm_is = s.calm_is; file_is = s.file_is } in
-      subst (λ (o : NodeSeen). NodeShows (alone m f) 0 o x) here (subst (NodeShows (alone m f) 0 (node_over 1 (party 0) 0 (record d { faults = n }))) world t)
-  each_faulty n (y ∷ ys) d each (suc p) k x at there = cc
-
-  -- the disk with another count of faults shows the world with that count
-  pub faulty_shows : (w : World) (d e : DiskView) → e ≡ record d { faults = e.faults } → Shows (alone m f) (over w.now d) w → Shows (alone m f) (over w.now e) (with_faults e.faults w)
-  faulty_shows w d e same s =
-      let t : Shows (alone m f) (over w.now (record d { faults = e.faults })) (with_faults e.faults w) = record { count = map_count (faulty e.faults) w.nodes ∙ s.count; each = each_faulty e.faults w.nodes d s.each; clock = refl } in
-      subst (λ (v : DiskView). Shows (alone m f) (over w.now v) (with_faults e.faults w)) (sym same) t
-
-  pub faulty_coherent : (n : ℕ) (w : World) → Coherent (alone m f) w → Coherent (alone m f) (with_faults n w)
-  faulty_coherent n w c = record {
-    count = map_count (faulty n) w.nodes ∙ c.count;
-    each = λ p x at.
-        let o = of_map (faulty n) w.nodes p x at in
+  pub made_coherent : (w v : World) → MadeReady w v → Coherent e w → Coherent e v
+  made_coherent w v made c = record {
+    count = made.count ∙ c.count;
+    each = λ p y at.
+        let o = get_beside v.nodes w.nodes p y made.count at in
         let before = c.each p o.0 o.1 in
-        subst (NodeCoherent (alone m f) p w.now) o.2 (record { every = before.every; one = before.one });
+        subst (λ (t : ℕ). NodeCoherent e p t y) (sym made.clock)
+        (subst (NodeCoherent e p w.now) (sym (made.each p o.0 y o.1 at).0) (record { every = before.every; one = before.one }));
   }
 
-  nodes_same : (xs : List NodeWorld) (d : DiskView) → length xs ≡ 1
-      → ((p : ℕ) (k : NodeSeen) (x : NodeWorld) → slice_get (node_over 1 (party 0) 0 d ∷ []) p ≡ Some k → slice_get xs p ≡ Some x → NodeShows (alone m f) p k x)
-      → map (faulty d.faults) xs ≡ xs
-  nodes_same [] d one each = refl
-  nodes_same (x ∷ []) d one each = ap (λ n. record x { faults = n } ∷ []) (sym (each 0 (node_over 1 (party 0) 0 d) x refl refl).counts)
-  nodes_same (x ∷ y ∷ ys) d one each = absurd (omega (arith, one))
+  module _ (w : World) (ds es : List DiskView) (stay : AllStay ds es) (shows : Shows e (over e w.now ds) w) where
+    -- a making ready gives the world the counts of faults of the disks as they are then
+    pub made_counted : MadeReady w (counted es w)
+    made_counted = record {
+      count = counted_count es w.nodes;
+      each = λ p x y at there.
+          let short : length w.nodes ≡ length ds = shows.count ∙ over_length nodes notary 0 ds in
+          let old = get_beside w.nodes ds p x short at in
+          let new = get_beside w.nodes es p x (short ∙ sym stay.count) at in
+          let found = counted_at es w.nodes p new.0 y new.1 there in
+          let same : found.0 ≡ x = cc in
+          let is : faulty new.0.faults x ≡ y = ap (faulty new.0.faults) (sym same) ∙ found.2 in
+          let stays = stay.each p old.0 new.0 old.1 new.1 in
+          let shown = shows.each p (node_over nodes notary p old.0) x (over_at nodes notary ds p old.0 old.1) at in
+          subst (λ (z : NodeWorld). (z ≡ record x { faults = z.faults }) × (x.faults ≤ z.faults)) is (refl, omega (arith, shown.counts, stays.1));
+      clock = refl;
+    }
 
-  -- a world that the disk shows has its count of faults
-  pub same_faults : (w : World) (d : DiskView) → Shows (alone m f) (over w.now d) w → with_faults d.faults w ≡ w
-  same_faults w d s = ap (λ l. record w { nodes = l }) (nodes_same w.nodes d s.count s.each)
+    each_counted : (p : ℕ) (k : NodeSeen) (x : NodeWorld) → slice_get (nodes_over nodes notary 0 es) p ≡ Some k → slice_get (with_counts es w.nodes) p ≡ Some x → NodeShows e p k x
+    each_counted p k x at there =
+        let under = over_from nodes notary es p k at in
+        let found = counted_at es w.nodes p under.0 x under.1 there in
+        let old = get_beside es ds p under.0 stay.count under.1 in
+        let stays = stay.each p old.0 under.0 old.1 under.1 in
+        let s = shows.each p (node_over nodes notary p old.0) found.0 (over_at nodes notary ds p old.0 old.1) found.1 in
+        let t : NodeShows e p (node_over nodes notary p (record old.0 { faults = under.0.faults })) (faulty under.0.faults found.0) = record { identity_is = refl; tells = s.tells; images = s.images; kept = s.kept; journal = s.journal; counts = refl; calm_is = s.calm_is; file_is = s.file_is } in
+        subst (NodeShows e p k) found.2
+        (subst (λ (z : NodeSeen). NodeShows e p z (faulty under.0.faults found.0)) (sym under.2)
+        (subst (λ (v : DiskView). NodeShows e p (node_over nodes notary p v) (faulty under.0.faults found.0)) (sym stays.0) t))
 
-  -- ---- fewer journals
+    -- the disks as they are then show that world
+    pub counted_shows : Shows e (over e w.now es) (counted es w)
+    counted_shows = record { count = counted_count es w.nodes ∙ shows.count ∙ over_length nodes notary 0 ds ∙ sym stay.count ∙ sym (over_length nodes notary 0 es); each = each_counted; clock = refl }
 
-  -- a refused opening leaves a disk that rests on a journal that it may have left before
-  pub refused_rests : (why : BootFault) (w v : World) (e : DiskView) → Shows (alone m f) (net_over 1 (party 0) w.now (e ∷ [])) v → Coherent (alone m f) v → Rests (alone m f) e v
-  refused_rests why w v e s c = stands v e (subst (λ n. Shows (alone m f) (over n e) v) (sym s.clock) s) c
-
--- once more with a count of faults
-pub faults_again : (n k : ℕ) (w : World) → with_faults n (with_faults k w) ≡ with_faults n w
-faults_again n k w = ap (λ l. record w { nodes = l }) (map_again (faulty n) (faulty k) (faulty n) w.nodes (λ x. refl))
+  -- a refused opening leaves disks that rest on journals that they may have left before
+  pub refused_rests : (w v : World) (ds : List DiskView) → Shows e (net_over nodes notary w.now ds) v → Coherent e v → Rests e ds v
+  refused_rests w v ds s c = stands v ds (subst (λ (n : ℕ). Shows e (over e n ds) v) (sym s.clock) s) c
 
 pub down_fewer : (why : BootFault) (w v : World) → StayDown why w v → LeavesFewer w v
 down_fewer why w v s p x y l at there may = (s.each p x y at there).lists l may
-
-pub same_fewer : (n : ℕ) (w : World) → LeavesFewer w (with_faults n w)
-same_fewer n w p x y l at there may =
-    let o = of_map (faulty n) w.nodes p y there in
-    let same : o.0 ≡ x = cc in
-    let spells : MaySpell (faulty n o.0) l = subst (λ z. MaySpell z l) (sym o.2) may in
-    subst (λ z. MaySpell z l) same spells
-
--- what the disks keep does not change with a count of faults
-pub same_journals : (n : ℕ) (w : World) → KeepsJournals w (with_faults n w)
-same_journals n w p x y at there =
-    let o = of_map (faulty n) w.nodes p y there in
-    let same : o.0 ≡ x = cc in
-    ap (λ (z : NodeWorld). z.journal) (sym o.2) ∙ ap (λ (z : NodeWorld). z.journal) same
-
-pub journals_from : (n : ℕ) (w v : World) → KeepsJournals (with_faults n w) v → KeepsJournals w v
-journals_from n w v kept p x y at there = kept p (faulty n x) y (in_map (faulty n) w.nodes p x at) there
-
-pub from_faulty : (n : ℕ) (w v : World) → LeavesFewer (with_faults n w) v → LeavesFewer w v
-from_faulty n w v fewer p x y l at there may = fewer p (faulty n x) y l (in_map (faulty n) w.nodes p x at) there may
 
 pub map_seen : {X Y Z : Type 0} (g : Y → Z) (f : X → Y) (xs : List X) → map g (map f xs) ≡ map (λ x. g (f x)) xs
 map_seen g f xs = map_again g f (λ x. g (f x)) xs (λ x. refl)

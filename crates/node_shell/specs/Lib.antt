@@ -1,3 +1,4 @@
+pub mod Pairs
 pub mod Serve
 pub mod Story
 pub mod Runs

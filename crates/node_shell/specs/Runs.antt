@@ -4,6 +4,8 @@ use Rattle.std.specs.Io.KnownBytes.{Appends}
 use Rattle.outside.specs.Disk.{DiskView}
 use Rattle.outside.specs.Faults.{Rose}
 use Rattle.net_base.specs.declared.names.Identity.{Identity}
+use Rattle.net_base.specs.declared.values.Party.{Party}
+use Rattle.shell_words.specs.declared.program.NetworkWords.{NetworkWords}
 use Rattle.disk_journal.specs.Journal.{journal_of, placed, refusal}
 use Rattle.disk_journal.specs.declared.fault.OpenFault.TheVariants as open_fault
 use Rattle.net_model.specs.Environment.{Environment, environment, party}
@@ -30,25 +32,27 @@ number_of_status status.DiskFault = 6
 number_of_status status.NoMemory = 7
 number_of_status status.BadJournal = 8
 
--- a network of one node, which is the notary too
-abbrev pub alone : {F : Type 0} → Machine F → Reads F → Environment F
-alone m frame_at = environment m frame_at (member 1 (party 0) 0)
+-- the environment of the network that words ask for
+abbrev pub environment_for : {F : Type 0} → Machine F → Reads F → NetworkWords → Environment F
+environment_for m frame_at n = environment m frame_at (member n.nodes (party n.notary) 0)
 
--- the network of one node that is down over a disk, at a moment
-abbrev pub over : ℕ → DiskView → NetSeen
-over now disk = net_over 1 (party 0) now (disk ∷ [])
+-- the network whose nodes are down over these disks, the first one of each node, at a moment
+abbrev pub over : {F : Type 0} → Environment F → ℕ → List DiskView → NetSeen
+over e now disks = net_over e.nodes e.notary now disks
 
 -- a world whose nodes are all down
 abbrev pub all_down : World → World
 all_down w = record w { nodes = map (λ (x : NodeWorld). record x { up = false }) w.nodes }
 
--- a world with the disks' counts of faults, which alone a making ready changes
-abbrev pub with_faults : ℕ → World → World
-with_faults n w = record w { nodes = map (λ (x : NodeWorld). record x { faults = n }) w.nodes }
+-- nothing but the disks' counts of faults has changed, and they have not fallen
+pub record MadeReady (w v : World) : Type 0 where
+  pub count : length v.nodes ≡ length w.nodes
+  pub each : (p : ℕ) (x y : NodeWorld) → slice_get w.nodes p ≡ Some x → slice_get v.nodes p ≡ Some y → (y ≡ record x { faults = y.faults }) × (x.faults ≤ y.faults)
+  pub clock : v.now ≡ w.now
 
--- the disk shows a coherent world, and whichever journals a power cut leaves of it are those of one run of the network
-pub record Rests {F : Type 0} (e : Environment F) (disk : DiskView) (w : World) : Type 0 where
-  pub shows : Shows e (over w.now disk) w
+-- the disks show a coherent world, and whichever journals power cuts leave of them are those of one run of the network
+pub record Rests {F : Type 0} (e : Environment F) (disks : List DiskView) (w : World) : Type 0 where
+  pub shows : Shows e (over e w.now disks) w
   pub coherent : Coherent e w
   pub faithful : (lists : List (List (List ℕ))) → Choice w lists → IsFaithful e (map (records_of e.frame_at) lists) × (network_of e (map (causes_of e.frame_at) lists) ≡ Some (map (state_of e.frame_at) lists))
 
@@ -56,17 +60,21 @@ pub record Rests {F : Type 0} (e : Environment F) (disk : DiskView) (w : World) 
 abbrev pub KeepsOwn : {F : Type 0} → Reads F → Identity → DiskView → Type 0
 KeepsOwn frame_at id disk = disk.tells ≡ true → (refusal id disk.state.kept ≡ None) × (misfit frame_at (placed 16 (journal_of disk.state.kept)) ≡ None)
 
--- the node opened its own journal, and its script went from the opening world to the last, in which its disk rests
-pub record Plays {F : Type 0} (e : Environment F) (w : World) (old disk : DiskView) (left0 left1 written0 written1 : Option (List ℕ)) (count : ℕ) (status : Status) : Type 0 where
+-- no opening of one of these nodes refuses its disk
+abbrev pub KeepOwn : {F : Type 0} → Reads F → ℕ → Party → List DiskView → Type 0
+KeepOwn frame_at nodes notary disks = (p : ℕ) (d : DiskView) → slice_get disks p ≡ Some d → KeepsOwn frame_at (member nodes notary p) d
+
+-- each node opened its own journal, and the script went from the opening world to the last, in which the disks rest
+pub record Plays {F : Type 0} (e : Environment F) (w : World) (old new : List DiskView) (left0 left1 written0 written1 : Option (List ℕ)) (count : ℕ) (status : Status) : Type 0 where
   pub is_script : IsScriptStatus status
-  pub own : KeepsOwn e.frame_at (member 1 (party 0) 0) old
-  pub faults : ℕ
-  pub later : old.faults ≤ faults
+  pub own : KeepOwn e.frame_at e.nodes e.notary old
+  pub ready : World
+  pub made : MadeReady w ready
   pub start : World
-  pub begins : Begun e (with_faults faults w) start
+  pub begins : Begun e ready start
   pub last : World
   pub script : ScriptRun e start left0 left1 written0 written1 count last status
-  pub rests : Rests e disk (all_down last)
+  pub rests : Rests e new (all_down last)
 
 -- the line for a node's first opening that found no sound journal of its own
 abbrev pub journal_line : ℕ → BootFault → List ℕ
@@ -108,10 +116,10 @@ pub record Fails (old new : DiskView) : Type 0 where
   pub rose : Rose old.faults new.faults
   pub uneasy : old.calm ≡ true → ⊥
 
--- one of the first two of these disks failed
-pub record OneFails (old new : List DiskView) : Type 0 where
+-- one of the first of these disks, so many, failed
+pub record OneFails (count : ℕ) (old new : List DiskView) : Type 0 where
   pub place : ℕ
-  pub own : place < 2
+  pub own : place < count
   pub before : DiskView
   pub after : DiskView
   pub at : slice_get old place ≡ Some before
@@ -135,27 +143,29 @@ HasCause frame_at id old (boot.Damaged at) new = old.tells ≡ true → (refusal
 abbrev pub IsUnready : Option (List ℕ) → Option (List ℕ) → Status → Type 0
 IsUnready written0 written1 s = ((s ≡ status.DiskFault) ⊎ (s ≡ status.NoMemory)) × (written1 ≡ written0)
 
--- the first opening was refused for a cause, which what was written tells
-pub record IsToldWhy {F : Type 0} (frame_at : Reads F) (old new : DiskView) (written0 written1 : Option (List ℕ)) (s : Status) : Type 0 where
+-- the first opening of some node was refused for a cause, which what was written tells, with the number of the node
+pub record IsToldWhy {F : Type 0} (frame_at : Reads F) (nodes : ℕ) (notary : Party) (old new : List DiskView) (written0 written1 : Option (List ℕ)) (s : Status) : Type 0 where
+  pub node : ℕ
+  pub within : node < nodes
   pub why : BootFault
-  pub cause : HasCause frame_at (member 1 (party 0) 0) old why new
-  pub told : RefusedWith 0 why written0 written1 s
+  pub cause : (d b : DiskView) → slice_get old node ≡ Some d → slice_get new node ≡ Some b → HasCause frame_at (member nodes notary node) d why b
+  pub told : RefusedWith node why written0 written1 s
 
--- the node did not open: nothing was read, and the disk rests on a journal that it may have left before; what was written says why
-pub record Refuses {F : Type 0} (e : Environment F) (w : World) (old disk : DiskView) (left0 left1 written0 written1 : Option (List ℕ)) (count : ℕ) (s : Status) : Type 0 where
+-- some node did not open: nothing was read, and the disks rest on journals that they may have left before; what was written says why
+pub record Refuses {F : Type 0} (e : Environment F) (w : World) (old new : List DiskView) (left0 left1 written0 written1 : Option (List ℕ)) (count : ℕ) (s : Status) : Type 0 where
   pub unread : left1 ≡ left0
   pub none : count ≡ 0
   pub world : World
-  pub rests : Rests e disk world
+  pub rests : Rests e new world
   pub fewer : LeavesFewer w world
   pub kept : (s ≡ status.DiskFault → ⊥) → KeepsJournals w world
-  pub why : IsUnready written0 written1 s ⊎ IsToldWhy e.frame_at old disk written0 written1 s
+  pub why : IsUnready written0 written1 s ⊎ IsToldWhy e.frame_at e.nodes e.notary old new written0 written1 s
 
--- a run over a disk that shows this world while its node is down: the node opened and its script was played, or it did not open
-pub record RunsAs {F : Type 0} (e : Environment F) (w : World) (old disk : DiskView) (left0 left1 written0 written1 : Option (List ℕ)) (count number : ℕ) : Type 0 where
+-- a run over disks that show this world while their nodes are down: the nodes opened and the script was played, or one did not open
+pub record RunsAs {F : Type 0} (e : Environment F) (w : World) (old new : List DiskView) (left0 left1 written0 written1 : Option (List ℕ)) (count number : ℕ) : Type 0 where
   pub status : Status
   pub is : number ≡ number_of_status status
-  pub ran : Plays e w old disk left0 left1 written0 written1 count status ⊎ Refuses e w old disk left0 left1 written0 written1 count status
+  pub ran : Plays e w old new left0 left1 written0 written1 count status ⊎ Refuses e w old new left0 left1 written0 written1 count status
 
 -- the statuses of a disk that was not made ready
 abbrev pub IsOpeningStatus : Status → Type 0
@@ -190,11 +200,11 @@ IsRunStatus status.Finished = ⊤
 IsRunStatus status.TooLong = ⊤
 IsRunStatus status.ReadFault = ⊤
 
--- the node opened and its script was played, or it did not open
-abbrev pub PlaysOrRefuses : {F : Type 0} → Environment F → World → DiskView → DiskView → Option (List ℕ) → Option (List ℕ) → Option (List ℕ) → Option (List ℕ) → ℕ → Status → Type 0
-PlaysOrRefuses e w old disk left0 left1 written0 written1 count s = Plays e w old disk left0 left1 written0 written1 count s ⊎ Refuses e w old disk left0 left1 written0 written1 count s
+-- the nodes opened and the script was played, or one did not open
+abbrev pub PlaysOrRefuses : {F : Type 0} → Environment F → World → List DiskView → List DiskView → Option (List ℕ) → Option (List ℕ) → Option (List ℕ) → Option (List ℕ) → ℕ → Status → Type 0
+PlaysOrRefuses e w old new left0 left1 written0 written1 count s = Plays e w old new left0 left1 written0 written1 count s ⊎ Refuses e w old new left0 left1 written0 written1 count s
 
--- the statuses that come only once the node has opened
+-- the statuses that come only once all nodes have opened
 abbrev pub IsPlayedStatus : Status → Type 0
 IsPlayedStatus status.Finished = ⊤
 IsPlayedStatus status.TooLong = ⊤
@@ -212,3 +222,8 @@ IsPlayedNumber number = (number ≡ 0) ⊎ ((number ≡ 3) ⊎ (number ≡ 4))
 -- a disk is as before but for its count of faults, which has not fallen
 abbrev pub StaysBut : DiskView → DiskView → Type 0
 StaysBut old new = (new ≡ record old { faults = new.faults }) × (old.faults ≤ new.faults)
+
+-- each of the disks is as before but for its count of faults, which has not fallen
+pub record AllStay (old new : List DiskView) : Type 0 where
+  pub count : length new ≡ length old
+  pub each : (p : ℕ) (d e : DiskView) → slice_get old p ≡ Some d → slice_get new p ≡ Some e → StaysBut d e

@@ -1,9 +1,10 @@
-//! The shell that runs a script over a network of one node.
+//! The shell that runs a script over a network of 1 to 16 nodes.
 //!
-//! The definitions that the contracts cite stand in `specs/`, in this order: `Serve`, `Story`, `Runs`; those of lines and words stand in
+//! The definitions that the contracts cite stand in `specs/`, in this order: `Serve`, `Story`, `Pairs`, `Runs`; those of lines and words stand in
 //! `shell_words`, those of worlds and steps in `network_core`.
 #![tactic(auto)]
 
+mod disks;
 mod openings;
 mod replies;
 mod serving;

@@ -1,9 +1,9 @@
-//! How a run begins: the disks are made ready, and the node opens.
+//! How a run begins: the disks are made ready, and a first opening that was refused is told.
 
-ghost use Rattle.std.specs.Prelude.{◌≡◌, ◌≤◌, ◌<◌, ◌∷◌, List, ℕ, length, drop, map, OnOk, OnErr, IfErr, IsErrOf, IfOk, slice_get, Some, true, string_bytes};
-ghost use Rattle.outside.specs.Disk.{DiskView};
+ghost use Rattle.std.specs.Prelude.{◌≡◌, ◌≤◌, ◌*◌, length, drop, map, IfErr, IsErrOf, IfOk, string_bytes};
 ghost use Rattle.outside.specs.Faults.{Rose};
-ghost use Rattle.node_shell.specs.Runs.{journal_line, RefusedWith, IsOpeningStatus, IsRefusedStatus, Fails, OneFails};
+ghost use Rattle.node_shell.specs.Runs.{journal_line, RefusedWith, IsOpeningStatus, IsRefusedStatus, Fails, OneFails, StaysBut, AllStay};
+ghost use Rattle.node_shell.specs.Pairs.{letter_of, disk_name};
 
 use super::statuses::Status;
 use super::streams::write_all;
@@ -11,14 +11,32 @@ use node_core::BootFault;
 use outside::{AttachFault, Bay, Failed, Sink};
 use std::alloc::{AllocError, Global};
 
-/// Makes a disk in memory ready.
-fn attach<B: Bay>(alloc: Global, disk: &mut B, name: &str) -> Result<(), Status>
-    ensures same { B.seen disk.new ≡ record (B.seen disk.old) { faults = (B.seen disk.new).faults } }
-    ensures later { (B.seen disk.old).faults ≤ (B.seen disk.new).faults }
+/// The letter of a node's disk.
+fn letter_of(second: bool) -> &'static str
+    ensures { result.now ≡ letter_of second }
+{
+    if second { "b" } else { "a" }
+}
+
+/// The name of a node's first or second disk.
+fn disk_name(alloc: Global, node: usize, second: bool) -> Result<String, AllocError>
+    ensures { IfOk result (λ name. string_bytes name ≡ disk_name node second) }
+{
+    let letter = letter_of(second);
+    let name = format!(in alloc; "node-{node}.{letter}")?;
+    Ok(name)
+}
+
+/// Makes the disk at a place ready, in memory.
+fn attach<B: Bay>(alloc: Global, disk: &mut B, place: usize) -> Result<(), Status>
+    ensures stays { StaysBut (B.seen disk.old) (B.seen disk.new) }
     ensures kinds { IfErr result IsOpeningStatus }
     ensures cause { IsErrOf result Status.DiskFault → Fails (B.seen disk.old) (B.seen disk.new) }
 {
-    match disk.attach(alloc, None, name) {
+    let Ok(name) = disk_name(alloc, place / 2, place % 2 == 1) else {
+        return Err(Status::NoMemory);
+    };
+    match disk.attach(alloc, None, name.as_str()) {
         Ok(()) => Ok(()),
         Err(AttachFault::Failed) => Err(Status::DiskFault),
         Err(AttachFault::Memory) => Err(Status::NoMemory),
@@ -68,16 +86,21 @@ pub fn refuse<K: Sink>(alloc: Global, sink: &mut K, node: u8, why: BootFault) ->
     }
 }
 
-/// Makes both disks of the one node ready.
-pub fn attach_both<B: Bay>(alloc: Global, disks: &mut [B]) -> Result<(), Status>
-    requires { 1 < length disks.old }
-    ensures count { length disks.new ≡ length disks.old }
-    ensures rest { drop 2 disks.new ≡ drop 2 disks.old }
-    ensures first { (d e : DiskView) → slice_get (map B.seen disks.old) 0 ≡ Some d → slice_get (map B.seen disks.new) 0 ≡ Some e → (e ≡ record d { faults = e.faults }) × (d.faults ≤ e.faults) }
-    ensures second { (d e : DiskView) → slice_get (map B.seen disks.old) 1 ≡ Some d → slice_get (map B.seen disks.new) 1 ≡ Some e → (e ≡ record d { faults = e.faults }) × (d.faults ≤ e.faults) }
+/// Makes both disks of each of so many nodes ready, in order.
+pub fn attach_all<B: Bay>(alloc: Global, disks: &mut Vec<B>, nodes: usize) -> Result<(), Status>
+    requires few { nodes ≤ 16 }
+    requires disks { 2 * nodes ≤ length disks.old.items }
+    ensures stay { AllStay (map B.seen disks.old.items) (map B.seen disks.new.items) }
+    ensures rest { drop (2 * nodes) disks.new.items ≡ drop (2 * nodes) disks.old.items }
     ensures kinds { IfErr result IsOpeningStatus }
-    ensures cause { IsErrOf result Status.DiskFault → OneFails (map B.seen disks.old) (map B.seen disks.new) }
+    ensures cause { IsErrOf result Status.DiskFault → OneFails (2 * nodes) (map B.seen disks.old.items) (map B.seen disks.new.items) }
 {
-    attach(alloc, &mut disks[0], "node-0.a")?;
-    attach(alloc, &mut disks[1], "node-0.b")
+    'places: for place in 0..2 * nodes {
+        let disk = &mut disks[place];
+        match attach(alloc, disk, place) {
+            Ok(()) => {}
+            Err(status) => return Err(status),
+        }
+    }
+    Ok(())
 }

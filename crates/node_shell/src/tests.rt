@@ -5,7 +5,7 @@ use outside::{Bay, Disk, MemSink, MemSource};
 use std::alloc::{AllocError, Global};
 use std::test::Fail;
 
-// The words `--nodes` and a count.
+// The program's words, with which it runs so many nodes.
 fn nodes_words(alloc: Global, count: &str) -> Result<Vec<String>, AllocError> {
     let mut words = Vec::new(alloc);
     words.push(String::from_str(alloc, "--nodes")?)?;
@@ -37,9 +37,24 @@ fn first_length(disks: &mut Vec<MemDisk>) -> Option<u64> {
     disks.first_mut()?.length().ok()
 }
 
-// Runs a script over one node on these disks; the reads and writes with these numbers fail.
-fn run_on(
+// The length of the disk at a place.
+fn length_at(disks: &mut Vec<MemDisk>, place: usize) -> Option<u64> {
+    disks.get_mut(place)?.length().ok()
+}
+
+// Disks of which the one at a place is this, and all others are empty.
+fn disks_with(alloc: Global, place: usize, disk: MemDisk) -> Result<Vec<MemDisk>, AllocError> {
+    let mut disks = disks_from(alloc, disk)?;
+    if place < disks.len() {
+        disks.swap(0, place);
+    }
+    Ok(disks)
+}
+
+// Runs a script over so many nodes on these disks; the reads and writes with these numbers fail.
+fn run_nodes(
     alloc: Global,
+    nodes: &str,
     disks: Vec<MemDisk>,
     script: &str,
     failing_reads: Vec<u64>,
@@ -51,9 +66,20 @@ fn run_on(
     let bytes = script.as_bytes().to_vec(alloc)?;
     let mut source = MemSource::new(bytes, failing_reads);
     let mut sink = MemSink::new(alloc, 1000, failing_writes)?;
-    let words = nodes_words(alloc, "1")?;
+    let words = nodes_words(alloc, nodes)?;
     let ended = run::<_, _, _, Counter>(alloc, words.as_slice(), &mut source, &mut sink, disks);
     Ok((ended, sink))
+}
+
+// Runs a script over one node on these disks; the reads and writes with these numbers fail.
+fn run_on(
+    alloc: Global,
+    disks: Vec<MemDisk>,
+    script: &str,
+    failing_reads: Vec<u64>,
+    failing_writes: Vec<u64>,
+) -> Result<(Ended<MemDisk>, MemSink), Fail> {
+    run_nodes(alloc, "1", disks, script, failing_reads, failing_writes)
 }
 
 // Runs a script over one node on these disks.
@@ -225,6 +251,81 @@ fn a_read_or_a_write_that_fails_ends_the_run(rt: HostRuntime) -> Result<(), Fail
     assert_eq!(rt; ended.bytes_read, 16);
     assert_eq!(rt; sink.bytes().len(), 0);
     assert_eq!(rt; first_length(&mut ended.disks), Some(92));
+    Ok(())
+}
+
+#[test]
+fn several_nodes_have_their_answers(rt: HostRuntime) -> Result<(), Fail> {
+    let alloc = rt.alloc();
+    let rows = [
+        (
+            "3",
+            "start 0 count 0\nstart 1 count 1\nstart 2 count 0\nflows 1\ndrain\nflows 1\nflow 2 0\nhistory\n",
+            "flow 0\nflow 0\nflow 0\nflow 0 class 1 steps 0 waits sleep\ndrained\nflow 0 class 1 steps 2 ended number 1\nflow 0 class 1 steps 1 ended number 0\nh 1 0 0 start 0 1\nh 1 1 0 start 0 1\nh 1 2 0 start 0 1\nh 2 0 0 move 0\nh 2 1 0 lapse 0\nh 2 2 0 move 0\nh 3 1 0 move 0\n",
+        ),
+        (
+            "3",
+            "start 1 count 0\ncut 1 0 0\nturn 1\nclock 9\nstart 2 count 0\ndrain\nflows 1\nhistory\nboot 1\nturn 1 0\nturn 3\nflows 3\nhistory\n",
+            "flow 0\ndown\n! 3 NodeDown\nok\nflow 0\ndrained\n! 3 NodeDown\n! 3 NodeDown\nbooted\nmoved 0\n! 2 UnknownNode\n! 2 UnknownNode\nh 1 1 0 start 0 1\nh 1 2 9 start 0 1\nh 2 1 9 move 0\nh 2 2 9 move 0\n",
+        ),
+        (
+            "16",
+            "start 15 count 0\nturn 15\nturn 16\nhistory\n",
+            "flow 0\nmoved 0\n! 2 UnknownNode\nh 1 15 0 start 0 1\nh 2 15 0 move 0\n",
+        ),
+    ];
+    for (nodes, script, answers) in rows {
+        let disks = disks_from(alloc, MemDisk::new(alloc))?;
+        let none = Vec::new(alloc);
+        let (ended, sink) = run_nodes(alloc, nodes, disks, script, none, Vec::new(alloc))?;
+        assert_eq!(rt; ended.status, 0);
+        assert_eq!(rt; ended.disks.len(), 32);
+        assert_eq!(rt; sink.bytes(), answers.as_bytes());
+    }
+    Ok(())
+}
+
+#[test]
+fn without_words_there_are_two_nodes(rt: HostRuntime) -> Result<(), Fail> {
+    let alloc = rt.alloc();
+    let mut source = MemSource::new(b"turn 1\nturn 2\n".to_vec(alloc)?, Vec::new(alloc));
+    let mut sink = MemSink::new(alloc, 100, Vec::new(alloc))?;
+    let words: Vec<String> = Vec::new(alloc);
+    let disks = disks_from(alloc, MemDisk::new(alloc))?;
+    if disks.len() != 32 {
+        return Err(Fail::new("disks"));
+    }
+    let ended = run::<_, _, _, Counter>(alloc, words.as_slice(), &mut source, &mut sink, disks);
+    assert_eq!(rt; ended.status, 0);
+    assert_eq!(rt; sink.bytes(), b"idle\n! 2 UnknownNode\n".as_slice());
+    Ok(())
+}
+
+// The first disk of node 1 holds the header of node 1 of 3 with notary 0: that of another network. Node 0 came up, and node 2 was not
+// opened.
+#[test]
+fn the_first_node_that_does_not_open_ends_the_run(rt: HostRuntime) -> Result<(), Fail> {
+    let alloc = rt.alloc();
+    let header = [
+        1, b'C', b'O', b'R', b'D', b'A', b'J', b'N', b'L', 1, 1, 3, 0, 0, 0, 0, 0,
+    ];
+    let disks = disks_with(alloc, 2, disk_of(alloc, &header)?)?;
+    let none = Vec::new(alloc);
+    let (mut ended, sink) = run_nodes(alloc, "4", disks, "flows 0\n", none, Vec::new(alloc))?;
+    assert_eq!(rt; ended.status, 8);
+    assert_eq!(rt; sink.bytes(), b"! journal 1 wrong\n".as_slice());
+    assert_eq!(rt; length_at(&mut ended.disks, 0), Some(17));
+    assert_eq!(rt; length_at(&mut ended.disks, 1), Some(0));
+    assert_eq!(rt; length_at(&mut ended.disks, 2), Some(17));
+    assert_eq!(rt; length_at(&mut ended.disks, 4), Some(0));
+
+    // In its own network it opens.
+    let none = Vec::new(alloc);
+    let script = "turn 1\nturn 2\n";
+    let (mut again, sink) = run_nodes(alloc, "3", ended.disks, script, none, Vec::new(alloc))?;
+    assert_eq!(rt; again.status, 8);
+    assert_eq!(rt; sink.bytes(), b"! journal 0 wrong\n".as_slice());
+    assert_eq!(rt; length_at(&mut again.disks, 4), Some(0));
     Ok(())
 }
 

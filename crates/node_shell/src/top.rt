@@ -1,28 +1,30 @@
-ghost use Rattle.std.specs.Prelude.{◌≡◌, ◌≤◌, ◌↔◌, ◌∷◌, [], ℕ, List, length, map, drop, slice_get, slice_index_or, string_bytes, true, false, Some};
+ghost use Rattle.std.specs.Prelude.{◌≡◌, ◌≤◌, ◌<◌, ◌↔◌, ◌+◌, ◌*◌, ℕ, length, map, drop, slice_get, string_bytes, Some, None};
 ghost use Rattle.outside.specs.Disk.{DiskView};
 ghost use Rattle.outside.specs.Faults.{Rose};
 ghost use Rattle.net_model.specs.Environment.{party};
-ghost use Rattle.network_core.specs.Begins.{member};
 ghost use Rattle.network_core.specs.Worlds.{World, Shows, Coherent};
-ghost use Rattle.shell_words.specs.Script.{is_one_node};
-ghost use Rattle.node_shell.specs.Runs.{RunsAs, PlaysOrRefuses, Fails, OneFails, IsToldWhy, KeepsOwn, StaysBut, IsPlayedStatus, IsPlayedNumber, IsRunStatus, number_of_status, alone, over};
+ghost use Rattle.shell_words.specs.Script.{network_of_words, IsNetwork};
+ghost use Rattle.shell_words.specs.declared.program.NetworkWords.{NetworkWords};
+ghost use Rattle.node_shell.specs.Pairs.{first_disks};
+ghost use Rattle.node_shell.specs.Runs.{RunsAs, PlaysOrRefuses, OneFails, IsToldWhy, KeepOwn, StaysBut, IsPlayedStatus, IsPlayedNumber, IsRunStatus, number_of_status, environment_for, over};
 
-use super::openings::{attach_both, refuse};
+use super::disks::{put_back, take_first};
+use super::openings::{attach_all, refuse};
 use super::session::session;
 use super::statuses::Status;
 use flow_machine::FlowSet;
 use net_base::Party;
 use network_core::Net;
 use outside::{Bay, Sink, Source};
-use shell_words::is_one_node;
+use shell_words::{NetworkWords, network_of_words};
 use std::alloc::Global;
 
 /// What a run leaves.
 #[derive(Drop)]
 pub struct Ended<B: Bay> {
     /// 0 where the script was read to its end or to `quit`; 2 where the words are refused; 3 where the script is too long; 4 after a read
-    /// and 5 after a write that failed; 6 where a disk failed before the script; 7 for want of memory; 8 where the node's first opening
-    /// found no sound journal of its own.
+    /// and 5 after a write that failed; 6 where a disk failed before the script; 7 for want of memory; 8 where the first opening of some
+    /// node found no sound journal of its own.
     pub status: u8,
     /// The disks, in the order in which they were handed in.
     pub disks: Vec<B>,
@@ -30,28 +32,30 @@ pub struct Ended<B: Bay> {
     pub bytes_read: u64,
 }
 
-/// Plays the script over the node on a disk, and gives the disk back.
+/// Plays the script over the nodes on their first disks, and gives the disks back.
 fn play<S: Source, K: Sink, B: Bay, F: FlowSet>(
     alloc: Global,
     source: &mut S,
     sink: &mut K,
+    network: NetworkWords,
     own: Vec<B>,
 ) -> (Status, u64, Vec<B>)
-    requires { length own.items ≡ 1 }
-    ensures count { length result.2.items ≡ 1 }
-    ensures runs { (d e : DiskView) → map B.seen own.items ≡ d ∷ [] → map B.seen result.2.items ≡ e ∷ [] → (w : World) → Shows (alone F.machine F.reading) (over w.now d) w → Coherent (alone F.machine F.reading) w
-        → PlaysOrRefuses (alone F.machine F.reading) w d e (S.left source.old) (S.left source.new) (K.written sink.old) (K.written sink.new) result.1 result.0 }
+    requires within { IsNetwork network }
+    requires disks { length own.items ≡ network.nodes }
+    ensures count { length result.2.items ≡ length own.items }
+    ensures runs { let e = environment_for F.machine F.reading network in (w : World) → Shows e (over e w.now (map B.seen own.items)) w → Coherent e w
+        → PlaysOrRefuses e w (map B.seen own.items) (map B.seen result.2.items) (S.left source.old) (S.left source.new) (K.written sink.old) (K.written sink.new) result.1 result.0 }
     ensures too_long { result.0 ≡ Status.TooLong ↔ (result.1 ≡ 16777217) }
     ensures few { result.1 ≤ 16777217 }
-    ensures own { IsPlayedStatus result.0 → (d : DiskView) → map B.seen own.items ≡ d ∷ [] → KeepsOwn F.reading (member 1 (party 0) 0) d }
+    ensures own { IsPlayedStatus result.0 → KeepOwn F.reading network.nodes (party network.notary) (map B.seen own.items) }
     ensures kinds { IsRunStatus result.0 }
     ensures read_fault { result.0 ≡ Status.ReadFault → Rose (S.faults source.old) (S.faults source.new) }
-    ensures disk_fault { result.0 ≡ Status.DiskFault → (d e : DiskView) → map B.seen own.items ≡ d ∷ [] → map B.seen result.2.items ≡ e ∷ [] → Fails d e }
-    ensures bad_journal { result.0 ≡ Status.BadJournal → (d e : DiskView) → map B.seen own.items ≡ d ∷ [] → map B.seen result.2.items ≡ e ∷ [] → IsToldWhy F.reading d e (K.written sink.old) (K.written sink.new) Status.BadJournal }
+    ensures disk_fault { result.0 ≡ Status.DiskFault → OneFails network.nodes (map B.seen own.items) (map B.seen result.2.items) }
+    ensures bad_journal { result.0 ≡ Status.BadJournal → IsToldWhy F.reading network.nodes (party network.notary) (map B.seen own.items) (map B.seen result.2.items) (K.written sink.old) (K.written sink.new) Status.BadJournal }
     ensures write_fault { result.0 ≡ Status.WriteFault → Rose (K.faults sink.old) (K.faults sink.new) }
     ensures later { (S.faults source.old ≤ S.faults source.new) × (K.faults sink.old ≤ K.faults sink.new) }
 {
-    match Net::<B, F>::begin(alloc, 1, Party(0), own) {
+    match Net::<B, F>::begin(alloc, network.nodes, Party(network.notary), own) {
         Ok(net) => {
             let mut net = net;
             let end = session(alloc, &mut net, source, sink);
@@ -64,11 +68,52 @@ fn play<S: Source, K: Sink, B: Bay, F: FlowSet>(
     }
 }
 
-/// Runs a script over a network of one node, line by line, and writes the answers.
+/// Runs a script over this network: makes the disks of its nodes ready, opens the nodes, and plays.
+fn run_network<S: Source, K: Sink, B: Bay, F: FlowSet>(
+    alloc: Global,
+    network: NetworkWords,
+    source: &mut S,
+    sink: &mut K,
+    disks: Vec<B>,
+) -> Ended<B>
+    requires within { IsNetwork network }
+    requires disks { length disks.items ≡ 32 }
+    ensures story { let e = environment_for F.machine F.reading network in let old = first_disks network.nodes (map B.seen disks.items) in let new = first_disks network.nodes (map B.seen result.disks.items) in (w : World) → Shows e (over e w.now old) w → Coherent e w
+        → RunsAs e w old new (S.left source.old) (S.left source.new) (K.written sink.old) (K.written sink.new) result.bytes_read result.status }
+    ensures words { result.status ≡ 2 → ⊥ }
+    ensures count { length result.disks.items ≡ 32 }
+    ensures rest { drop (2 * network.nodes) result.disks.items ≡ drop (2 * network.nodes) disks.items }
+    ensures second { (p : ℕ) (d e : DiskView) → p < network.nodes → slice_get (map B.seen disks.items) (2 * p + 1) ≡ Some d → slice_get (map B.seen result.disks.items) (2 * p + 1) ≡ Some e → StaysBut d e }
+    ensures own { IsPlayedNumber result.status → KeepOwn F.reading network.nodes (party network.notary) (first_disks network.nodes (map B.seen disks.items)) }
+    ensures too_long { (result.status ≡ 3) ↔ (result.bytes_read ≡ 16777217) }
+    ensures few { result.bytes_read ≤ 16777217 }
+    ensures read_fault { result.status ≡ 4 → Rose (S.faults source.old) (S.faults source.new) }
+    ensures disk_fault { result.status ≡ 6 → OneFails (2 * network.nodes) (map B.seen disks.items) (map B.seen result.disks.items) }
+    ensures bad_journal { result.status ≡ 8 → IsToldWhy F.reading network.nodes (party network.notary) (first_disks network.nodes (map B.seen disks.items)) (first_disks network.nodes (map B.seen result.disks.items)) (K.written sink.old) (K.written sink.new) Status.BadJournal }
+    ensures write_fault { result.status ≡ 5 → Rose (K.faults sink.old) (K.faults sink.new) }
+    ensures later { (S.faults source.old ≤ S.faults source.new) × (K.faults sink.old ≤ K.faults sink.new) }
+{
+    let mut disks = disks;
+    let nodes = network.nodes as usize;
+    let Ok(mut own) = Vec::with_capacity(alloc, nodes) else {
+        return end_with(Status::NoMemory, disks, 0);
+    };
+    if let Err(status) = attach_all(alloc, &mut disks, nodes) {
+        return end_with(status, disks, 0);
+    }
+    take_first(&mut disks, &mut own, nodes);
+    let (status, bytes_read, own) = play::<S, K, B, F>(alloc, source, sink, network, own);
+    put_back(&mut disks, own);
+    end_with(status, disks, bytes_read)
+}
+
+/// Runs a script over a network of 1 to 16 nodes, line by line, and writes the answers.
 ///
-/// The words are exactly `--nodes 1`. Of the 32 disks the node has the first two, which are made ready in memory as `node-0.a` and
-/// `node-0.b`; its journal is on the first. A script has at most 16,777,216 bytes. Each line of it is a command, which has one answer
-/// line or, a query, several; a blank line, one that begins with `#` and `quit` have none.
+/// The words are `--nodes n`, with 1 to 16, and `--notary n`, with 0 to 15 and below the number of nodes, each at most once and in any
+/// order; without them there are two nodes, and node 0 is the notary. Of the 32 disks node `n` has disks `2n` and `2n + 1`, which are made ready in memory as `node-n.a` and
+/// `node-n.b`; its journal is on the first. All disks are made ready in order, and then the nodes are opened in order. A script has at
+/// most 16,777,216 bytes. Each line of it is a command, which has one answer line or, a query, several; a blank line, one that begins
+/// with `#` and `quit` have none.
 pub fn run<S: Source, K: Sink, B: Bay, F: FlowSet>(
     alloc: Global,
     words: &[String],
@@ -77,35 +122,25 @@ pub fn run<S: Source, K: Sink, B: Bay, F: FlowSet>(
     disks: Vec<B>,
 ) -> Ended<B>
     requires { length disks.items ≡ 32 }
-    ensures story { is_one_node (map (λ s. string_bytes s) words.now) ≡ true → (d e : DiskView) → slice_get (map B.seen disks.items) 0 ≡ Some d → slice_get (map B.seen result.disks.items) 0 ≡ Some e → (w : World) → Shows (alone F.machine F.reading) (over w.now d) w → Coherent (alone F.machine F.reading) w
-        → RunsAs (alone F.machine F.reading) w d e (S.left source.old) (S.left source.new) (K.written sink.old) (K.written sink.new) result.bytes_read result.status }
-    ensures words { (result.status ≡ 2) ↔ (is_one_node (map (λ s. string_bytes s) words.now) ≡ false) }
-    ensures untouched { is_one_node (map (λ s. string_bytes s) words.now) ≡ false → (result.bytes_read ≡ 0) × (result.disks.items ≡ disks.items) × (S.left source.new ≡ S.left source.old) × (K.written sink.new ≡ K.written sink.old) }
-    ensures disks { (length result.disks.items ≡ 32) × (drop 2 result.disks.items ≡ drop 2 disks.items) }
-    ensures second { (d e : DiskView) → slice_get (map B.seen disks.items) 1 ≡ Some d → slice_get (map B.seen result.disks.items) 1 ≡ Some e → StaysBut d e }
-    ensures own { IsPlayedNumber result.status → (d : DiskView) → slice_get (map B.seen disks.items) 0 ≡ Some d → KeepsOwn F.reading (member 1 (party 0) 0) d }
+    ensures story { (n : NetworkWords) → network_of_words (map (λ s. string_bytes s) words.now) ≡ Some n → let e = environment_for F.machine F.reading n in let old = first_disks n.nodes (map B.seen disks.items) in let new = first_disks n.nodes (map B.seen result.disks.items) in (w : World) → Shows e (over e w.now old) w → Coherent e w
+        → RunsAs e w old new (S.left source.old) (S.left source.new) (K.written sink.old) (K.written sink.new) result.bytes_read result.status }
+    ensures words { (result.status ≡ 2) ↔ (network_of_words (map (λ s. string_bytes s) words.now) ≡ None) }
+    ensures untouched { network_of_words (map (λ s. string_bytes s) words.now) ≡ None → (result.bytes_read ≡ 0) × (result.disks.items ≡ disks.items) × (S.left source.new ≡ S.left source.old) × (K.written sink.new ≡ K.written sink.old) }
+    ensures disks { (length result.disks.items ≡ 32) × ((n : NetworkWords) → network_of_words (map (λ s. string_bytes s) words.now) ≡ Some n → drop (2 * n.nodes) result.disks.items ≡ drop (2 * n.nodes) disks.items) }
+    ensures second { (n : NetworkWords) → network_of_words (map (λ s. string_bytes s) words.now) ≡ Some n → (p : ℕ) (d e : DiskView) → p < n.nodes → slice_get (map B.seen disks.items) (2 * p + 1) ≡ Some d → slice_get (map B.seen result.disks.items) (2 * p + 1) ≡ Some e → StaysBut d e }
+    ensures own { IsPlayedNumber result.status → (n : NetworkWords) → network_of_words (map (λ s. string_bytes s) words.now) ≡ Some n → KeepOwn F.reading n.nodes (party n.notary) (first_disks n.nodes (map B.seen disks.items)) }
     ensures too_long { (result.status ≡ 3) ↔ (result.bytes_read ≡ 16777217) }
     ensures few { result.bytes_read ≤ 16777217 }
     ensures read_fault { result.status ≡ 4 → Rose (S.faults source.old) (S.faults source.new) }
-    ensures disk_fault { result.status ≡ 6 → OneFails (map B.seen disks.items) (map B.seen result.disks.items) }
-    ensures bad_journal { result.status ≡ 8 → (d e : DiskView) → slice_get (map B.seen disks.items) 0 ≡ Some d → slice_get (map B.seen result.disks.items) 0 ≡ Some e → IsToldWhy F.reading d e (K.written sink.old) (K.written sink.new) Status.BadJournal }
+    ensures disk_fault { result.status ≡ 6 → (n : NetworkWords) → network_of_words (map (λ s. string_bytes s) words.now) ≡ Some n → OneFails (2 * n.nodes) (map B.seen disks.items) (map B.seen result.disks.items) }
+    ensures bad_journal { result.status ≡ 8 → (n : NetworkWords) → network_of_words (map (λ s. string_bytes s) words.now) ≡ Some n → IsToldWhy F.reading n.nodes (party n.notary) (first_disks n.nodes (map B.seen disks.items)) (first_disks n.nodes (map B.seen result.disks.items)) (K.written sink.old) (K.written sink.new) Status.BadJournal }
     ensures write_fault { result.status ≡ 5 → Rose (K.faults sink.old) (K.faults sink.new) }
     ensures later { (S.faults source.old ≤ S.faults source.new) × (K.faults sink.old ≤ K.faults sink.new) }
 {
-    if !is_one_node(words) {
-        return end_with(Status::BadWords, disks, 0);
+    match network_of_words(words) {
+        None => end_with(Status::BadWords, disks, 0),
+        Some(network) => run_network::<S, K, B, F>(alloc, network, source, sink, disks),
     }
-    let mut disks = disks;
-    let Ok(mut own) = Vec::with_capacity(alloc, 1) else {
-        return end_with(Status::NoMemory, disks, 0);
-    };
-    if let Err(status) = attach_both(alloc, disks.as_mut_slice()) {
-        return end_with(status, disks, 0);
-    }
-    own.push(disks.remove(0)).unwrap();
-    let (status, bytes_read, mut own) = play::<S, K, B, F>(alloc, source, sink, own);
-    disks.insert(0, own.pop().unwrap()).unwrap();
-    end_with(status, disks, bytes_read)
 }
 
 /// The end of a run.

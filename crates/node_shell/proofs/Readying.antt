@@ -1,0 +1,72 @@
+-- Disks that are made ready, one after the other.
+use Rattle.std.proofs.Common.{◌≡◌, ⊎_elim, ℕ, zero, suc, ◌*◌, List, [], ◌∷◌, length, map, drop, Some, refl, sym, ◌∙◌, ap, subst, arith, slice_set}
+use Rattle.std.specs.Prelude.{true, ◌<◌, ◌≤◌}
+use Rattle.std.specs.List.{slice_get}
+use Rattle.outside.specs.Disk.{DiskView}
+use Rattle.outside.specs.Faults.{Rose}
+use Rattle.network_core.proofs.Faithful.{get_beside}
+use Rattle.network_core.proofs.Places.{set_length, get_set}
+use Rattle.node_shell.specs.Pairs.{first_disks}
+use Rattle.node_shell.specs.Runs.{Fails, OneFails, StaysBut, AllStay}
+use Rattle.node_shell.proofs.Weaving.{first_at, first_count, map_set, in_map}
+
+-- ---- counts of faults
+
+-- a count that rose since it was raised rose
+rose_since : (a b c : ℕ) → a ≤ b → Rose b c → Rose a c
+rose_since a b c first then = omega (arith, first, then)
+
+pub fails_since : (d k b : DiskView) → k ≡ record d { faults = k.faults } → d.faults ≤ k.faults → Fails k b → Fails d b
+fails_since d k b same later f = record { rose = rose_since d.faults k.faults b.faults later f.rose; uneasy = λ calm. f.uneasy (ap (λ (x : DiskView). x.calm) same ∙ calm) }
+
+pub stay_same : (ds : List DiskView) → AllStay ds ds
+stay_same ds = record { count = refl; each = λ p d e at there. let same : d ≡ e = cc in subst (StaysBut d) same (refl, omega arith) }
+
+-- the first disks of the nodes stay as all do
+pub first_stay : (n : ℕ) (ds es : List DiskView) → AllStay ds es → AllStay (first_disks n ds) (first_disks n es)
+first_stay n ds es stay = record {
+  count = first_count n es ds stay.count;
+  each = λ p d e at there. stay.each (2 * p) d e (first_at n ds p d at).1 (first_at n es p e there).1;
+}
+
+-- where one of the first disks failed after a making ready, one of all disks did
+pub first_fails : (n : ℕ) (ds ks es : List DiskView) → AllStay ds ks → OneFails n (first_disks n ks) (first_disks n es) → OneFails (2 * n) ds es
+first_fails n ds ks es stay o =
+    let mid = first_at n ks o.place o.before o.at in
+    let old = get_beside ks ds (2 * o.place) o.before stay.count mid.1 in
+    let stays = stay.each (2 * o.place) old.0 o.before old.1 mid.1 in
+    let own = o.own in
+    record { place = 2 * o.place; own = omega (arith, own); before = old.0; after = o.after; at = old.1; now = (first_at n es o.place o.after o.now).1; fails = fails_since old.0 o.before o.after stays.0 stays.1 o.fails }
+
+-- ---- one disk more
+
+set_here : {X : Type 0} (l : List X) (i : ℕ) (x y : X) → slice_get l i ≡ Some x → slice_get (slice_set l i y) i ≡ Some y
+set_here [] i x y at = cc
+set_here (z ∷ l) zero x y at = refl
+set_here (z ∷ l) (suc i) x y at = set_here l i x y at
+
+stays_then : (a b c : DiskView) → StaysBut a b → StaysBut b c → StaysBut a c
+stays_then a b c one two = (two.0 ∙ ap (λ (x : DiskView). record x { faults = c.faults }) one.0, omega (arith, one.1, two.1))
+
+-- one more disk was made ready
+pub stay_more : {X : Type 0} (f : X → DiskView) (all cur : List X) (i : ℕ) (x y : X) → AllStay (map f all) (map f cur) → slice_get cur i ≡ Some x → StaysBut (f x) (f y) → AllStay (map f all) (map f (slice_set cur i y))
+stay_more f all cur i x y stay at stays =
+    let here : slice_get (map f cur) i ≡ Some (f x) = in_map f cur i x at in
+    record {
+      count = ap length (map_set f cur i y) ∙ set_length (map f cur) i (f y) ∙ stay.count;
+      each = λ p d e old new.
+          ⊎_elim
+          (λ (s : (p ≡ i) × (e ≡ f y)).
+          let there : slice_get (map f cur) p ≡ Some (f x) = subst (λ q. slice_get (map f cur) q ≡ Some (f x)) (sym s.0) here in
+          subst (StaysBut d) (sym s.1) (stays_then d (f x) (f y) (stay.each p d (f x) old there) stays))
+          (λ (same : slice_get (map f cur) p ≡ Some e). stay.each p d e old same)
+          (get_set (map f cur) i (f y) p e (subst (λ l. slice_get l p ≡ Some e) (map_set f cur i y) new));
+    }
+
+-- or it failed
+pub one_more_fails : {X : Type 0} (f : X → DiskView) (all cur : List X) (i n : ℕ) (x y : X) → AllStay (map f all) (map f cur) → slice_get cur i ≡ Some x → i < n → Fails (f x) (f y) → OneFails n (map f all) (map f (slice_set cur i y))
+one_more_fails f all cur i n x y stay at within fails =
+    let here : slice_get (map f cur) i ≡ Some (f x) = in_map f cur i x at in
+    let old = get_beside (map f cur) (map f all) i (f x) stay.count here in
+    let stays = stay.each i old.0 (f x) old.1 here in
+    record { place = i; own = within; before = old.0; after = f y; at = old.1; now = ap (λ l. slice_get l i) (map_set f cur i y) ∙ set_here (map f cur) i (f x) (f y) here; fails = fails_since old.0 (f x) (f y) stays.0 stays.1 fails }
