@@ -10,12 +10,11 @@ use Rattle.flow_machine.specs.declared.acts.Act.TheVariants as act
 use Rattle.flow_machine.specs.declared.flows.Checkpoint.{Checkpoint}
 use Rattle.flow_machine.specs.declared.flows.FlowState.{FlowState}
 use Rattle.flow_machine.specs.declared.flows.FlowState.TheVariants as state
-use Rattle.net_model.specs.Environment.{Environment, is_act_built}
+use Rattle.net_model.specs.Environment.{Environment}
 use Rattle.net_model.specs.State.{NodeState, Effect}
 use Rattle.net_model.specs.Steps.{takes, receives, goes_on, effect_of, performed, lapsed, lapses}
 use Rattle.net_model.specs.Sound.{IsNumbered}
-use Rattle.net_model.specs.Cut.{IsNarrow}
-use Rattle.net_model.specs.Enabled.{enabling, enabled_event, performing, event_of, effect_on, EnabledIsDefined, NarrowIsDefined}
+use Rattle.net_model.specs.Enabled.{enabling, enabled_event, effect_on, EnabledIsDefined}
 
 module _ {F : Type 0} (w : Environment F) (me : ℕ) (s : NodeState F) (now f : ℕ) where
   -- where flow f of the state is this, its events have the effects that they have on it
@@ -85,52 +84,42 @@ module _ {F : Type 0} (w : Environment F) (me : ℕ) (s : NodeState F) (now f : 
   by_state effect (state.Ended step class value) own move lapse = (move, lapse)
   by_state effect (state.Failed step class code) own move lapse = (move, lapse)
 
-  -- ---- for what nodes do so far
+  -- ---- the event of a flow
 
-  by_act : (effect : Event → Option (Effect F)) (at : Checkpoint F) (a : Act F)
-      → effect (event.Move f) ≡ cond (is_act_built a) (performed w me s now at a) None → effect (event.Lapse f) ≡ cond (is_act_built a) (lapsed w me now at (lapses s now at.flow a)) None
-      → Tells effect (performing f now a)
-  unfolding is_act_built
-  by_act effect at (act.Sleep until) move lapse = by_moment effect at (nat_le until now) move lapse
-  by_act effect at (act.Sub frame) move lapse = rw move refl
-  by_act effect at (act.Return value) move lapse = rw move refl
-  by_act effect at (act.Fail code) move lapse = rw move refl
-  by_act effect at _ move lapse = (move, lapse)
+  by_waiting : (b : Bool) (g : ℕ) (e : Event) → cond b None (Some (event.Move g)) ≡ Some e → (e ≡ event.Move g) ⊎ (e ≡ event.Lapse g)
+  by_waiting true g e h = cc
+  by_waiting false g e h = inl (cc)
 
-  by_flow : IsNarrow w → (effect : Event → Option (Effect F)) (flow : FlowState F) → effect (event.Move f) ≡ effect_on w me s now flow (event.Move f) → effect (event.Lapse f) ≡ effect_on w me s now flow (event.Lapse f) → Tells effect (event_of f now flow)
-  by_flow narrow effect (state.Live at) move lapse =
-      by_act effect at at.waiting
-      (move ∙ ap (λ b. cond b (performed w me s now at at.waiting) None) (narrow.acts at.waiting))
-      (lapse ∙ ap (λ b. cond b (lapsed w me now at (lapses s now at.flow at.waiting)) None) (narrow.acts at.waiting))
-  by_flow narrow effect (state.Ended step class value) move lapse = (move, lapse)
-  by_flow narrow effect (state.Failed step class code) move lapse = (move, lapse)
+  by_clock : (b : Bool) (g : ℕ) (e : Event) → cond b (Some (event.Lapse g)) None ≡ Some e → (e ≡ event.Move g) ⊎ (e ≡ event.Lapse g)
+  by_clock true g e h = inr (cc)
+  by_clock false g e h = cc
 
-  pub enabled_at : IsNarrow w → (flow : FlowState F) → slice_get s.flows f ≡ Some flow
-      → MatchOption (event_of f now flow) ((effect_of w me s now (event.Move f) None ≡ None) × (effect_of w me s now (event.Lapse f) None ≡ None)) (λ e. IsSome (effect_of w me s now e None))
-  enabled_at narrow flow h = by_flow narrow (λ e. effect_of w me s now e None) flow (moves_on flow h) (lapses_on flow h)
+  by_either : (b late : Bool) (g : ℕ) (e : Event) → cond b (cond late (Some (event.Lapse g)) None) (Some (event.Move g)) ≡ Some e → (e ≡ event.Move g) ⊎ (e ≡ event.Lapse g)
+  by_either true late g e h = by_clock late g e h
+  by_either false late g e h = inl (cc)
 
-  act_kind : (a : Act F) (e : Event) → performing f now a ≡ Some e → (e ≡ event.Move f) ⊎ (e ≡ event.Lapse f)
-  act_kind (act.Sleep until) e h = (elim (nat_le until now) as (λ b. cond b (Some (event.Lapse f)) None ≡ Some e → (e ≡ event.Move f) ⊎ (e ≡ event.Lapse f)) [ true ↦ λ k. inr (cc) | false ↦ λ k. cc ]) h
-  act_kind (act.Sub frame) e h = inl (cc)
-  act_kind (act.Return value) e h = inl (cc)
-  act_kind (act.Fail code) e h = inl (cc)
-  act_kind _ e h = cc
+  act_kind : (g : ℕ) (a : Act F) (e : Event) → enabling s.sessions g now a ≡ Some e → (e ≡ event.Move g) ⊎ (e ≡ event.Lapse g)
+  act_kind g (act.Sleep until) e h = by_clock (nat_le until now) g e h
+  act_kind g (act.Receive key) e h = by_waiting (waits_for (owned g key s.sessions)) g e h
+  act_kind g (act.ReceiveBy key until) e h = by_either (waits_for (owned g key s.sessions)) (nat_le until now) g e h
+  act_kind g _ e h = inl (cc)
 
-  event_kind : (flow : FlowState F) (e : Event) → event_of f now flow ≡ Some e → (e ≡ event.Move f) ⊎ (e ≡ event.Lapse f)
-  event_kind (state.Live at) e h = act_kind at.waiting e h
-  event_kind (state.Ended step class value) e h = cc
-  event_kind (state.Failed step class code) e h = cc
+  flow_kind : (b : Bool) (g : ℕ) (a : Act F) (e : Event) → cond b (enabling s.sessions g now a) None ≡ Some e → (e ≡ event.Move g) ⊎ (e ≡ event.Lapse g)
+  flow_kind true g a e h = act_kind g a e h
+  flow_kind false g a e h = cc
+
+  event_kind : (flow : FlowState F) (e : Event) → IsNumbered f flow → enabled_event w s.sessions now flow ≡ Some e → (e ≡ event.Move f) ⊎ (e ≡ event.Lapse f)
+  event_kind (state.Live at) e own h = subst (λ g. (e ≡ event.Move g) ⊎ (e ≡ event.Lapse g)) own (flow_kind (w.performs at.waiting) at.flow at.waiting e h)
+  event_kind (state.Ended step class value) e own h = cc
+  event_kind (state.Failed step class code) e own h = cc
 
   -- the event by which a flow goes on has in the state the effect that it has on the flow
-  pub effect_at : (flow : FlowState F) (e : Event) (done : Effect F) → slice_get s.flows f ≡ Some flow → event_of f now flow ≡ Some e → effect_on w me s now flow e ≡ Some done → effect_of w me s now e None ≡ Some done
-  effect_at flow e done h k is =
+  pub effect_at : (flow : FlowState F) (e : Event) (done : Effect F) → slice_get s.flows f ≡ Some flow → IsNumbered f flow → enabled_event w s.sessions now flow ≡ Some e → effect_on w me s now flow e ≡ Some done → effect_of w me s now e None ≡ Some done
+  effect_at flow e done h own k is =
       ⊎_elim
       (λ p. ap (λ x. effect_of w me s now x None) p ∙ moves_on flow h ∙ ap (λ x. effect_on w me s now flow x) (sym p) ∙ is)
       (λ p. ap (λ x. effect_of w me s now x None) p ∙ lapses_on flow h ∙ ap (λ x. effect_on w me s now flow x) (sym p) ∙ is)
-      (event_kind flow e k)
+      (event_kind flow e own k)
 
 pub enabled_is_defined : {F : Type 0} → EnabledIsDefined F
 enabled_is_defined w me s now f flow h own = by_state w me s now f (λ e. effect_of w me s now e None) flow own (moves_on w me s now f flow h) (lapses_on w me s now f flow h)
-
-pub narrow_is_defined : {F : Type 0} → NarrowIsDefined F
-narrow_is_defined w narrow me s now f flow h = enabled_at w me s now f narrow flow h

@@ -9,7 +9,6 @@ pub mod Effects
 pub mod Local
 pub mod Merging
 pub mod Faithful
-pub mod Cut
 pub mod Commits
 pub mod Recorded
 pub mod Booked

@@ -112,8 +112,8 @@ abbrev network : (Act Frame → Bool) → Bool → ℕ → Environment Frame
 network performs talks nodes = record { machine = machine; nodes = nodes; notary = party 0; judge = judge_without_contracts; mark = keyed_mark; frame_at = λ bytes. Err 0; performs = performs; talks = talks }
 
 -- nodes that do what nodes do so far
-abbrev narrow : ℕ → Environment Frame
-narrow nodes = network is_act_built false nodes
+abbrev built : ℕ → Environment Frame
+built nodes = network is_act_built true nodes
 
 -- nodes that perform all acts and accept items
 abbrev whole : ℕ → Environment Frame
@@ -139,14 +139,14 @@ flows_after w causes = option_map (λ net. map (λ s. s.flows) net) (run_of w ca
 abbrev sessions_after : Environment Frame → List (ℕ × Cause) → Option (List (List Session))
 sessions_after w causes = option_map (λ net. map (λ s. s.sessions) net) (run_of w causes)
 
-row_two_runs : flows_after (narrow 1) row_two ≡ Some ((state.Ended 1 1 (value.Number 0) ∷ []) ∷ [])
+row_two_runs : flows_after (built 1) row_two ≡ Some ((state.Ended 1 1 (value.Number 0) ∷ []) ∷ [])
 unfolding is_act_built run_of net_step node_step effect_of apply_effect item_from
 row_two_runs = refl
 
 abbrev slept : List (ℕ × Cause)
 slept = at 1 0 (event.Start 0 1 (2 ∷ [])) ∷ at 2 0 (event.Lapse 0) ∷ at 3 0 (event.Lapse 0) ∷ at 4 0 (event.Move 0) ∷ []
 
-slept_runs : flows_after (narrow 1) slept ≡ Some ((state.Ended 3 1 (value.Number 2) ∷ []) ∷ [])
+slept_runs : flows_after (built 1) slept ≡ Some ((state.Ended 3 1 (value.Number 2) ∷ []) ∷ [])
 unfolding is_act_built run_of net_step node_step effect_of apply_effect item_from
 slept_runs = refl
 
@@ -154,12 +154,12 @@ slept_runs = refl
 abbrev subbed : List (ℕ × Cause)
 subbed = at 1 0 (event.Start 0 3 []) ∷ at 2 0 (event.Move 0) ∷ at 3 0 (event.Move 0) ∷ at 4 0 (event.Move 0) ∷ []
 
-subbed_runs : flows_after (narrow 1) subbed ≡ Some ((state.Ended 3 3 (value.Number 7) ∷ []) ∷ [])
+subbed_runs : flows_after (built 1) subbed ≡ Some ((state.Ended 3 3 (value.Number 7) ∷ []) ∷ [])
 unfolding is_act_built run_of net_step node_step effect_of apply_effect item_from
 subbed_runs = refl
 
 -- a stamp that isn't the next one is no step
-not_a_run : run_of (narrow 1) (at 2 0 (event.Start 0 1 (0 ∷ [])) ∷ []) ≡ None
+not_a_run : run_of (built 1) (at 2 0 (event.Start 0 1 (0 ∷ [])) ∷ []) ≡ None
 unfolding is_act_built run_of net_step node_step effect_of apply_effect item_from
 not_a_run = refl
 
@@ -205,7 +205,12 @@ row_four_needs_items : flows_after (network (λ a. true) false 2) row_four ≡ N
 unfolding is_act_built run_of net_step node_step effect_of apply_effect item_from
 row_four_needs_items = refl
 
-row_four_needs_acts : flows_after (network is_act_built true 2) row_four ≡ None
+-- nodes that do what nodes do so far run it too
+row_four_built : sessions_after (built 2) row_four ≡ Some ((opened_session ∷ []) ∷ (answered_session ∷ []) ∷ [])
+unfolding is_act_built run_of net_step node_step effect_of apply_effect item_from
+row_four_built = refl
+
+row_four_needs_acts : flows_after (network (λ a. false) true 2) row_four ≡ None
 unfolding is_act_built run_of net_step node_step effect_of apply_effect item_from
 row_four_needs_acts = refl
 

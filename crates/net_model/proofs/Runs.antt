@@ -7,7 +7,7 @@ use Rattle.net_base.specs.declared.causes.Cause.{Cause}
 use Rattle.net_base.specs.declared.causes.Event.{Event}
 use Rattle.net_base.specs.declared.causes.Event.TheVariants as event
 use Rattle.flow_machine.specs.Machine.{Machine}
-use Rattle.net_model.specs.Environment.{Environment, one_node}
+use Rattle.net_model.specs.Environment.{Environment}
 use Rattle.net_model.specs.State.{NodeState, Effect, fresh}
 use Rattle.net_model.specs.Steps.{node_step}
 use Rattle.net_model.specs.Runs.{net_step, run_from, fresh_net, run_of, merge_two, merge, stamp_of, network_of, item_for, accepts, is_before, at_node, merged_with}
@@ -51,11 +51,6 @@ network_push w causes s done cause h none step =
     let now = rw (merge_one stamp_of causes) at h in
     rw (merge_one stamp_of (causes ++ cause ∷ []), map_push {Y = ℕ × Cause} (λ x. (0, x)) causes cause)
     (run_push w (fresh_net w) (s ∷ []) (done.0 ∷ [], done.1) (map (λ x. (0, x)) causes) 0 cause now (net_step_one w s done cause none step))
-
--- a network of one node without a cause
-pub network_fresh : {F : Type 0} (m : Machine F) (frame_at : List ℕ → Result (F × List ℕ) ℕ) → network_of (one_node m frame_at) ([] ∷ []) ≡ Some (fresh ∷ [])
-unfolding network_of run_of merge
-network_fresh m frame_at = refl
 
 none_left : {X : Type 0} (xs : List X) → length xs ≡ 0 → xs ≡ []
 none_left [] h = refl

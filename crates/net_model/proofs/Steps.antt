@@ -25,8 +25,9 @@ module _ {F : Type 0} (w : Environment F) (me : ℕ) (s : NodeState F) where
       from_map (λ d. (d.0.stamp ≡ cause.stamp) × (s.stamp < cause.stamp)) (λ e. (apply_effect s cause e, e)) (effect_of w me s cause.moment.0 cause.event (body_in item)) done rest (λ e is. (stands s cause e, above)))
 
   -- the next cause is a step where its event has an effect
-  pub steps_on : (now : ℕ) (event : Event) (e : Effect F) → s.stamp + 1 < 2 ^ 63 → s.moment ≤ now → effect_of w me s now event None ≡ Some e
-      → node_step w me s (next_cause s now event) None ≡ Some (apply_effect s (next_cause s now event) e, e)
+  pub steps_on : (now : ℕ) (event : Event) (item : Option Sent) (e : Effect F) → max s.stamp (stamp_in item) + 1 < 2 ^ 63 → s.moment ≤ now → effect_of w me s now event (body_in item) ≡ Some e
+      → node_step w me s (next_cause s now event item) item ≡ Some (apply_effect s (next_cause s now event item) e, e)
   unfolding node_step
-  steps_on now event e small by is =
-      rw (and_from _ _ (eq-eqb (s.stamp + 1) (max s.stamp 0 + 1) (omega arith)) (and_from _ _ (lt-ltb (s.stamp + 1) (2 ^ 63) small) (le-leb s.moment now by)), is) refl
+  steps_on now event item e small by is =
+      let stamp = max s.stamp (stamp_in item) + 1 in
+      rw (and_from _ _ (eq-eqb stamp stamp refl) (and_from _ _ (lt-ltb stamp (2 ^ 63) small) (le-leb s.moment now by)), is) refl

@@ -11,7 +11,6 @@ use Rattle.session_wire.specs.Sessions.{Session}
 use Rattle.session_wire.specs.Rules.{owned, waits_for}
 use Rattle.net_model.specs.Environment.{Environment}
 use Rattle.net_model.specs.Sound.{IsNumbered}
-use Rattle.net_model.specs.Cut.{IsNarrow}
 use Rattle.net_model.specs.State.{NodeState, FlowPart, now_live, now_ended, now_failed, Effect}
 use Rattle.net_model.specs.Steps.{effect_of, performed, lapsed, lapses, checkpoint_of, is_flow_built}
 
@@ -30,31 +29,15 @@ enabled_event w sessions now (state.Live at) = if w.performs at.waiting then ena
 enabled_event w sessions now (state.Ended step class value) = None
 enabled_event w sessions now (state.Failed step class code) = None
 
--- ---- what nodes do so far
-
--- the event that performs an act of flow f at a moment, where it is enabled; only what nodes perform so far is
-abbrev pub performing : {F : Type 0} → ℕ → ℕ → Act F → Option Event
-performing f now (act.Sleep until) = if nat_le until now then Some (event.Lapse f) else None
-performing f now (act.Sub frame) = Some (event.Move f)
-performing f now (act.Return value) = Some (event.Move f)
-performing f now (act.Fail code) = Some (event.Move f)
-performing f now _ = None
-
--- the event by which flow f goes on at a moment, where it is live on an act that is enabled
-abbrev pub event_of : {F : Type 0} → ℕ → ℕ → FlowState F → Option Event
-event_of f now (state.Live at) = performing f now at.waiting
-event_of f now (state.Ended step class value) = None
-event_of f now (state.Failed step class code) = None
-
--- the event by which the first flow goes on that can, where the first of the list is flow f
-abbrev pub first_event : {F : Type 0} → ℕ → ℕ → List (FlowState F) → Option Event
-first_event f now [] = None
-first_event f now (flow ∷ flows) = option_or (event_of f now flow) (first_event (f + 1) now flows)
+-- the event by which the first flow of the list goes on that can
+abbrev pub first_event : {F : Type 0} → Environment F → List Session → ℕ → List (FlowState F) → Option Event
+first_event w sessions now [] = None
+first_event w sessions now (flow ∷ flows) = option_or (enabled_event w sessions now flow) (first_event w sessions now flows)
 
 -- the event by which the picked flow goes on, or the first that can
-abbrev pub picked : {F : Type 0} → ℕ → Option ℕ → List (FlowState F) → Option Event
-picked now (Some f) flows = option_and_then (event_of f now) (slice_get flows f)
-picked now None flows = first_event 0 now flows
+abbrev pub picked : {F : Type 0} → Environment F → List Session → ℕ → Option ℕ → List (FlowState F) → Option Event
+picked w sessions now (Some f) flows = option_and_then (enabled_event w sessions now) (slice_get flows f)
+picked w sessions now None flows = first_event w sessions now flows
 
 -- what becomes of flow f where it is this
 abbrev pub part_of : {F : Type 0} → ℕ → FlowState F → FlowPart F
@@ -76,8 +59,3 @@ effect_on w me s now flow (event.Arrive key direction number) = None
 abbrev pub EnabledIsDefined : (F : Type 0) → Type 0
 EnabledIsDefined F = (w : Environment F) (me : ℕ) (s : NodeState F) (now f : ℕ) (flow : FlowState F) → slice_get s.flows f ≡ Some flow → IsNumbered f flow
     → MatchOption (enabled_event w s.sessions now flow) ((effect_of w me s now (event.Move f) None ≡ None) × (effect_of w me s now (event.Lapse f) None ≡ None)) (λ e. IsSome (effect_of w me s now e None))
-
--- the same of what nodes do so far, where the sessions don't matter
-abbrev pub NarrowIsDefined : (F : Type 0) → Type 0
-NarrowIsDefined F = (w : Environment F) → IsNarrow w → (me : ℕ) (s : NodeState F) (now f : ℕ) (flow : FlowState F) → slice_get s.flows f ≡ Some flow
-    → MatchOption (event_of f now flow) ((effect_of w me s now (event.Move f) None ≡ None) × (effect_of w me s now (event.Lapse f) None ≡ None)) (λ e. IsSome (effect_of w me s now e None))

@@ -42,8 +42,12 @@ identity w me = record { party = party me; nodes = w.nodes; notary = w.notary }
 abbrev pub judge_without_contracts : Tx → Resolved → Verdict
 judge_without_contracts tx resolved = verdict_of (λ id t r. None) tx resolved
 
--- whether nodes perform an act so far: they sleep, they begin a frame and return from one, and they fail
+-- whether nodes perform an act so far: they speak in sessions, they sleep, they begin a frame and return from one, and they fail
 unfoldable pub is_act_built : {F : Type 0} → Act F → Bool
+is_act_built (act.Open to class first) = true
+is_act_built (act.Send key value) = true
+is_act_built (act.Receive key) = true
+is_act_built (act.ReceiveBy key until) = true
 is_act_built (act.Sleep until) = true
 is_act_built (act.Sub frame) = true
 is_act_built (act.Return value) = true
@@ -53,8 +57,4 @@ is_act_built _ = false
 -- the environment of a node of this identity; it knows no contract, and marks are those of the keyed digest. What its nodes do is what
 -- nodes do so far
 abbrev pub environment : {F : Type 0} → Machine F → (List ℕ → Result (F × List ℕ) ℕ) → Identity → Environment F
-environment m frame_at me = record { machine = m; nodes = me.nodes; notary = me.notary; judge = judge_without_contracts; mark = keyed_mark; frame_at = frame_at; performs = is_act_built; talks = false }
-
--- the environment of the one node of a network, which is the notary too
-abbrev pub one_node : {F : Type 0} → Machine F → (List ℕ → Result (F × List ℕ) ℕ) → Environment F
-one_node m frame_at = environment m frame_at (record { party = party 0; nodes = 1; notary = party 0 })
+environment m frame_at me = record { machine = m; nodes = me.nodes; notary = me.notary; judge = judge_without_contracts; mark = keyed_mark; frame_at = frame_at; performs = is_act_built; talks = true }

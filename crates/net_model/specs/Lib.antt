@@ -4,7 +4,6 @@ pub mod Steps
 pub mod Enabled
 pub mod Sound
 pub mod Runs
-pub mod Cut
 pub mod Fits
 pub mod Left
 pub mod Tags

@@ -289,6 +289,6 @@ node_step w me s cause item =
     then option_map (λ e. (apply_effect s cause e, e)) (effect_of w me s cause.moment.0 cause.event (body_in item))
     else None
 
--- the cause of an event that accepts no item
-abbrev pub next_cause : {F : Type 0} → NodeState F → ℕ → Event → Cause
-next_cause s now event = record { stamp = s.stamp + 1; moment = record { 0 = now }; event = event }
+-- the cause of an event that accepts this item, or none
+abbrev pub next_cause : {F : Type 0} → NodeState F → ℕ → Event → Option Sent → Cause
+next_cause s now event item = record { stamp = max s.stamp (stamp_in item) + 1; moment = record { 0 = now }; event = event }

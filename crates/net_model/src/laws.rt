@@ -1,5 +1,4 @@
-ghost use Rattle.net_model.specs.Cut.{FlowsAlone, NoneAccepts, LocalIsAlone, LocalIsMatched};
-ghost use Rattle.net_model.specs.Enabled.{EnabledIsDefined, NarrowIsDefined};
+ghost use Rattle.net_model.specs.Enabled.{EnabledIsDefined};
 ghost use Rattle.net_model.specs.Fits.{StepsFit, FitsKeepSound, FreshIsSound};
 ghost use Rattle.net_model.specs.Left.{LeftFalls};
 ghost use Rattle.net_model.specs.Tags.{NotaryTagsHold};
@@ -7,12 +6,10 @@ ghost use Rattle.net_model.specs.Stores.{RunsHoldStores, StoredIsSigned};
 ghost use Rattle.net_model.specs.Books.{BooksOfRuns, BooksOfJournals};
 ghost use Rattle.net_model.specs.Runs.{MergesInOrder, StampsRise, StepIsItsEffect, ItemsStay, ItemsAreStamped, FaithfulExactly, FaithfulRun, CommitsKeepLocal, CommitsKeepMatched};
 
-/// The law that a flow which keeps its own number goes on, by the event that performs its act, exactly where that event has an effect;
-/// and, of nodes that do what nodes do so far, the same without a look at the sessions.
-#[tactic(auto, using(crate::proofs::Enabled::enabled_is_defined, crate::proofs::Enabled::narrow_is_defined))]
+/// The law that a flow which keeps its own number goes on, by the event that performs its act, exactly where that event has an effect.
+#[tactic(auto, using(crate::proofs::Enabled::enabled_is_defined))]
 pub fn enabled_is_defined<F>()
-    ensures every { EnabledIsDefined F }
-    ensures narrow { NarrowIsDefined F }
+    ensures { EnabledIsDefined F }
 {}
 
 /// The law that along a run of the network the stamps of each node rise, by one at least at each cause.
@@ -101,20 +98,4 @@ pub fn stored_is_signed<F>()
 pub fn books_hold<F>()
     ensures runs { BooksOfRuns F }
     ensures journals { BooksOfJournals F }
-{}
-
-/// The law of nodes that do what nodes do so far (`IsNarrow`): a step of a node without a session changes nothing but its flow, and no
-/// event which accepts an item has an effect.
-#[tactic(auto, using(crate::proofs::Cut::flows_alone, crate::proofs::Cut::none_accepts))]
-pub fn flows_alone<F>()
-    ensures alone { FlowsAlone F }
-    ensures none { NoneAccepts F }
-{}
-
-/// The law of nodes that do what nodes do so far (`IsNarrow`): a journal of a node's own steps changes nothing but flows and accepts
-/// nothing, and so journals which are local are matched.
-#[tactic(auto, using(crate::proofs::Cut::local_is_alone, crate::proofs::Cut::local_is_matched))]
-pub fn local_is_matched<F>()
-    ensures alone { LocalIsAlone F }
-    ensures matched { LocalIsMatched F }
 {}

@@ -1,21 +1,20 @@
 //! The network machine: what a cause does to a node, which causes are a run of the network, and what is printed of it.
 //!
-//! The definitions stand in `specs/`, in this order: `Environment`, `State`, `Steps`, `Enabled`, `Runs`, `Cut`, `Fits`,
-//! `Left`, `Tags`, `Stores`, `Books`, `Print`. Each function here without a body is a law of these definitions, which is its contract;
+//! The definitions stand in `specs/`, in this order: `Environment`, `State`, `Steps`, `Enabled`, `Runs`, `Fits`, `Left`,
+//! `Tags`, `Stores`, `Books`, `Print`. Each function here without a body is a law of these definitions, which is its contract;
 //! `merge` puts the causes of all nodes into the order of their run, and `copy_cause` copies one.
 //!
-//! Which acts nodes perform, and whether they accept items, is part of the environment. A law holds whatever is said there, but where it
-//! names a premise: `flows_alone`, `local_is_matched` and the clause `narrow` of `enabled_is_defined` hold of nodes that do what nodes do
-//! so far, as `environment` says it.
+//! Which acts nodes perform, and whether they accept items, is part of the environment; each law holds whatever is said there. What nodes do
+//! so far is what `environment` says.
 #![tactic(auto)]
 
 mod laws;
 mod ordering;
 
 pub use laws::{
-    books_hold, commits_keep, enabled_is_defined, faithful_exactly, faithful_run, flows_alone,
-    items_stay, left_falls, local_is_matched, merges_in_order, notary_tags_hold, stamps_rise,
-    step_is_its_effect, steps_fit, stored_is_signed, stores_hold,
+    books_hold, commits_keep, enabled_is_defined, faithful_exactly, faithful_run, items_stay,
+    left_falls, merges_in_order, notary_tags_hold, stamps_rise, step_is_its_effect, steps_fit,
+    stored_is_signed, stores_hold,
 };
 pub use ordering::{copy_cause, merge};
 

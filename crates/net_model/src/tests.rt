@@ -22,8 +22,6 @@ fn the_laws_hold_of_the_counting_flow() {
     stores_hold::<Counter>();
     stored_is_signed::<Counter>();
     books_hold::<Counter>();
-    flows_alone::<Counter>();
-    local_is_matched::<Counter>();
 }
 
 /// Moves of flow 7 under these stamps.
