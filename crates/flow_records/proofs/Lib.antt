@@ -2,6 +2,5 @@ pub mod Whole
 pub mod Sizes
 pub mod Meaning
 pub mod Checkpoints
-pub mod Told
 pub mod Stepping
 pub mod Lengths

@@ -4,19 +4,16 @@ use Rattle.std.specs.Prelude.{IfOk}
 use Rattle.std.proofs.lemmas.Bool.{leb-true, le-leb}
 use Rattle.net_base.specs.declared.causes.Cause.{Cause}
 use Rattle.net_base.specs.Reading.{IsBytes}
-use Rattle.net_base.specs.declared.names.Key.{Key}
 use Rattle.session_wire.specs.declared.change.SessionChange.{SessionChange}
 use Rattle.session_wire.specs.declared.effect.Effect.{Effect as Spoken}
 use Rattle.transition_record.specs.Records.{IsRecord, record_text, record_at, record_laws}
 use Rattle.session_wire.specs.declared.effect.FlowPart.{FlowPart as SpokenPart}
-use Rattle.flow_machine.specs.declared.flows.FlowState.{FlowState}
 use Rattle.transition_record.specs.Causes.{IsCause, came_key_of}
 use Rattle.transition_record.specs.Changes.{IsSession, session_text}
 use Rattle.net_model.specs.State.{FlowPart}
-use Rattle.flow_records.specs.Records.{whole, record_over, record_of, effect_to}
-use Rattle.flow_records.specs.Spelling.{is_over, lone, IsPartOf}
+use Rattle.flow_records.specs.Records.{whole, record_over, record_of}
 use Rattle.flow_records.specs.declared.step.FlowAfter.{FlowAfter}
-use Rattle.flow_records.specs.Steps.{effect_by, change_by, owner_of, ends_with, spoken_by, no_session, IsPartAfter}
+use Rattle.flow_records.specs.Steps.{effect_by, change_by, owner_of, ends_with, spoken_by, IsPartAfter}
 use Rattle.flow_records.proofs.Sizes.{spoken_fits}
 use Rattle.flow_records.proofs.Whole.{whole_again, whole_takes}
 
@@ -65,29 +62,3 @@ step_means {F} frame_at cause flow p s hc h hs few bytes is =
 pub step_written : {F E : Type 0} (frame_at : List ℕ → Result (F × List ℕ) ℕ) (cause : Cause) (flow : Option (FlowAfter F)) (p : SpokenPart) (s : SessionChange) → IsCause cause → IsPartAfter frame_at flow p → IsSession (owner_of flow) (came_key_of cause.event) s → length (session_text s) ≤ 50000 → (r : Result (List ℕ) E) → IfOk r (λ bytes. bytes ≡ record_text cause (spoken_by p s (owner_of flow) (ends_with flow))) → IfOk r (λ bytes. record_of frame_at bytes ≡ Some (record { cause = cause; effect = effect_by flow s }))
 step_written frame_at cause flow p s hc h hs few (Ok bytes) is = step_means frame_at cause flow p s hc h hs few bytes is
 step_written frame_at cause flow p s hc h hs few (Err e) is = is
-
--- ---- a flow alone
-
--- the flow of that number is this afterwards
-abbrev pub flow_to : {F : Type 0} → ℕ → FlowState F → Option (FlowAfter F)
-flow_to number flow = Some (record { number = number; state = flow })
-
--- what is spelt of a flow, as that of a step to it
-pub of_flow : {F : Type 0} (frame_at : List ℕ → Result (F × List ℕ) ℕ) (number : ℕ) (flow : FlowState F) (p : SpokenPart) → IsPartOf frame_at number flow p → IsPartAfter frame_at (flow_to number flow) p
-of_flow frame_at number flow p h = record { limits = h.limits; flow_is = h.flow_is; over_is = h.over_is; means = h.means; short = h.short }
-
--- no change of sessions is one
-still_session : (owner : ℕ) (came_key : Option Key) → IsSession owner came_key (no_session owner came_key)
-still_session owner came_key = ((tt, ((omega arith, tt), (tt, tt))), (refl, refl))
-
--- what is spelt of a flow makes a record
-pub lone_is_record : {F : Type 0} (frame_at : List ℕ → Result (F × List ℕ) ℕ) (cause : Cause) (number : ℕ) (flow : FlowState F) (p : SpokenPart) → IsCause cause → IsPartOf frame_at number flow p → IsRecord cause (lone cause number (is_over flow) p)
-lone_is_record frame_at cause number flow p hc h =
-    let key = came_key_of cause.event in
-    step_is_record frame_at cause (flow_to number flow) p (no_session number key) hc (of_flow frame_at number flow p h) (still_session number key) (omega arith)
-
--- and those that were written mean that flow
-pub written_means : {F E : Type 0} (frame_at : List ℕ → Result (F × List ℕ) ℕ) (cause : Cause) (number : ℕ) (flow : FlowState F) (p : SpokenPart) → IsCause cause → IsPartOf frame_at number flow p → (r : Result (List ℕ) E) → IfOk r (λ bytes. bytes ≡ record_text cause (lone cause number (is_over flow) p)) → IfOk r (λ bytes. record_of frame_at bytes ≡ Some (record { cause = cause; effect = effect_to number flow }))
-written_means frame_at cause number flow p hc h r is =
-    let key = came_key_of cause.event in
-    step_written frame_at cause (flow_to number flow) p (no_session number key) hc (of_flow frame_at number flow p h) (still_session number key) (omega arith) r is

@@ -1,7 +1,10 @@
 -- Of which step a record tells.
-use Rattle.std.proofs.Common.{◌≡◌, ℕ, Bool, true, false, List, Option, Some, None, Result, refl, sym, ◌∙◌, option_map, if◌then◌else◌}
+use Rattle.std.proofs.Common.{◌≡◌, ℕ, ◌==◌, ◌&&◌, Bool, true, false, List, [], ◌∷◌, length, Option, Some, None, Result, refl, sym, ◌∙◌, arith, is_none, option_map, if◌then◌else◌}
 use Rattle.std.specs.Prelude.{IfSome}
 use Rattle.net_base.specs.declared.causes.Cause.{Cause}
+use Rattle.net_base.specs.declared.names.StateRef.{StateRef}
+use Rattle.ledger_types.specs.declared.tx.SignedTx.{SignedTx}
+use Rattle.ledger_types.specs.declared.notary.Entry.{Entry}
 use Rattle.session_wire.specs.declared.effect.Effect.{Effect as Spoken}
 use Rattle.transition_record.specs.Causes.{IsCause, came_key_of}
 use Rattle.transition_record.specs.Changes.{part_flow, IsSession}
@@ -10,15 +13,50 @@ use Rattle.flow_records.specs.declared.step.FlowAfter.{FlowAfter}
 use Rattle.flow_records.specs.Records.{flow_part, change_of, record_over}
 use Rattle.flow_records.specs.Alone.{leaves_ledger}
 use Rattle.flow_records.specs.Telling.{leaves_ledger_of}
-use Rattle.flow_records.specs.Steps.{part_after, change_by, besides_ledger, owner_of, step_with, TellsAfter, TellsStep, FlowsAreSteps}
-use Rattle.flow_records.proofs.Told.{ledger_still, passed}
+use Rattle.flow_records.specs.Steps.{part_after, change_by, besides_ledger, owner_of, step_with, TellsAfter, TellsStep}
 
--- ---- the law
+-- ---- the ledger
 
-pub flows_are_steps : {F : Type 0} → FlowsAreSteps F
-flows_are_steps cause number flow = refl
+-- a list of none
+no_items : {X : Type 0} (xs : List X) → (length xs == 0) ≡ true → xs ≡ []
+no_items [] h = refl
+no_items (x ∷ xs) h = absurd (grind (arith, h))
+
+-- a value that lacks
+no_value : {X : Type 0} (o : Option X) → is_none o ≡ true → o ≡ None
+no_value None h = refl
+no_value (Some x) h = absurd cc
+
+-- both hold
+left : (a b : Bool) → (a && b) ≡ true → a ≡ true
+left true b h = refl
+left false b h = h
+
+right : (a b : Bool) → (a && b) ≡ true → b ≡ true
+right true b h = h
+right false b h = absurd cc
+
+-- nothing is recorded, locked or booked
+record IsStill (recorded : Option SignedTx) (locked : List StateRef) (booked : Option Entry) : Type 0 where
+  recorded_is : recorded ≡ None
+  locked_is : locked ≡ []
+  booked_is : booked ≡ None
+
+-- where the ledger is left, nothing is
+ledger_still : (recorded : Option SignedTx) (locked : List StateRef) (booked : Option Entry) → (is_none recorded && (length locked == 0 && is_none booked)) ≡ true → IsStill recorded locked booked
+ledger_still recorded locked booked h =
+    let rest = right (is_none recorded) _ h in record {
+      recorded_is = no_value recorded (left (is_none recorded) _ h);
+      locked_is = no_items locked (left (length locked == 0) _ rest);
+      booked_is = no_value booked (right (length locked == 0) _ rest);
+    }
 
 -- ---- a record
+
+-- what a test lets through passed it
+passed : {X : Type 0} (b : Bool) (o : Option X) (x : X) → (if b then o else None) ≡ Some x → (b ≡ true) × (o ≡ Some x)
+passed true o x h = (refl, h)
+passed false o x h = absurd cc
 
 -- a part of a record over this change
 abbrev with_part : {F : Type 0} → Cause → Change → FlowPart F → Record F

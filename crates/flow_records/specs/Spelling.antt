@@ -1,11 +1,8 @@
--- What is spelt for a flow and for nothing else.
-use Rattle.std.specs.Prelude.{◌≡◌, ◌≤◌, ℕ, Bool, true, false, List, [], length, Some, None, Result}
-use Rattle.net_base.specs.declared.causes.Cause.{Cause}
-use Rattle.session_wire.specs.declared.effect.Effect.{Effect as Spoken}
+-- What is spelt of a flow.
+use Rattle.std.specs.Prelude.{◌≡◌, ◌≤◌, ℕ, Bool, true, false, List, length, Some, Result}
 use Rattle.session_wire.specs.declared.effect.FlowPart.{FlowPart as SpokenPart}
 use Rattle.flow_machine.specs.declared.flows.FlowState.{FlowState}
 use Rattle.flow_machine.specs.declared.flows.FlowState.TheVariants as state
-use Rattle.transition_record.specs.Causes.{came_key_of}
 use Rattle.transition_record.specs.Changes.{IsFlowPart, part_text, part_flow, part_over}
 use Rattle.net_model.specs.Enabled.{part_of}
 use Rattle.flow_records.specs.Records.{flow_part}
@@ -15,14 +12,6 @@ abbrev pub is_over : {F : Type 0} → FlowState F → Bool
 is_over (state.Live at) = false
 is_over (state.Ended step class value) = true
 is_over (state.Failed step class code) = true
-
--- the effect of a cause by which this becomes of a flow, and by which nothing else changes
-abbrev pub lone : Cause → ℕ → Bool → SpokenPart → Spoken
-lone cause owner ended flow = record {
-  flow = flow;
-  session = record { opened = None; owner = owner; sent = []; came = None; came_key = came_key_of cause.event; taken = None };
-  ledger = record { recorded = None; locked = []; owner = owner; ended = ended; booked = None };
-}
 
 -- what is spelt of the flow of a number where it is this: it is read as that flow again, and is short
 pub record IsPartOf {F : Type 0} (frame_at : List ℕ → Result (F × List ℕ) ℕ) (number : ℕ) (flow : FlowState F) (p : SpokenPart) : Type 0 where

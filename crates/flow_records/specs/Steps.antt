@@ -1,7 +1,6 @@
 -- Records that tell of a flow or of none, and of sessions, and of nothing of the ledger.
 use Rattle.std.specs.Prelude.{◌≡◌, ◌≤◌, ℕ, Bool, true, false, List, [], length, filter, Option, Some, None, IfSome, MatchOption, Result, if◌then◌else◌}
 use Rattle.net_base.specs.declared.causes.Cause.{Cause}
-use Rattle.net_base.specs.declared.names.Key.{Key}
 use Rattle.ledger_types.specs.declared.change.LedgerChange.{LedgerChange}
 use Rattle.session_wire.specs.declared.body.Body.{Body}
 use Rattle.session_wire.specs.declared.body.Body.TheVariants as body
@@ -18,7 +17,7 @@ use Rattle.net_model.specs.Enabled.{part_of}
 use Rattle.net_model.specs.Sound.{IsNumbered}
 use Rattle.flow_records.specs.declared.step.FlowAfter.{FlowAfter}
 use Rattle.flow_records.specs.declared.step.Step.{Step}
-use Rattle.flow_records.specs.Records.{flow_part, effect_to, IsFlow}
+use Rattle.flow_records.specs.Records.{flow_part, IsFlow}
 use Rattle.flow_records.specs.Alone.{leaves_ledger}
 use Rattle.flow_records.specs.Spelling.{is_over}
 
@@ -111,14 +110,6 @@ abbrev pub TellsAfter : {F : Type 0} → (F → Type 0) → Option (FlowPart F) 
 TellsAfter within told r = MatchOption r (told ≡ None) (λ flow. (told ≡ Some (part_after flow)) × IfSome flow (IsAfter within))
 
 -- ---- laws
-
--- nothing changes of sessions, by this flow and in this session of the accepted item
-abbrev pub no_session : ℕ → Option Key → SessionChange
-no_session owner came_key = record { opened = None; owner = owner; sent = []; came = None; came_key = came_key; taken = None }
-
--- the record of a flow and of nothing else is that of the step that changes nothing of sessions
-abbrev pub FlowsAreSteps : (F : Type 0) → Type 0
-FlowsAreSteps F = (cause : Cause) (number : ℕ) (state : FlowState F) → record { cause = cause; effect = effect_to number state } ≡ step_record (record { cause = cause; flow = Some (record { number = number; state = state }); session = no_session number (came_key_of cause.event) })
 
 -- whether an item carries a value
 abbrev pub carries_value : Body → Bool

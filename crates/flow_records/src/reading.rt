@@ -1,16 +1,16 @@
-//! What the bytes of a record tell of.
+//! What the bytes of a record tell of beside the ledger.
 
-ghost use Rattle.std.specs.Prelude.{◌≡◌, ℕ, List, Bool, Option, Some, None, IfOk, IfSome, MatchOption, option_map};
+ghost use Rattle.std.specs.Prelude.{◌≡◌, ◌≤◌, ℕ, length, List, Bool, Option, Some, None, IfOk, IfSome, option_map, if◌then◌else◌};
 ghost use Rattle.transition_record.specs.Causes.{IsCause};
-ghost use Rattle.transition_record.specs.Changes.{IsFlowPart, checkpoint_flow, part_flow};
-ghost use Rattle.net_model.specs.Sound.{IsNumbered};
+ghost use Rattle.transition_record.specs.Changes.{IsFlowPart, checkpoint_flow, part_flow, session_text};
+ghost use Rattle.transition_record.specs.Records.{IsEffect};
 ghost use Rattle.flow_machine.specs.declared.flows.FlowState.TheVariants.{Live};
 ghost use Rattle.flow_machine.specs.Checkpoints.{IsCheckpoint, checkpoint_at};
-ghost use Rattle.flow_records.specs.Records.{whole, flow_part, record_over, record_of, effect_to, IsFlow};
-ghost use Rattle.flow_records.specs.Alone.{alone};
-ghost use Rattle.flow_records.specs.Telling.{leaves_sessions_of, leaves_ledger_of, flow_alone, caused_by, TellsFlow};
+ghost use Rattle.flow_records.specs.Records.{whole, flow_part, record_over, record_of};
+ghost use Rattle.flow_records.specs.Telling.{leaves_ledger_of, TellsFlow};
+ghost use Rattle.flow_records.specs.Steps.{is_absent, after_told, owner_of, step_with, TellsAfter, TellsStep};
 
-use crate::transition::Transition;
+use crate::step::{FlowAfter, Step};
 use flow_machine::{Checkpoint, FlowState};
 use ledger_types::LedgerChange;
 use net_base::{Cause, DecodeFault, Spelt, decode_whole};
@@ -18,18 +18,8 @@ use session_wire::{Effect, FlowPart, SessionChange};
 use std::alloc::{AllocError, Global};
 use transition_record::decode_record;
 
-/// Whether nothing was opened, sent, accepted or taken.
-fn leaves_sessions(change: &SessionChange) -> bool
-    ensures { result ≡ leaves_sessions_of change.now }
-{
-    change.opened.is_none()
-        && change.sent.len() == 0
-        && change.came.is_none()
-        && change.taken.is_none()
-}
-
 /// Whether nothing was recorded, locked or booked.
-pub(crate) fn leaves_ledger(change: &LedgerChange) -> bool
+fn leaves_ledger(change: &LedgerChange) -> bool
     ensures { result ≡ leaves_ledger_of change.now }
 {
     change.recorded.is_none() && change.locked.len() == 0 && change.booked.is_none()
@@ -59,7 +49,7 @@ fn live<F: Drop>(at: Checkpoint<F>) -> (u32, FlowState<F>)
 }
 
 /// The flow of which a part tells, and its number.
-pub(crate) fn flow_after<F: Spelt + Drop>(
+fn flow_after<F: Spelt + Drop>(
     alloc: Global,
     part: FlowPart,
 ) -> Result<Option<(u32, FlowState<F>)>, AllocError>
@@ -87,58 +77,120 @@ pub(crate) fn flow_after<F: Spelt + Drop>(
     }
 }
 
-/// The flow of which an effect tells, and its number, where it changes nothing else.
-fn flow_alone<F: Spelt + Drop>(
+/// Whether the part tells of no flow.
+fn is_absent(part: &FlowPart) -> bool
+    ensures { result ≡ is_absent part.now }
+{
+    match part {
+        FlowPart::Absent => true,
+        FlowPart::Live { .. } | FlowPart::Ended { .. } | FlowPart::Failed { .. } => false,
+    }
+}
+
+/// The flow that was told, or that a part tells of none; `None` where it should tell of a flow and doesn't.
+fn after_told<F: Drop>(
+    absent: bool,
+    told: Option<(u32, FlowState<F>)>,
+) -> Option<Option<FlowAfter<F>>>
+    ensures { result ≡ after_told absent told }
+{
+    match told {
+        None => { if absent { Some(None) } else { None } }
+        Some((number, state)) => Some(Some(FlowAfter { number, state })),
+    }
+}
+
+/// The flow of which a part tells, or that it tells of none; `None` where its checkpoint is none of the flow set's.
+fn part_told<F: Spelt + Drop>(
     alloc: Global,
+    part: FlowPart,
+) -> Result<Option<Option<FlowAfter<F>>>, AllocError>
+    requires { IsFlowPart part }
+    ensures tells { IfOk result (TellsAfter F.within (flow_part F.reading part)) }
+    ensures own { IfOk result (λ r. IfSome r (λ flow. owner_of flow ≡ part_flow part)) }
+{
+    let absent = is_absent(&part);
+    let told = flow_after(alloc, part)?;
+    Ok(after_told(absent, told))
+}
+
+/// The same where the ledger stays as it is, else `None`.
+fn part_told_if<F: Spelt + Drop>(
+    alloc: Global,
+    still: bool,
+    part: FlowPart,
+) -> Result<Option<Option<FlowAfter<F>>>, AllocError>
+    requires { IsFlowPart part }
+    ensures tells { IfOk result (TellsAfter F.within (if still then flow_part F.reading part else None)) }
+    ensures own { IfOk result (λ r. IfSome r (λ flow. owner_of flow ≡ part_flow part)) }
+{
+    if still {
+        part_told(alloc, part)
+    } else {
+        drop(part);
+        Ok(None)
+    }
+}
+
+/// The step of a cause, the flow after it, and what it changes in the sessions, where the flow was told.
+fn joined<F: Drop>(
+    told: Option<Option<FlowAfter<F>>>,
+    cause: Cause,
+    session: SessionChange,
+) -> Option<Step<F>>
+    ensures { result ≡ option_map (step_with cause session) told }
+{
+    match told {
+        None => {
+            drop(session);
+            None
+        }
+        Some(flow) => Some(Step {
+            cause,
+            flow,
+            session,
+        }),
+    }
+}
+
+/// The step of a cause and its effect, `None` where the effect changes the ledger or its checkpoint is none of the flow set's.
+fn step_of<F: Spelt + Drop>(
+    alloc: Global,
+    cause: Cause,
     effect: Effect,
-) -> Result<Option<(u32, FlowState<F>)>, AllocError>
-    requires { IsFlowPart effect.flow }
-    ensures { IfOk result (TellsFlow F.within (flow_alone F.reading effect)) }
+) -> Result<Option<Step<F>>, AllocError>
+    requires cause { IsCause cause }
+    requires effect { IsEffect cause effect }
+    ensures tells { IfOk result (TellsStep F.within (record_over F.reading cause effect)) }
+    ensures session { IfOk result (λ r. IfSome r (λ step. step.session ≡ effect.session)) }
 {
     let Effect {
         flow,
         session,
         ledger,
     } = effect;
-    let still = leaves_sessions(&session) && leaves_ledger(&ledger);
-    drop(session);
+    let still = leaves_ledger(&ledger);
     drop(ledger);
-    if still {
-        flow_after(alloc, flow)
-    } else {
-        drop(flow);
-        Ok(None)
-    }
+    let told = part_told_if(alloc, still, flow)?;
+    Ok(joined(told, cause, session))
 }
 
-/// The cause with the flow after it.
-fn caused<F: Drop>(cause: Cause, flow: Option<(u32, FlowState<F>)>) -> Option<Transition<F>>
-    ensures { result ≡ option_map (caused_by cause) flow }
-{
-    match flow {
-        None => None,
-        Some((number, state)) => Some(Transition {
-            cause,
-            number,
-            state,
-        }),
-    }
-}
-
-/// What the bytes tell of: `None` exactly where they are no record, where their checkpoint is none of the flow set's, and where they
-/// tell of no flow or of anything beside it.
+/// The step whose record the bytes are: `None` exactly where they are no record, where their checkpoint is none of the flow set's,
+/// and where they change the ledger. The bytes of what the step changes in the sessions
+/// are a part of the record's.
 ///
 /// # Errors
 ///
 /// Want of memory.
-pub fn read<F: Spelt + Drop>(
+pub fn read_step<F: Spelt + Drop>(
     alloc: Global,
     bytes: &[u8],
-) -> Result<Option<Transition<F>>, AllocError>
-    ensures { IfOk result (λ r. MatchOption r (alone (record_of F.reading bytes.now) ≡ None) (λ t. (record_of F.reading bytes.now ≡ Some (record { cause = t.cause; effect = effect_to t.number t.state })) × IsCause t.cause × IsFlow F.within t.state × IsNumbered t.number t.state)) }
+) -> Result<Option<Step<F>>, AllocError>
+    ensures tells { IfOk result (TellsStep F.within (record_of F.reading bytes.now)) }
+    ensures few { IfOk result (λ r. IfSome r (λ step. length (session_text step.session) ≤ length bytes.now)) }
 {
     match decode_record(alloc, bytes) {
-        Ok((cause, effect)) => Ok(caused(cause, flow_alone(alloc, effect)?)),
+        Ok((cause, effect)) => step_of(alloc, cause, effect),
         Err(DecodeFault::Memory) => Err(AllocError),
         Err(DecodeFault::Malformed { .. }) => Ok(None),
     }

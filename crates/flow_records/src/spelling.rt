@@ -1,36 +1,26 @@
-//! The bytes of a record of a flow.
+//! The bytes of a record of a flow or of none, and of sessions.
 
-ghost use Rattle.std.specs.Prelude.{◌≡◌, ◌≤◌, ℕ, List, Some, IfOk, length};
+ghost use Rattle.std.specs.Prelude.{◌≡◌, ◌≤◌, ℕ, List, Some, IfOk, IfSome, length};
 ghost use Rattle.flow_machine.specs.Limits.{IsAct};
+ghost use Rattle.flow_machine.specs.Checkpoints.{IsCheckpoint, checkpoint_text};
 ghost use Rattle.transition_record.specs.Causes.{IsCause, came_key_of};
-ghost use Rattle.transition_record.specs.Changes.{IsFlowPart, part_text, part_flow, part_over};
+ghost use Rattle.transition_record.specs.Changes.{IsFlowPart, part_text, part_flow, part_over, IsSession, session_text};
 ghost use Rattle.net_model.specs.Enabled.{part_of};
 ghost use Rattle.net_model.specs.Sound.{IsNumbered};
-ghost use Rattle.flow_machine.specs.Checkpoints.{IsCheckpoint, checkpoint_text};
-ghost use Rattle.flow_records.specs.Records.{record_of, flow_part, effect_to, IsFlow};
-ghost use Rattle.flow_records.specs.Spelling.{lone, is_over, IsPartOf};
-ghost use Rattle.flow_records.specs.Steps.{no_ledger};
+ghost use Rattle.flow_records.specs.Records.{record_of, flow_part, IsFlow};
+ghost use Rattle.flow_records.specs.Spelling.{is_over, IsPartOf};
+ghost use Rattle.flow_records.specs.Steps.{step_record, no_ledger, owner_of, ends_with, IsAfter, IsPartAfter};
 
+use crate::step::{FlowAfter, Step};
 use flow_machine::{Checkpoint, FlowSet, FlowState};
 use ledger_types::LedgerChange;
-use net_base::{ByteList, Cause, Event, Key, ListOf};
-use session_wire::{Effect, FlowPart, SessionChange};
+use net_base::{ByteList, ListOf};
+use session_wire::FlowPart;
 use std::alloc::{AllocError, Global};
-use transition_record::{encode_record, writer_with_room};
-
-/// The session of the item that an event accepts.
-fn came_key(event: &Event) -> Option<Key>
-    ensures { result ≡ came_key_of event.now }
-{
-    match event {
-        Event::Answer { key } => Some(*key),
-        Event::Arrive { key, .. } => Some(*key),
-        Event::Start { .. } | Event::Move { .. } | Event::Lapse { .. } => None,
-    }
-}
+use transition_record::{encode_parts, writer_with_room};
 
 /// Whether the flow has ended or failed.
-pub(crate) fn is_over<F>(state: &FlowState<F>) -> bool
+fn is_over<F>(state: &FlowState<F>) -> bool
     ensures { result ≡ is_over state.now }
 {
     match state {
@@ -50,7 +40,7 @@ fn spell_checkpoint<F: FlowSet>(alloc: Global, at: &Checkpoint<F>) -> Result<Byt
 }
 
 /// What becomes of the flow of the number where it is this.
-pub(crate) fn part_of_flow<F: FlowSet>(
+fn part_of_flow<F: FlowSet>(
     alloc: Global,
     number: u32,
     state: &FlowState<F>,
@@ -79,7 +69,7 @@ pub(crate) fn part_of_flow<F: FlowSet>(
 }
 
 /// Nothing changes of the ledger, by the flow of the number, which is over or not.
-pub(crate) fn no_ledger(alloc: Global, number: u32, ended: bool) -> LedgerChange
+fn no_ledger(alloc: Global, number: u32, ended: bool) -> LedgerChange
     ensures { result ≡ no_ledger number ended }
 {
     LedgerChange {
@@ -91,45 +81,58 @@ pub(crate) fn no_ledger(alloc: Global, number: u32, ended: bool) -> LedgerChange
     }
 }
 
-/// The effect of a cause by which this becomes of the flow of the number, and by which nothing else changes.
-fn effect_with(alloc: Global, cause: &Cause, number: u32, ended: bool, flow: FlowPart) -> Effect
-    ensures { result ≡ lone cause.now number ended flow }
+/// The flow that owns what a step makes, 0 where it changes none.
+fn owner_of<F>(flow: &Option<FlowAfter<F>>) -> u32
+    ensures { result ≡ owner_of flow.now }
 {
-    Effect {
-        flow,
-        session: SessionChange {
-            opened: None,
-            owner: number,
-            sent: ListOf::new(alloc),
-            came: None,
-            came_key: came_key(&cause.event),
-            taken: None,
-        },
-        ledger: no_ledger(alloc, number, ended),
+    match flow {
+        None => 0,
+        Some(after) => after.number,
     }
 }
 
-/// The bytes of the record of a cause by which the flow of the number is this one afterwards, and by which nothing else changes. They
-/// are at most 524,288.
+/// Whether the flow is over with the step.
+fn ends_with<F>(flow: &Option<FlowAfter<F>>) -> bool
+    ensures { result ≡ ends_with flow.now }
+{
+    match flow {
+        None => false,
+        Some(after) => is_over(&after.state),
+    }
+}
+
+/// What becomes of the flow.
+fn part_after<F: FlowSet>(
+    alloc: Global,
+    flow: &Option<FlowAfter<F>>,
+) -> Result<FlowPart, AllocError>
+    requires { IfSome flow.now (IsAfter F.within) }
+    ensures { IfOk result (IsPartAfter F.reading flow.now) }
+{
+    match flow {
+        None => Ok(FlowPart::Absent),
+        Some(after) => part_of_flow(alloc, after.number, &after.state),
+    }
+}
+
+/// The bytes of the record of a step. They are at most 524,288, since what changes in the sessions is spelt in at most 50,000: an act
+/// opens one session at most, sends one item of its own, and ends no more than 65 sessions.
 ///
 /// # Errors
 ///
 /// Want of memory.
-pub fn spell<F: FlowSet>(
-    alloc: Global,
-    cause: &Cause,
-    number: u32,
-    state: &FlowState<F>,
-) -> Result<ByteList, AllocError>
-    requires cause { IsCause cause.now }
-    requires state { IsFlow F.within state.now }
-    requires own { IsNumbered number state.now }
-    ensures record { IfOk result (λ bytes. record_of F.reading bytes ≡ Some (record { cause = cause.now; effect = effect_to number state.now })) }
+pub fn spell_step<F: FlowSet>(alloc: Global, step: &Step<F>) -> Result<ByteList, AllocError>
+    requires cause { IsCause step.now.cause }
+    requires flow { IfSome step.now.flow (IsAfter F.within) }
+    requires session { IsSession (owner_of step.now.flow) (came_key_of step.now.cause.event) step.now.session }
+    requires few { length (session_text step.now.session) ≤ 50000 }
+    ensures record { IfOk result (λ bytes. record_of F.reading bytes ≡ Some (step_record step.now)) }
     ensures size { IfOk result (λ bytes. length bytes ≤ 524288) }
 {
-    let part = part_of_flow(alloc, number, state)?;
-    let effect = effect_with(alloc, cause, number, is_over(state), part);
-    let bytes = encode_record(alloc, cause, &effect);
-    drop(effect);
+    let part = part_after(alloc, &step.flow)?;
+    let ledger = no_ledger(alloc, owner_of(&step.flow), ends_with(&step.flow));
+    let bytes = encode_parts(alloc, &step.cause, &part, &step.session, &ledger);
+    drop(part);
+    drop(ledger);
     bytes
 }

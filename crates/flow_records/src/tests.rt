@@ -1,18 +1,16 @@
 //! Records against bytes that were worked out by hand. What holds a flow is let go without its destructor: a proof of a test would go
 //! through each kind of value that may stand in it.
 
-ghost use Rattle.std.specs.Prelude.{◌≤◌, length};
+ghost use Rattle.std.specs.Prelude.{◌≡◌, ◌≤◌, [], None, length};
 ghost use Rattle.flow_machine.specs.Counter.{IsCounter};
 ghost use Rattle.net_model.specs.Sound.{IsNumbered};
 ghost use Rattle.flow_records.specs.Records.{IsFlow};
 
-use crate::{
-    Step, Transition, alone_tells_of_a_flow, effects_are_alone, few_values_are_short,
-    flows_are_steps, read, read_step, spell, spell_step,
-};
+use crate::{FlowAfter, Step, few_values_are_short, read_step, spell_step};
 use flow_machine::{Act, Checkpoint, Counter, FlowState, Phase, Stack};
 use ledger_types::Value;
 use net_base::{ByteList, Cause, Event, ListOf, Moment};
+use session_wire::SessionChange;
 use std::alloc::{AllocError, Global};
 use std::mem;
 use std::test::Fail;
@@ -78,6 +76,20 @@ fn counting(alloc: Global) -> FlowState<Counter>
     })
 }
 
+/// Nothing changes of sessions, by flow 0.
+fn no_session(alloc: Global) -> SessionChange
+    ensures { result ≡ record { opened = None; owner = 0; sent = []; came = None; came_key = None; taken = None } }
+{
+    SessionChange {
+        opened: None,
+        owner: 0,
+        sent: ListOf::new(alloc),
+        came: None,
+        came_key: None,
+        taken: None,
+    }
+}
+
 /// The record of its start.
 fn started(alloc: Global) -> Result<ByteList, AllocError> {
     let args = ListOf::from_vec(vec![in alloc; 0u8, 0, 0, 0]?);
@@ -91,95 +103,53 @@ fn started(alloc: Global) -> Result<ByteList, AllocError> {
         moment: Moment(0),
         event,
     };
-    let state = counting(alloc);
-    let bytes = spell(alloc, &cause, 0, &state);
-    mem::forget(state);
+    let after = FlowAfter {
+        number: 0,
+        state: counting(alloc),
+    };
+    let step = Step {
+        cause,
+        flow: Some(after),
+        session: no_session(alloc),
+    };
+    let bytes = spell_step(alloc, &step);
+    mem::forget(step);
     bytes
-}
-
-/// What is told, in few words: the number, the step, and how the flow stands.
-fn summary(told: &Transition<Counter>) -> (u32, u32, u8) {
-    match &told.state {
-        FlowState::Live(at) => (told.number, at.step, 1),
-        FlowState::Ended { step, .. } => (told.number, *step, 2),
-        FlowState::Failed { step, .. } => (told.number, *step, 3),
-    }
-}
-
-/// What the bytes tell of, and the bytes of the record that tells the same.
-fn told_again(
-    alloc: Global,
-    bytes: &[u8],
-) -> Result<Option<((u32, u32, u8), ByteList)>, AllocError> {
-    match read::<Counter>(alloc, bytes)? {
-        None => Ok(None),
-        Some(told) => {
-            let words = summary(&told);
-            let again = spell(alloc, &told.cause, told.number, &told.state);
-            mem::forget(told);
-            Ok(Some((words, again?)))
-        }
-    }
 }
 
 #[test]
 fn a_start_has_its_bytes(rt: HostRuntime) -> Result<(), Fail> {
-    effects_are_alone::<Counter>();
-    alone_tells_of_a_flow::<Counter>();
     let bytes = started(rt.alloc())?;
     let expected = hex::decode(rt.alloc(), STARTED)?;
     assert_eq!(rt; bytes.as_slice(), expected.as_slice());
     Ok(())
 }
 
-#[test]
-fn records_are_read_again(rt: HostRuntime) -> Result<(), Fail> {
-    let rows = [
-        (STARTED, (0, 0, 1)),
-        (MOVED, (0, 1, 2)),
-        (FAILED, (0, 1, 3)),
-        (ANSWERED, (1, 2, 3)),
-    ];
-    for (text, expected) in rows {
-        let bytes = hex::decode(rt.alloc(), text)?;
-        let told = told_again(rt.alloc(), &bytes)?;
-        let Some((words, again)) = told else {
-            assert!(rt; false, "{text}");
-            continue;
-        };
-        assert_eq!(rt; words, expected, "{text}");
-        assert_eq!(rt; again.as_slice(), bytes.as_slice(), "{text}");
-    }
-    Ok(())
-}
+/// A flow as a step leaves it, in few words: its number, its step, and whether it lives (1), has ended (2) or has failed (3).
+type FlowWords = (u32, u32, u8);
 
-#[test]
-fn other_bytes_tell_of_no_flow_alone(rt: HostRuntime) -> Result<(), Fail> {
-    for text in ["", OTHER_MACHINE, ARRIVED, SENDING] {
-        let bytes = hex::decode(rt.alloc(), text)?;
-        let told = told_again(rt.alloc(), &bytes)?;
-        assert!(rt; told.is_none(), "{text}");
-    }
-    let mut bytes = hex::decode(rt.alloc(), STARTED)?;
-    bytes.push(0)?;
-    let told = told_again(rt.alloc(), &bytes)?;
-    assert!(rt; told.is_none());
-    Ok(())
-}
+/// What a step is, in few words: its flow, whether it opens a session, how many items it sends, whether it accepts one, and whether it
+/// takes some.
+type StepWords = (Option<FlowWords>, bool, usize, bool, bool);
 
-/// What a step is, in few words: the number of its flow, whether it opens a session, how many items it sends, whether it accepts one,
-/// and whether it takes some.
-type StepWords = (Option<u32>, bool, usize, bool, bool);
+/// A flow in few words.
+fn flow_words(after: &FlowAfter<Counter>) -> FlowWords {
+    match &after.state {
+        FlowState::Live(at) => (after.number, at.step, 1),
+        FlowState::Ended { step, .. } => (after.number, *step, 2),
+        FlowState::Failed { step, .. } => (after.number, *step, 3),
+    }
+}
 
 /// A step in few words.
 fn step_words(step: &Step<Counter>) -> StepWords {
-    let number = match &step.flow {
+    let flow = match &step.flow {
         None => None,
-        Some(after) => Some(after.number),
+        Some(after) => Some(flow_words(after)),
     };
     let session = &step.session;
     (
-        number,
+        flow,
         session.opened.is_some(),
         session.sent.len(),
         session.came.is_some(),
@@ -204,14 +174,16 @@ fn step_again(alloc: Global, bytes: &[u8]) -> Result<Option<(StepWords, ByteList
 
 #[test]
 fn steps_are_read_again(rt: HostRuntime) -> Result<(), Fail> {
-    flows_are_steps::<Counter>();
     few_values_are_short();
     let rows = [
-        (STARTED, (Some(0), false, 0, false, false)),
+        (STARTED, (Some((0, 0, 1)), false, 0, false, false)),
+        (MOVED, (Some((0, 1, 2)), false, 0, false, false)),
+        (FAILED, (Some((0, 1, 3)), false, 0, false, false)),
+        (ANSWERED, (Some((1, 2, 3)), false, 0, false, false)),
         (ARRIVED, (None, false, 0, true, false)),
-        (SENDING, (Some(0), false, 1, false, false)),
-        (OPENING, (Some(1), true, 1, false, true)),
-        (ENDING, (Some(0), false, 2, false, false)),
+        (SENDING, (Some((0, 1, 3)), false, 1, false, false)),
+        (OPENING, (Some((1, 2, 1)), true, 1, false, true)),
+        (ENDING, (Some((0, 1, 2)), false, 2, false, false)),
     ];
     for (text, expected) in rows {
         let bytes = hex::decode(rt.alloc(), text)?;
@@ -252,13 +224,23 @@ fn is_step(alloc: Global, bytes: &[u8]) -> Result<bool, AllocError> {
 }
 
 #[test]
+fn other_bytes_are_no_steps(rt: HostRuntime) -> Result<(), Fail> {
+    for text in ["", OTHER_MACHINE] {
+        let bytes = hex::decode(rt.alloc(), text)?;
+        assert!(rt; !is_step(rt.alloc(), &bytes)?, "{text}");
+    }
+    let mut bytes = hex::decode(rt.alloc(), STARTED)?;
+    bytes.push(0)?;
+    assert!(rt; !is_step(rt.alloc(), &bytes)?);
+    Ok(())
+}
+
+#[test]
 fn records_of_the_ledger_are_no_steps(rt: HostRuntime) -> Result<(), Fail> {
     for text in [RECORDED, LOCKED, BOOKED] {
         let bytes = hex::decode(rt.alloc(), text)?;
         assert!(rt; is_record(rt.alloc(), &bytes), "{text}");
         assert!(rt; !is_step(rt.alloc(), &bytes)?, "{text}");
     }
-    let foreign = hex::decode(rt.alloc(), OTHER_MACHINE)?;
-    assert!(rt; !is_step(rt.alloc(), &foreign)?);
     Ok(())
 }

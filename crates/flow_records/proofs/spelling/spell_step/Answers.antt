@@ -1,5 +1,5 @@
 use Rattle.flow_records.proofs.Meaning.{step_is_record, step_written}
-use Rattle.flow_records.proofs.step_spelling.spell_step.Goals as goal
+use Rattle.flow_records.proofs.spelling.spell_step.Goals as goal
 
 pub encode_parts-bytes-requires : goal.encode_parts-bytes-requires
 encode_parts-bytes-requires g c =

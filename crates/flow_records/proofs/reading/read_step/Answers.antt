@@ -2,7 +2,7 @@ use Rattle.std.proofs.Common.{ap, arith}
 use Rattle.net_base.specs.Reading.{IsBytes}
 use Rattle.flow_records.specs.Steps.{besides_ledger}
 use Rattle.flow_records.proofs.Meaning.{spelt_means, unspelt_means}
-use Rattle.flow_records.proofs.step_reading.read_step.Goals as goal
+use Rattle.flow_records.proofs.reading.read_step.Goals as goal
 
 pub returns-in-Ok-clause-tells : goal.returns-in-Ok-clause-tells
 returns-in-Ok-clause-tells g c =

@@ -1,5 +1,5 @@
 use Rattle.flow_records.proofs.Stepping.{step_is}
-use Rattle.flow_records.proofs.step_reading.step_of.Goals as goal
+use Rattle.flow_records.proofs.reading.step_of.Goals as goal
 
 pub returns-clause-tells : goal.returns-clause-tells
 returns-clause-tells g c =
