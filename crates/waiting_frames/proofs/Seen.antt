@@ -1,0 +1,41 @@
+-- Lists of bytes by what contracts see of them.
+use Rattle.std.proofs.Common.{◌≡◌, ℕ, suc, Bool, true, false, not, ◌||◌, List, [], ◌∷◌, ◌++◌, refl, sym, ◌∙◌, ap, map, take, drop, remove}
+use Rattle.std.specs.Prelude.{bytes_eq, if◌then◌else◌}
+use Rattle.std.specs.List.{list_any, IsDistinct, AllByRecursion}
+use Rattle.std.proofs.lemmas.Bool.{and_from}
+use Rattle.std.proofs.lemmas.List.{map-append, take-map, drop-map}
+use Rattle.indexmap.specs.IndexSet.{insert_key}
+use Rattle.waiting_frames.specs.Waiting.{is_waiting, joined, waits_once}
+
+module _ {V : Type 0} (items : V → List ℕ) where
+  -- equal bytes are found exactly where they wait
+  pub any_is : (frame : List ℕ) (ks : List V) → list_any (λ k. bytes_eq frame (items k)) ks ≡ is_waiting frame (map items ks)
+  any_is frame [] = refl
+  any_is frame (k ∷ ks) = ap (λ b. bytes_eq frame (items k) || b) (any_is frame ks)
+
+  none_later : (frame : List ℕ) (ks : List V)
+      → AllByRecursion (λ k. bytes_eq frame (items k) ≡ false) ks → is_waiting frame (map items ks) ≡ false
+  none_later frame [] h = refl
+  none_later frame (k ∷ ks) h = ap (λ b. b || is_waiting frame (map items ks)) h.0 ∙ none_later frame ks h.1
+
+  -- distinct keys are frames of which no two are equal
+  pub once_is : (ks : List V) → IsDistinct (λ a b. bytes_eq (items a) (items b)) ks → waits_once (map items ks) ≡ true
+  unfolding IsDistinct
+  once_is [] h = refl
+  once_is (k ∷ ks) h = and_from _ _ (ap not (none_later (items k) ks h.0)) (once_is ks h.1)
+
+  -- a key that is inserted joins the frames
+  pub joined_is : (v : V) (ks : List V)
+      → map items (insert_key (λ a b. bytes_eq (items a) (items b)) ks v) ≡ joined (items v) (map items ks)
+  joined_is v ks =
+      by (list_any (λ k. bytes_eq (items v) (items k)) ks)
+      ∙ ap (λ b. if b then map items ks else map items ks ++ items v ∷ []) (any_is (items v) ks)
+    where
+      by : (b : Bool) → map items (if b then ks else ks ++ v ∷ []) ≡ (if b then map items ks else map items ks ++ items v ∷ [])
+      by true = refl
+      by false = map-append items ks (v ∷ [])
+
+  pub removed_is : (ks : List V) (i : ℕ) → map items (remove ks i) ≡ remove (map items ks) i
+  removed_is ks i =
+      map-append items (take i ks) (drop (suc i) ks)
+      ∙ (λ j. sym (take-map items i ks) j ++ sym (drop-map items (suc i) ks) j)
