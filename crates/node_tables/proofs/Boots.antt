@@ -11,7 +11,7 @@ use Rattle.node_tables.specs.Journals.{Reads, state_of}
 use Rattle.node_tables.specs.Fits.{fits, fits_read, apply_read, misfit_from, misfit}
 use Rattle.node_tables.specs.declared.boot.RebuildFault.{RebuildFault}
 use Rattle.node_tables.specs.declared.boot.RebuildFault.TheVariants as rebuild_fault
-use Rattle.node_tables.specs.Seen.{TakesAs, RebuildsAs}
+use Rattle.node_tables.specs.Seen.{no_acks, TakesAs, RebuildsAs}
 use Rattle.node_tables.proofs.Runs.{state_push}
 
 abbrev pub bodies_in : List (ℕ × List ℕ) → List (List ℕ)
@@ -56,6 +56,11 @@ module _ {F : Type 0} (f : Reads F) (nodes : ℕ) (me : Party) (all : List (ℕ 
       let sizes : length built + length (bodies_in left) ≡ length (bodies_in all) = sym (length-append built (bodies_in left)) ∙ ap length so_far.all_of in
       let left_size : length left ≡ suc (length rest) = ap length next in
       omega (arith, sizes, length-map left (λ (y : ℕ × List ℕ). y.1), length-map all (λ (y : ℕ × List ℕ). y.1), left_size, few)
+
+-- where nothing has happened nothing is acknowledged
+pub none_at_first : {F : Type 0} (f : Reads F) (built : List (List ℕ)) (acked : List ℕ) → built ≡ [] → acked ≡ [] → acked ≡ no_acks (state_of f built).sessions
+unfolding state_of replay
+none_at_first f built acked none nothing = rw none nothing
 
 -- what was taken of a record that fits
 pub fits_taken : {F : Type 0} (nodes : ℕ) (me : Party) (s : NodeState F) (o : Option (Record F)) (r : Record F) → o ≡ Some r → fits nodes me s r ≡ true → fits_read nodes me s o ≡ true

@@ -3,6 +3,10 @@ pub mod Ruled
 pub mod Small
 pub mod Linking
 pub mod Lists
+pub mod Acked
+pub mod Owned
+pub mod Held
+pub mod Lawful
 pub mod Runs
 pub mod Boots
 pub mod Deciding

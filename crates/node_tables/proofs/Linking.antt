@@ -37,7 +37,7 @@ use Rattle.node_tables.proofs.Small.{all_find, found_key}
 abbrev pub IsOwn : {F : Type 0} → FlowAfter F → Type 0
 IsOwn after = IsNumbered after.number after.state
 
-some_is : {X : Type 0} {a b : X} → Some a ≡ Some b → a ≡ b
+pub some_is : {X : Type 0} {a b : X} → Some a ≡ Some b → a ≡ b
 some_is e = cc
 
 part_number : {F : Type 0} (n f : ℕ) (state : FlowState F) → IsNumbered n state → flow_of (part_of n state) ≡ Some f → n ≡ f
@@ -64,7 +64,7 @@ first_answered : {F : Type 0} (f : ℕ) (key : Key) (class : ℕ) (flow : FlowPa
 first_answered f key class flow [] h = absurd h
 first_answered f key class flow (item ∷ items) h = (h.0, h.1, h.2, by_lawful f class flow item.body h.3)
 
-new_flow_of : {F : Type 0} (f class : ℕ) (flow : FlowPart F) → IsNewFlow f class flow → flow_of flow ≡ Some f
+pub new_flow_of : {F : Type 0} (f class : ℕ) (flow : FlowPart F) → IsNewFlow f class flow → flow_of flow ≡ Some f
 new_flow_of f class no_flow h = absurd h
 new_flow_of f class (now_live at) h = ap (λ n. Some n) h.0
 new_flow_of f class (now_ended flow step c value) h = absurd h

@@ -1,5 +1,5 @@
 -- A journal that goes on by one record that fits.
-use Rattle.std.proofs.Common.{◌≡◌, ℕ, ◌+◌, ◌*◌, ◌<◌, ◌≤◌, ◌^◌, List, [], ◌∷◌, ◌++◌, length, map, slice_get, option_to_list, Option, Some, None, Err, Bool, true, false, refl, sym, ◌∙◌, ap, subst, arith, length-append, nat_lt, append_assoc}
+use Rattle.std.proofs.Common.{◌≡◌, ℕ, ◌+◌, ◌*◌, ◌<◌, ◌≤◌, ◌^◌, List, [], ◌∷◌, ◌++◌, length, map, take, drop, zero, suc, slice_get, option_to_list, Option, Some, None, Err, Bool, true, false, refl, sym, ◌∙◌, ap, subst, arith, length-append, nat_lt, append_assoc}
 use Rattle.std.specs.List.{AllByRecursion, list_all}
 use Rattle.std.specs.Option.{option_and_then, IfSome}
 use Rattle.std.proofs.lemmas.Bool.{ltb-true, ltb-false}
@@ -14,7 +14,8 @@ use Rattle.session_wire.specs.declared.body.Body.TheVariants as body_of
 use Rattle.session_wire.specs.declared.change.SentItem.{SentItem}
 use Rattle.session_wire.specs.declared.change.SessionChange.{SessionChange}
 use Rattle.session_wire.specs.Sessions.{Session}
-use Rattle.session_table.specs.Changes.{IsFitting, changed_by, arrived_in}
+use Rattle.session_table.specs.Changes.{IsFitting, changed_by, arrived_in, acks_after}
+use Rattle.session_frames.specs.Lawful.{AreLawful}
 use Rattle.flow_machine.specs.Machine.{Machine}
 use Rattle.flow_machine.specs.declared.acts.Act.TheVariants as act
 use Rattle.flow_machine.specs.declared.flow_set.MakeFault.TheVariants as make
@@ -38,11 +39,15 @@ use Rattle.flow_records.specs.Records.{record_of, IsFlow}
 use Rattle.flow_records.specs.Steps.{part_after, effect_by, step_record, IsAfter, IsStep}
 use Rattle.node_tables.specs.Journals.{Reads, records_of, state_of, causes_of, lone}
 use Rattle.node_tables.specs.Fits.{fits, apply_read, begun_by}
-use Rattle.node_tables.specs.Seen.{Keeps, IsSmall, flows_after}
+use Rattle.node_tables.specs.Seen.{Keeps, IsSmall, IsHeld, AreOwned, flows_after, padded}
 use Rattle.node_tables.proofs.Lists.{all_put, all_get, get_within}
 use Rattle.node_tables.proofs.Small.{all_weaken, begun_small, record_small, record_count, few_numbers, few_arrived}
 use Rattle.node_tables.proofs.Linking.{IsOwn, owner_is, sessions_same, change_fits}
 use Rattle.node_tables.proofs.Ruled.{fits_to}
+use Rattle.node_tables.proofs.Acked.{acks_padded}
+use Rattle.node_tables.proofs.Held.{record_held}
+use Rattle.node_tables.proofs.Owned.{record_owned}
+use Rattle.node_tables.proofs.Lawful.{record_lawful}
 
 -- ---- one body more
 
@@ -168,6 +173,18 @@ put_numbered flows n flow false is h own all =
     let end : n ≡ length flows = omega (arith, h, ltb-false n (length flows) is) in
     subst (AreNumbered 0) (push_parts flows n flow end) (numbered_push 0 flows flow all (subst (λ k. IsNumbered k flow) (omega (arith, end)) own))
 
+-- with a flow put at a place there are no fewer, and the place is among them
+place_in : {X : Type 0} (xs : List X) (k : ℕ) (y : X) → k ≤ length xs → (k < length (take k xs ++ y ∷ drop (suc k) xs)) × (length xs ≤ length (take k xs ++ y ∷ drop (suc k) xs))
+place_in [] zero y h = (omega arith, omega arith)
+place_in [] (suc k) y h = absurd (omega (arith, h))
+place_in (x ∷ xs) zero y h = (omega arith, omega arith)
+place_in (x ∷ xs) (suc k) y h = let p = place_in xs k y (omega (arith, h)) in let a = p.0 in let b = p.1 in (omega (arith, a), omega (arith, b))
+
+part_below : {F : Type 0} (n m : ℕ) (flow : FlowState F) → IsNumbered n flow → n < m → IfSome (flow_of (part_of n flow)) (λ f. f < m)
+part_below n m (Live at) own below = omega (arith, own, below)
+part_below n m (Ended step class value) own below = below
+part_below n m (Failed step class code) own below = below
+
 -- all that is known of the flows after a record, m being how many there were before
 record Flowing {F : Type 0} (is_frame : F → Type 0) (flows : List (FlowState F)) (m : ℕ) (flow : Option (FlowAfter F)) : Type 0 where
   on : flows_on (part_after flow) flows ≡ flows_after flow flows
@@ -175,13 +192,16 @@ record Flowing {F : Type 0} (is_frame : F → Type 0) (flows : List (FlowState F
   steps : AllByRecursion (λ x. steps_of x ≤ m + 1) (flows_after flow flows)
   limits : AllByRecursion (IsFlow is_frame) (flows_after flow flows)
   numbered : AreNumbered 0 (flows_after flow flows)
+  more : length flows ≤ length (flows_after flow flows)
+  below : IfSome (flow_of (part_after flow)) (λ f. f < length (flows_after flow flows))
 
 flowing : {F : Type 0} (w : Environment F) (me : ℕ) (is_frame : F → Type 0) (flows : List (FlowState F)) (ss : List Session) (stamp moment m : ℕ) (event : Event) (flow : Option (FlowAfter F)) (change : SessionChange) → FitsEvent w me (lone flows ss stamp moment) event (effect_by flow change)
     → IfSome flow (IsAfter is_frame) → length flows ≤ m → AllByRecursion (λ x. steps_of x ≤ m) flows → AllByRecursion (IsFlow is_frame) flows → AreNumbered 0 flows → Flowing is_frame flows m flow
 flowing w me is_frame flows ss stamp moment m event None change h after held steps limits numbered =
-    record { on = refl; held = omega (arith, held); steps = all_weaken (λ x. steps_of x ≤ m) (λ x. steps_of x ≤ m + 1) flows (λ x k. omega arith) steps; limits = limits; numbered = numbered }
+    record { on = refl; held = omega (arith, held); steps = all_weaken (λ x. steps_of x ≤ m) (λ x. steps_of x ≤ m + 1) flows (λ x k. omega arith) steps; limits = limits; numbered = numbered; more = omega arith; below = tt }
 flowing w me is_frame flows ss stamp moment m event (Some after) change h own held steps limits numbered =
     let puts = event_puts w me flows ss stamp moment m event after change h own.1 steps in
+    let place = place_in flows after.number after.state puts.within in
     let more : AllByRecursion (λ x. steps_of x ≤ m + 1) flows = all_weaken (λ x. steps_of x ≤ m) (λ x. steps_of x ≤ m + 1) flows (λ x k. omega arith) steps in
     record {
       on = put_on flows after.number after.state puts.within own.1;
@@ -189,6 +209,8 @@ flowing w me is_frame flows ss stamp moment m event (Some after) change h own he
       steps = all_put (λ x. steps_of x ≤ m + 1) flows after.number after.state more puts.steps;
       limits = all_put (IsFlow is_frame) flows after.number after.state limits own.0;
       numbered = put_numbered flows after.number after.state (nat_lt after.number (length flows)) refl puts.within own.1 numbered;
+      more = place.1;
+      below = part_below after.number (length (with_flow after.number after.state flows)) after.state own.1 place.0;
     }
 
 -- a flow's number, as the table's contracts say it
@@ -239,6 +261,21 @@ module _ {F : Type 0} (nodes : ℕ) (me : Party) (f : Reads F) (is_frame : F →
       subst (λ (l : List Session). AllByRecursion (IsSmall me (255 * length bodies + 255) (length bodies + 1)) l) (sym after_is)
       (record_small (some_world nodes) me.0 (lone flows ss stamp moment) step.cause (effect_by step.flow step.session) (255 * length bodies) (length bodies) ruled limits.2.0.1.0.0 kept.small)
 
+  lawful_after : AreLawful me (changed_by step.cause.stamp step.session ss)
+  lawful_after =
+      subst (λ (l : List Session). AreLawful me l) (sym after_is)
+      (record_lawful (some_world nodes) me.0 (lone flows ss stamp moment) step.cause (effect_by step.flow step.session) kept.sound limits.0.1.1 limits.2.0.0 limits.2.0.1.0.1 ruled kept.lawful)
+
+  owned_after : AreOwned (length (flows_after step.flow flows)) (changed_by step.cause.stamp step.session ss)
+  owned_after =
+      subst (λ (l : List Session). AreOwned (length (flows_after step.flow flows)) l) (sym after_is)
+      (record_owned (some_world nodes) me.0 (lone flows ss stamp moment) step.cause (effect_by step.flow step.session) (length (flows_after step.flow flows)) limits.0.1.1 limits.2.0.0 ruled flows_go.more flows_go.below kept.owned)
+
+  arrived_after : AllByRecursion IsHeld (changed_by step.cause.stamp step.session ss)
+  arrived_after =
+      subst (λ (l : List Session). AllByRecursion IsHeld l) (sym after_is)
+      (record_held step.cause (effect_by step.flow step.session) ss limits.2.0.1.1.0 kept.arrived)
+
   -- the tables keep what they keep
   pub kept_add : (body : List ℕ) → length bodies < 65536 → record_of f body ≡ Some (step_record step) → Keeps me f is_frame (bodies ++ body ∷ []) (causes ++ step.cause ∷ []) (flows_after step.flow flows) (changed_by step.cause.stamp step.session ss) step.cause.stamp step.cause.moment.0
   kept_add body room reads =
@@ -262,7 +299,14 @@ module _ {F : Type 0} (nodes : ℕ) (me : Party) (f : Reads F) (is_frame : F →
         made = omega (arith, longer, made, count, size);
         small = subst (λ k. AllByRecursion (IsSmall me k (length (bodies ++ body ∷ []))) (changed_by step.cause.stamp step.session ss)) sent_bound (subst (λ k. AllByRecursion (IsSmall me (255 * length bodies + 255) k) (changed_by step.cause.stamp step.session ss)) came_bound small_after);
         sound = subst (λ (s : NodeState F). IsSound me.0 s) state_is (fits_keep_sound (some_world nodes) me.0 (lone flows ss stamp moment) step.cause (effect_by step.flow step.session) kept.sound ruled);
+        lawful = lawful_after;
+        owned = owned_after;
+        arrived = arrived_after;
       }
+
+  -- of the new sessions nothing is acknowledged
+  pub acked_add : (body : List ℕ) → length bodies < 65536 → record_of f body ≡ Some (step_record step) → (acked : List ℕ) → length acked ≡ length ss → acks_after step.session acked ≡ padded acked (state_of f (bodies ++ body ∷ [])).sessions
+  acked_add body room reads acked same = acks_padded step.cause.stamp step.session acked ss same ∙ ap (λ (s : NodeState F). padded acked s.sessions) (sym (kept_add body room reads).state)
 
   -- what is asked of the sessions holds
   pub change_fits_here : IsFitting me step.cause.stamp ss step.session
@@ -293,6 +337,6 @@ module _ {F : Type 0} (nodes : ℕ) (me : Party) (f : Reads F) (is_frame : F →
   place_there = if_some (λ after. (after.number ≤ length flows) × IsTabled after.number after.state) step.flow (λ after is. let p = place_within after is in (p.0, tabled after.number after.state p.1))
 
 -- nothing has happened yet
-pub kept_none : {F : Type 0} (me : Party) (f : Reads F) (is_frame : F → Type 0) → Keeps me f is_frame [] [] [] [] 0 0
+pub kept_none : {F : Type 0} (me : Party) (f : Reads F) (is_frame : F → Type 0) → me.0 < 16 → Keeps me f is_frame [] [] [] [] 0 0
 unfolding state_of causes_of replay
-kept_none me f is_frame = record { state = refl; told = refl; few = omega arith; held = omega arith; steps = tt; limits = tt; numbered = tt; late = omega arith; made = omega arith; small = tt; sound = fresh_is_sound me.0 }
+kept_none me f is_frame node = record { state = refl; told = refl; few = omega arith; held = omega arith; steps = tt; limits = tt; numbered = tt; late = omega arith; made = omega arith; small = tt; sound = fresh_is_sound me.0; lawful = record { node = node; each = tt }; owned = record { keys = tt; owners = tt; few = λ f. omega arith }; arrived = tt }

@@ -22,7 +22,7 @@ use Rattle.node_tables.specs.Seen.{IsSmall}
 
 -- ---- lists
 
-all_push : {X : Type 0} (P : X → Type 0) (xs : List X) (x : X) → AllByRecursion P xs → P x → AllByRecursion P (xs ++ x ∷ [])
+pub all_push : {X : Type 0} (P : X → Type 0) (xs : List X) (x : X) → AllByRecursion P xs → P x → AllByRecursion P (xs ++ x ∷ [])
 all_push P [] x h p = (p, tt)
 all_push P (y ∷ ys) x h p = (h.0, all_push P ys x h.1 p)
 
@@ -39,7 +39,7 @@ all_weaken P Q [] f h = tt
 all_weaken P Q (x ∷ xs) f h = (f x h.0, all_weaken P Q xs f h.1)
 
 -- of the sessions with one changed
-all_changed : (P Q : Session → Type 0) (key : Key) (change : Session → Session) (ss : List Session) → ((s : Session) → P s → Q (change s)) → ((s : Session) → P s → Q s) → AllByRecursion P ss → AllByRecursion Q (changed_at key change ss)
+pub all_changed : (P Q : Session → Type 0) (key : Key) (change : Session → Session) (ss : List Session) → ((s : Session) → P s → Q (change s)) → ((s : Session) → P s → Q s) → AllByRecursion P ss → AllByRecursion Q (changed_at key change ss)
 all_changed P Q key change [] f g h = tt
 all_changed P Q key change (s ∷ ss) f g h =
     (elim (key_eq key s.key) as (λ b. Q (cond b (change s) s)) [ true ↦ f s h.0 | false ↦ g s h.0 ], all_changed P Q key change ss f g h.1)
@@ -66,7 +66,7 @@ all_weaker me a b c d ss ab cd h = all_weaken (IsSmall me a c) (IsSmall me b d) 
 
 -- ---- one record more
 
-init_there : {F : Type 0} (f : ℕ) (key : Key) (e : Effect F) (o : Option Body) → AcceptsInit f key e o → length (option_to_list o) ≡ 1
+pub init_there : {F : Type 0} (f : ℕ) (key : Key) (e : Effect F) (o : Option Body) → AcceptsInit f key e o → length (option_to_list o) ≡ 1
 init_there f key e None h = absurd h
 init_there f key e (Some body) h = refl
 
@@ -133,13 +133,13 @@ opened_count : (opened : Option (Key × Party)) (owner : Option ℕ) (ss : List 
 opened_count None owner ss = omega arith
 opened_count (Some opened) owner ss = let longer = length-append ss (new_session opened.0 opened.1 owner [] ∷ []) in omega (arith, longer)
 
-sent_count : (stamp : ℕ) (items : List SentItem) (ss : List Session) → length (sent_on stamp items ss) ≡ length ss
+pub sent_count : (stamp : ℕ) (items : List SentItem) (ss : List Session) → length (sent_on stamp items ss) ≡ length ss
 sent_count stamp [] ss = refl
 sent_count stamp (item ∷ items) ss =
     let y : Sent = record { body = item.body; stamp = stamp } in
     sent_count stamp items (changed_at item.key (with_sent y) ss) ∙ length-map ss (λ s. cond (key_eq item.key s.key) (with_sent y s) s)
 
-taken_count : (taken : Option (Key × ℕ)) (ss : List Session) → length (taken_on taken ss) ≡ length ss
+pub taken_count : (taken : Option (Key × ℕ)) (ss : List Session) → length (taken_on taken ss) ≡ length ss
 taken_count None ss = refl
 taken_count (Some taken) ss = length-map ss (λ s. cond (key_eq taken.0 s.key) (with_taken taken.1 s) s)
 

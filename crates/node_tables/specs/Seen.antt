@@ -1,10 +1,13 @@
 -- What contracts see of a node's tables, and what their calls answer.
-use Rattle.std.specs.Prelude.{◌≡◌, ℕ, ◌*◌, ◌<◌, ◌≤◌, ◌^◌, true, false, List, [], ◌∷◌, ◌++◌, length, map, Option, Some, None, Result, Ok, Err, ⊤}
+use Rattle.std.specs.Prelude.{◌≡◌, ℕ, ◌*◌, ◌<◌, ◌≤◌, ◌^◌, true, false, List, [], ◌∷◌, ◌++◌, length, map, Option, Some, None, IfSome, Result, Ok, Err, ⊤}
 use Rattle.std.specs.List.{AllByRecursion}
 use Rattle.net_base.specs.declared.values.Party.{Party}
 use Rattle.net_base.specs.declared.causes.Cause.{Cause}
+use Rattle.net_base.specs.Names.{IsKey}
+use Rattle.session_wire.specs.Bodies.{IsBody}
 use Rattle.session_wire.specs.Sessions.{Session}
-use Rattle.session_wire.specs.Rules.{is_opened_by}
+use Rattle.session_wire.specs.Rules.{is_opened_by, sessions_of}
+use Rattle.session_frames.specs.Lawful.{AreLawful}
 use Rattle.flow_machine.specs.declared.flows.FlowState.{FlowState}
 use Rattle.checkpoints.specs.Tables.{with_flow}
 use Rattle.net_model.specs.State.{NodeState}
@@ -30,6 +33,27 @@ pub record IsSmall (me : Party) (sent came : ℕ) (session : Session) : Type 0 w
   pub few_came : length session.came ≤ came
   pub begun : is_opened_by me session.key ≡ false → 0 < length session.came
 
+-- what arrived in a session is within its limits, and so is the ending that was taken
+pub record IsHeld (session : Session) : Type 0 where
+  pub came : AllByRecursion IsBody session.came
+  pub ending : IfSome session.ending IsBody
+
+-- each session's key is one, so many flows own the sessions that are owned, and none of them owns more than 64
+pub record AreOwned (flows : ℕ) (sessions : List Session) : Type 0 where
+  pub keys : AllByRecursion (λ session. IsKey session.key) sessions
+  pub owners : AllByRecursion (λ session. IfSome session.owner (λ f. f < flows)) sessions
+  pub few : (f : ℕ) → length (sessions_of f sessions) ≤ 64
+
+-- the acknowledged numbers over these sessions: those of sessions that were not there before are 0
+abbrev pub padded : List ℕ → List Session → List ℕ
+padded acked [] = []
+padded [] (s ∷ ss) = 0 ∷ padded [] ss
+padded (n ∷ ns) (s ∷ ss) = n ∷ padded ns ss
+
+-- the acknowledged numbers over these sessions where nothing is acknowledged
+abbrev pub no_acks : List Session → List ℕ
+no_acks sessions = padded [] sessions
+
 -- what the tables of a node of the party keep: they are those of its bodies
 pub record Keeps {F : Type 0} (me : Party) (frame_at : Reads F) (is_frame : F → Type 0) (bodies : List (List ℕ)) (causes : List Cause) (flows : List (FlowState F)) (sessions : List Session) (stamp moment : ℕ) : Type 0 where
   pub state : state_of frame_at bodies ≡ lone flows sessions stamp moment
@@ -43,6 +67,9 @@ pub record Keeps {F : Type 0} (me : Party) (frame_at : Reads F) (is_frame : F �
   pub made : length sessions ≤ 2 * length bodies
   pub small : AllByRecursion (IsSmall me (255 * length bodies) (length bodies)) sessions
   pub sound : IsSound me.0 (lone flows sessions stamp moment)
+  pub lawful : AreLawful me sessions
+  pub owned : AreOwned (length flows) sessions
+  pub arrived : AllByRecursion IsHeld sessions
 
 -- the tables as contracts see them
 pub record TablesSeen : Type 0 where
@@ -69,6 +96,6 @@ TakesAs frame_at nodes me old at body (Err rebuild_fault.Memory) new = ⊤
 
 -- what a rebuilding of the tables answers
 abbrev pub RebuildsAs : {F : Type 0} → Reads F → ℕ → Party → List (ℕ × List ℕ) → Result TablesSeen RebuildFault → Type 0
-RebuildsAs frame_at nodes me list (Ok tables) = (tables.bodies ≡ map (λ x. x.1) list) × (tables.party ≡ me) × (tables.nodes ≡ nodes) × (misfit frame_at nodes me list ≡ None)
+RebuildsAs frame_at nodes me list (Ok tables) = (tables.bodies ≡ map (λ x. x.1) list) × (tables.party ≡ me) × (tables.nodes ≡ nodes) × (misfit frame_at nodes me list ≡ None) × (tables.acked ≡ no_acks (state_of frame_at tables.bodies).sessions)
 RebuildsAs frame_at nodes me list (Err (rebuild_fault.Damaged at)) = misfit frame_at nodes me list ≡ Some at
 RebuildsAs frame_at nodes me list (Err rebuild_fault.Memory) = ⊤

@@ -5,7 +5,7 @@ ghost use Rattle.flow_records.specs.Records.{record_of};
 ghost use Rattle.flow_records.specs.Steps.{step_record, IsStep};
 ghost use Rattle.node_tables.specs.Journals.{state_of};
 ghost use Rattle.node_tables.specs.Fits.{fits};
-ghost use Rattle.node_tables.specs.Seen.{RebuildsAs, TakesAs};
+ghost use Rattle.node_tables.specs.Seen.{padded, RebuildsAs, TakesAs};
 
 use crate::table::{Tables, let_go};
 use flow_records::Step;
@@ -38,6 +38,7 @@ fn take_step<F: Spelt + Drop>(
     ensures party { tables.new.party ≡ tables.old.party }
     ensures nodes { tables.new.nodes ≡ tables.old.nodes }
     ensures ok { OnOk result (tables.new.bodies ≡ tables.old.bodies ++ body ∷ []) }
+    ensures acked { OnOk result (tables.new.acked ≡ padded tables.old.acked (state_of F.reading tables.new.bodies).sessions) }
 {
     match tables.make_room(alloc, &step.session) {
         Ok(()) => {
@@ -62,6 +63,7 @@ fn take<F: Spelt + Drop>(
     ensures party { tables.new.party ≡ tables.old.party }
     ensures nodes { tables.new.nodes ≡ tables.old.nodes }
     ensures takes { TakesAs F.reading tables.old.nodes tables.old.party tables.old.bodies at body result tables.new.bodies }
+    ensures acked { OnOk result (tables.new.acked ≡ padded tables.old.acked (state_of F.reading tables.new.bodies).sessions) }
 {
     match tables.read(alloc, body.as_slice()) {
         Ok(Some(step)) => match take_step(tables, alloc, body, step) {
@@ -73,8 +75,8 @@ fn take<F: Spelt + Drop>(
     }
 }
 
-/// The tables of a node of the party, in a network of so many nodes, that these records make. Nothing is asked of frames but how they
-/// are spelt, so no flow is resumed.
+/// The tables of a node of the party, in a network of so many nodes, 16 at most, that these records make. No item that the node sent
+/// is acknowledged there. Nothing is asked of frames but how they are spelt, so no flow is resumed.
 ///
 /// # Errors
 ///
@@ -85,7 +87,9 @@ pub fn rebuild<F: Spelt + Drop>(
     nodes: u8,
     list: RecordList,
 ) -> Result<Tables<F>, RebuildFault>
-    requires { length list ≤ 65536 }
+    requires party { party.0 < 16 }
+    requires nodes { nodes ≤ 16 }
+    requires few { length list ≤ 65536 }
     ensures { RebuildsAs F.reading nodes party list result }
 {
     let mut tables = Tables::new(alloc, party, nodes);

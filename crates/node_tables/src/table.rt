@@ -1,20 +1,23 @@
 //! The tables of a node.
 
 ghost use Rattle.std.specs.Prelude.{◌≡◌, ◌++◌, ◌∷◌, [], ◌<◌, ◌≤◌, ◌^◌, ◌+◌, ◌-◌, ◌&&◌, OnOk, IfOk, IfSome, length, nat_lt, nat_le, Some, None, true, false, ℕ};
+ghost use Rattle.std.specs.List.{AllByRecursion};
+ghost use Rattle.net_base.specs.Names.{IsKey};
 ghost use Rattle.checkpoints.specs.Tables.{IsNumbered};
 ghost use Rattle.session_wire.specs.Sessions.{Session, session_of};
 ghost use Rattle.session_wire.specs.Rules.{is_new_key, sessions_of};
-ghost use Rattle.session_table.specs.Changes.{acks_after, room_for};
+ghost use Rattle.session_table.specs.Changes.{room_for};
 ghost use Rattle.session_table.specs.Tables.{raised};
+ghost use Rattle.session_frames.specs.Lawful.{AreLawful};
 ghost use Rattle.net_model.specs.State.{flow_of};
 ghost use Rattle.net_model.specs.Fits.{IsSound};
-ghost use Rattle.net_model.specs.Sound.{AreNumbered};
+ghost use Rattle.net_model.specs.Sound.{AreNumbered, steps_of};
 ghost use Rattle.flow_records.specs.declared.step.FlowAfter.{FlowAfter as After};
-ghost use Rattle.flow_records.specs.Records.{record_of};
+ghost use Rattle.flow_records.specs.Records.{record_of, IsFlow};
 ghost use Rattle.flow_records.specs.Steps.{part_after, effect_by, step_record, IsStep};
 ghost use Rattle.node_tables.specs.Journals.{state_of, causes_of, lone};
 ghost use Rattle.node_tables.specs.Fits.{rises, is_no_flow, only_accepts, arrives_in, fits_event, may_open, made_by, begun_by, fits};
-ghost use Rattle.node_tables.specs.Seen.{flows_after, IsRead};
+ghost use Rattle.node_tables.specs.Seen.{flows_after, padded, IsHeld, IsRead};
 
 use crate::fitting::{
     LAST_STAMP, accepts_init, goes_on, is_lawful_item, is_new_flow, is_no_flow, made_by, rises,
@@ -43,19 +46,21 @@ pub struct Tables<F: Spelt + Drop> {
 }
 
 impl<F: Spelt + Drop> Model for Tables<F> {
-    ghost use Rattle.std.specs.Prelude.{◌≡◌, ◌&&◌, nat_lt, if◌then◌else◌};
+    ghost use Rattle.std.specs.Prelude.{◌≡◌, ◌≤◌, ◌&&◌, nat_lt, length, if◌then◌else◌};
     ghost use Rattle.node_tables.specs.Seen.{TablesSeen, Keeps};
 
     ghost Value = { TablesSeen };
 
     ghost view = { λ t. record { party = t.party; nodes = t.nodes; bodies = t.bodies.items; acked = t.sessions.acked; room = if nat_lt 0 t.bodies.room && (nat_lt 0 t.causes.room && nat_lt 0 t.flows.room) then t.sessions.room else 0 } };
 
-    ghost invariant = { λ t. (t.sessions.party ≡ t.party) × Keeps t.party F.reading F.within t.bodies.items t.causes.items t.flows.flows t.sessions.list t.stamp t.moment.0 };
+    ghost invariant = { λ t. (t.sessions.party ≡ t.party) × Keeps t.party F.reading F.within t.bodies.items t.causes.items t.flows.flows t.sessions.list t.stamp t.moment.0 × (t.nodes ≤ 16) × (length t.sessions.acked ≡ length t.sessions.list) };
 }
 
 impl<F: Spelt + Drop> Tables<F> {
-    /// The tables of a node to which nothing has happened. Takes no memory.
+    /// The tables of a node to which nothing has happened. A network has 16 nodes at most. Takes no memory.
     pub fn new(alloc: Global, party: Party, nodes: u8) -> Tables<F>
+        requires party { party.0 < 16 }
+        requires nodes { nodes ≤ 16 }
         ensures party { result.party ≡ party }
         ensures nodes { result.nodes ≡ nodes }
         ensures bodies { result.bodies ≡ [] }
@@ -196,7 +201,7 @@ impl<F: Spelt + Drop> Tables<F> {
         ensures party { self.new.party ≡ self.old.party }
         ensures nodes { self.new.nodes ≡ self.old.nodes }
         ensures bodies { self.new.bodies ≡ self.old.bodies ++ body ∷ [] }
-        ensures acked { self.new.acked ≡ acks_after step.session self.old.acked }
+        ensures acked { self.new.acked ≡ padded self.old.acked (state_of F.reading self.new.bodies).sessions }
     {
         let Step {
             cause,
@@ -289,6 +294,16 @@ impl<F: Spelt + Drop> Tables<F> {
         ensures alone { state_of F.reading self.now.bodies ≡ lone (state_of F.reading self.now.bodies).flows (state_of F.reading self.now.bodies).sessions (state_of F.reading self.now.bodies).stamp (state_of F.reading self.now.bodies).moment }
         ensures numbered { AreNumbered 0 (state_of F.reading self.now.bodies).flows }
         ensures sound { IsSound self.now.party.0 (state_of F.reading self.now.bodies) }
+        ensures lawful { AreLawful self.now.party (state_of F.reading self.now.bodies).sessions }
+        ensures owned { (f : ℕ) → length (sessions_of f (state_of F.reading self.now.bodies).sessions) ≤ 64 }
+        ensures keys { AllByRecursion (λ session. IsKey session.key) (state_of F.reading self.now.bodies).sessions }
+        ensures arrived { AllByRecursion IsHeld (state_of F.reading self.now.bodies).sessions }
+        ensures few_came { AllByRecursion (λ session. length session.came ≤ length self.now.bodies) (state_of F.reading self.now.bodies).sessions }
+        ensures late { (state_of F.reading self.now.bodies).stamp < 2 ^ 63 }
+        ensures flows { length (state_of F.reading self.now.bodies).flows ≤ length self.now.bodies }
+        ensures steps { AllByRecursion (λ flow. steps_of flow ≤ length self.now.bodies) (state_of F.reading self.now.bodies).flows }
+        ensures limits { AllByRecursion (IsFlow F.within) (state_of F.reading self.now.bodies).flows }
+        ensures network { self.now.nodes ≤ 16 }
     {
         let _ = &self.bodies;
     }

@@ -143,6 +143,17 @@ fn arrived(tables: &Tables<Counter>, initiator: u8, direction: u8) -> Option<u32
     tables.sessions().expected(&key, direction)
 }
 
+/// The sessions' initiators and numbers of the items that aren't acknowledged.
+fn unacked(alloc: Global, tables: &Tables<Counter>) -> Result<Vec<(u8, u32)>, AllocError> {
+    let mut found = Vec::new(alloc);
+    let items = tables.sessions().unacked(alloc)?;
+    for item in items.as_slice() {
+        found.push((item.key.initiator.0, item.number))?;
+    }
+    mem::forget(items);
+    Ok(found)
+}
+
 #[test]
 fn tables_are_those_of_their_records(rt: HostRuntime) -> Result<(), Fail> {
     fits_as_ruled::<Counter>();
@@ -158,11 +169,14 @@ fn tables_are_those_of_their_records(rt: HostRuntime) -> Result<(), Fail> {
     let answered = arrived(&tables, 0, 0);
     let opened = arrived(&tables, 1, 1);
     let next = tables.sessions().next_number();
+    let unacked = unacked(rt.alloc(), &tables);
+    tables.kept();
     mem::forget(tables);
     assert_eq!(rt; words, (3, 6, 1, 3));
     assert_eq!(rt; answered, Some(2));
     assert_eq!(rt; opened, Some(0));
     assert_eq!(rt; next, 1);
+    assert_eq!(rt; unacked?.as_slice(), [(0, 0), (1, 0)].as_slice());
     Ok(())
 }
 

@@ -1,4 +1,6 @@
 use Rattle.std.proofs.Common.{◌≡◌, ◌≤◌, length}
+use Rattle.node_tables.specs.Journals.{state_of}
+use Rattle.node_tables.specs.Seen.{no_acks}
 use Rattle.node_tables.proofs.Boots.{Rebuilding}
 use Rattle.node_tables.proofs.boot.rebuild.Given as goal
 
@@ -9,4 +11,5 @@ invariant-loop-at g l =
     Rebuilding g.F.Spelt.reading l.fn.nodes l.fn.party l.fn.list l.tables.bodies l.at-iterator.rest.items ×
     (length l.fn.list ≤ 65536) ×
     (l.tables.party ≡ l.fn.party) ×
-    (l.tables.nodes ≡ l.fn.nodes)
+    (l.tables.nodes ≡ l.fn.nodes) ×
+    (l.tables.acked ≡ no_acks (state_of g.F.Spelt.reading l.tables.bodies).sessions)
