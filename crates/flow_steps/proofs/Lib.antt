@@ -1,0 +1,5 @@
+pub mod Lists
+pub mod Limits
+pub mod Picks
+pub mod Performs
+pub mod Commits

@@ -1,0 +1,310 @@
+-- What becomes of a flow is what its act means.
+use Rattle.std.proofs.Common.{◌≡◌, ℕ, ◌^◌, ◌+◌, ◌-◌, ◌<◌, ◌≤◌, List, [], ◌∷◌, length, Option, Some, None, Result, Bool, true, false, cond, ◌&&◌, nat_lt, nat_le, option_map, refl, sym, ◌∙◌, ap, subst, arith, IsSome}
+use Rattle.std.specs.Prelude.{is_none, IfOk, Ok, Err}
+use Rattle.std.specs.List.{AllByRecursion}
+use Rattle.std.specs.Option.{unwrap_or}
+use Rattle.std.proofs.lemmas.Bool.{ltb-true}
+use Rattle.net_base.specs.declared.causes.Event.{Event}
+use Rattle.net_base.specs.declared.causes.Event.TheVariants as event
+use Rattle.net_base.specs.declared.names.Identity.{Identity}
+use Rattle.net_base.specs.declared.names.Key.{Key}
+use Rattle.net_base.specs.declared.values.Moment.{Moment}
+use Rattle.net_base.specs.declared.values.Party.{Party}
+use Rattle.net_base.specs.Names.{IsIdentity}
+use Rattle.net_base.specs.Values.{IsMoment}
+use Rattle.ledger_types.specs.declared.value.Value.{Value}
+use Rattle.ledger_types.specs.Values.{IsValue}
+use Rattle.session_wire.specs.declared.body.Body.{Body}
+use Rattle.session_wire.specs.Sessions.{Session, next_item}
+use Rattle.session_wire.specs.Rules.{owned, waits_for}
+use Rattle.flow_machine.specs.declared.acts.Act.{Act}
+use Rattle.flow_machine.specs.declared.acts.Act.TheVariants as act
+use Rattle.flow_machine.specs.declared.acts.Resumed.{Resumed}
+use Rattle.flow_machine.specs.declared.acts.Resumed.TheVariants as resumed
+use Rattle.flow_machine.specs.declared.flows.Checkpoint.{Checkpoint}
+use Rattle.flow_machine.specs.declared.flows.FlowState.{FlowState}
+use Rattle.flow_machine.specs.declared.flows.FlowState.TheVariants as state
+use Rattle.flow_machine.specs.Checkpoints.{IsCheckpoint}
+use Rattle.flow_machine.specs.Flows.{KeepsLimits}
+use Rattle.flow_machine.specs.Limits.{IsPlace, IsResumed}
+use Rattle.flow_machine.specs.Machine.{Machine}
+use Rattle.net_model.specs.Environment.{Environment, environment, is_act_built}
+use Rattle.net_model.specs.State.{NodeState, Effect, nothing, fresh}
+use Rattle.net_model.specs.Steps.{Done, goes_on, onwards, pushes, returns, fails, opens, sends, receives, takes, performed, lapsed, lapses}
+use Rattle.net_model.specs.Enabled.{enabling, enabled_event, effect_on}
+use Rattle.net_model.specs.Sound.{IsNumbered}
+use Rattle.session_wire.specs.declared.change.SessionChange.{SessionChange}
+use Rattle.session_wire.specs.declared.body.Body.TheVariants as body_of
+use Rattle.transition_record.specs.Changes.{IsSession, session_text}
+use Rattle.session_acts.specs.Parts.{session_part, unchanged}
+use Rattle.flow_records.specs.Records.{IsFlow}
+use Rattle.flow_records.specs.Steps.{effect_by}
+use Rattle.flow_steps.specs.declared.acts.Gone.{Gone}
+use Rattle.flow_steps.specs.Going.{gone_on, called, returned, takes_or_lapses, over, Becomes, Performs}
+use Rattle.flow_steps.proofs.Limits.{unchanged_within, unchanged_short}
+use Rattle.flow_steps.proofs.Picks.{Built}
+
+-- ---- limits
+
+-- a place at a node of a network is within its limits
+pub place_limits : (id : Identity) (n step : ℕ) (now : Moment) → IsIdentity id → n < 2 ^ 32 → step < 2 ^ 32 → IsMoment now → IsPlace (record { me = id.party; notary = id.notary; nodes = id.nodes; flow = n; step = step; now = now })
+place_limits id n step now is small few by = record { me = is.0; notary = is.1.1; nodes = omega (arith, is.1.0.1); flow = small; step = few; moment = by }
+
+module _ {F : Type 0} (m : Machine F) (r : List ℕ → Result (F × List ℕ) ℕ) (within : F → Type 0) (keeps : KeepsLimits within m) (id : Identity) (is : IsIdentity id) (now : Moment) (by : IsMoment now) (at : Checkpoint F) (limits : IsCheckpoint within at)
+    (step : at.step < 2 ^ 32 - 1) where
+  -- the flow is within its limits once a frame was resumed within them
+  pub gone_limits : (frame : F) (below : List F) (with : Resumed) → within frame → length below ≤ 7 → AllByRecursion within below → IsResumed with → IsFlow within (gone_on (environment m r id) id.party.0 now.0 at frame below with)
+  gone_limits frame below with top few rest result =
+      let made = keeps.next frame with (record { me = id.party; notary = id.notary; nodes = id.nodes; flow = at.flow; step = at.step; now = now }) top result (place_limits id at.flow at.step now is limits.0 limits.1.0 by) in
+      (limits.0, (omega (arith, step), (limits.1.1.0, (made.1, (made.0, (few, rest))))))
+
+  called_by : (b : Bool) (frame : F) → nat_lt (length at.stack.below) 7 ≡ b → within frame
+      → IsFlow within (cond b (gone_on (environment m r id) id.party.0 now.0 at frame (at.stack.top ∷ at.stack.below) resumed.Started) (gone_on (environment m r id) id.party.0 now.0 at at.stack.top at.stack.below (resumed.Refused 49)))
+  called_by true frame few top =
+      let short : length at.stack.below < 7 = ltb-true (length at.stack.below) 7 few in
+      gone_limits frame (at.stack.top ∷ at.stack.below) resumed.Started top (omega (arith, short)) (limits.1.1.1.1.0, limits.1.1.1.1.1.1) tt
+  called_by false frame few top = gone_limits at.stack.top at.stack.below (resumed.Refused 49) limits.1.1.1.1.0 limits.1.1.1.1.1.0 limits.1.1.1.1.1.1 (omega arith)
+
+  -- so is it once a subflow began
+  pub called_limits : (frame : F) → within frame → IsFlow within (called (environment m r id) id.party.0 now.0 at frame)
+  called_limits frame top = called_by (nat_lt (length at.stack.below) 7) frame refl top
+
+  returned_by : (value : Value) (below : List F) → IsValue value → length below ≤ 7 → AllByRecursion within below → IsFlow within (returned (environment m r id) id.party.0 now.0 at value below)
+  returned_by value [] v few rest = (omega (arith, step), (limits.1.1.0, v))
+  returned_by value (frame ∷ below) v few rest = gone_limits frame below (resumed.Returned value) rest.0 (omega (arith, few)) rest.1 v
+
+  -- so is it once a frame returned
+  pub returned_limits : (value : Value) → IsValue value → IsFlow within (returned (environment m r id) id.party.0 now.0 at value at.stack.below)
+  returned_limits value v = returned_by value at.stack.below v limits.1.1.1.1.1.0 limits.1.1.1.1.1.1
+
+module _ {F : Type 0} (w : Environment F) (me now : ℕ) (at : Checkpoint F) where
+  called_numbered_by : (b : Bool) (frame : F) → IsNumbered at.flow (cond b (gone_on w me now at frame (at.stack.top ∷ at.stack.below) resumed.Started) (gone_on w me now at at.stack.top at.stack.below (resumed.Refused 49)))
+  called_numbered_by true frame = refl
+  called_numbered_by false frame = refl
+
+  -- a live flow keeps its number
+  pub called_numbered : (frame : F) → IsNumbered at.flow (called w me now at frame)
+  called_numbered frame = called_numbered_by (nat_lt (length at.stack.below) 7) frame
+
+  pub returned_numbered : (value : Value) (below : List F) → IsNumbered at.flow (returned w me now at value below)
+  returned_numbered value [] = tt
+  returned_numbered value (frame ∷ below) = refl
+
+-- ---- what becomes of a flow
+
+module _ {F : Type 0} (w : Environment F) (me now : ℕ) (within : F → Type 0) (at : Checkpoint F) where
+  -- its top frame went on
+  pub gone_becomes : (new : FlowState F) (with : Resumed) (change : SessionChange) → new ≡ gone_on w me now at at.stack.top at.stack.below with → IsFlow within (gone_on w me now at at.stack.top at.stack.below with) → IsSession at.flow None change
+      → length (session_text change) ≤ 50000 → Becomes within at (goes_on w me now at (with, session_part change)) (record { state = new; session = change })
+  gone_becomes new with change is limits h short = record {
+    effect = ap (λ (x : FlowState F). effect_by (Some (record { number = at.flow; state = x })) change) is;
+    flow = (subst (IsFlow within) (sym is) limits, subst (IsNumbered at.flow) (sym is) refl);
+    session = h;
+    short = short;
+  }
+
+  pushed_by : (b : Bool) (frame : F) → effect_by (Some (record { number = at.flow; state = cond b (gone_on w me now at frame (at.stack.top ∷ at.stack.below) resumed.Started) (gone_on w me now at at.stack.top at.stack.below (resumed.Refused 49)) })) (unchanged at.flow)
+      ≡ cond b (record { flow = onwards w me now at frame (at.stack.top ∷ at.stack.below) resumed.Started; change = nothing }) (goes_on w me now at (resumed.Refused 49, nothing))
+  pushed_by true frame = refl
+  pushed_by false frame = refl
+
+  -- its subflow began, or it was told that its stack has 8 frames
+  pub called_becomes : (new : FlowState F) (change : SessionChange) (frame : F) → new ≡ called w me now at frame → change ≡ unchanged at.flow → IsFlow within (called w me now at frame) → Becomes within at (pushes w me now at frame) (record { state = new; session = change })
+  called_becomes new change frame is none limits = record {
+    effect = (λ i. effect_by (Some (record { number = at.flow; state = is i })) (none i)) ∙ pushed_by (nat_lt (length at.stack.below) 7) frame;
+    flow = (subst (IsFlow within) (sym is) limits, subst (IsNumbered at.flow) (sym is) (called_numbered w me now at frame));
+    session = subst (IsSession at.flow None) (sym none) (unchanged_within at.flow);
+    short = subst (λ (c : SessionChange). length (session_text c) ≤ 50000) (sym none) (unchanged_short at.flow);
+  }
+
+  -- it is over
+  pub over_becomes : (new : FlowState F) (change : SessionChange) (sessions : List Session) (last : Body) → session_part change ≡ (over me sessions at new last).change → IsFlow within new → IsNumbered at.flow new → IsSession at.flow None change → length (session_text change) ≤ 50000
+      → Becomes within at (over me sessions at new last) (record { state = new; session = change })
+  over_becomes new change sessions last told limits own h short = record {
+    effect = λ i. record { flow = (effect_by (Some (record { number = at.flow; state = new })) change).flow; change = told i };
+    flow = (limits, own);
+    session = h;
+    short = short;
+  }
+
+  -- a frame returned to the one below it
+  returned_to : (s : NodeState F) (value : Value) (below : List F) → 0 < length below → effect_by (Some (record { number = at.flow; state = returned w me now at value below })) (unchanged at.flow) ≡ returns w me s now at value below
+  returned_to s value [] deep = absurd (omega (arith, deep))
+  returned_to s value (frame ∷ below) deep = refl
+
+  pub returned_becomes : (s : NodeState F) (new : FlowState F) (change : SessionChange) (value : Value) → new ≡ returned w me now at value at.stack.below → change ≡ unchanged at.flow → IsFlow within (returned w me now at value at.stack.below) → 0 < length at.stack.below
+      → Becomes within at (returns w me s now at value at.stack.below) (record { state = new; session = change })
+  returned_becomes s new change value is none limits deep = record {
+    effect = (λ i. effect_by (Some (record { number = at.flow; state = is i })) (none i)) ∙ returned_to s value at.stack.below deep;
+    flow = (subst (IsFlow within) (sym is) limits, subst (IsNumbered at.flow) (sym is) (returned_numbered w me now at value at.stack.below));
+    session = subst (IsSession at.flow None) (sym none) (unchanged_within at.flow);
+    short = subst (λ (c : SessionChange). length (session_text c) ≤ 50000) (sym none) (unchanged_short at.flow);
+  }
+
+  -- the bottom frame returned
+  pub ended_means : (s : NodeState F) (sessions : List Session) (new : FlowState F) (value : Value) (below : List F) → s.sessions ≡ sessions → length below ≡ 0 → new ≡ returned w me now at value below → over me sessions at new body_of.End ≡ returns w me s now at value below
+  ended_means s sessions new value [] same none is = (λ i. over me (sym same i) at (is i) body_of.End)
+  ended_means s sessions new value (frame ∷ below) same none is = absurd (omega (arith, none))
+
+-- ---- by its event
+
+-- a state with these sessions and nothing else
+abbrev pub standing : {F : Type 0} → List Session → NodeState F
+standing sessions = record fresh { sessions = sessions }
+
+module _ {F : Type 0} (w : Environment F) (built : Built w) (me now : ℕ) (sessions : List Session) (at : Checkpoint F) where
+  -- by whichever event the flow goes on, it has this effect
+  abbrev pub By : Effect F → Type 0
+  By e = (s : NodeState F) (ev : Event) → s.sessions ≡ sessions → enabled_event w sessions now (state.Live at) ≡ Some ev → effect_on w me s now (state.Live at) ev ≡ Some e
+
+  as_built : (a : Act F) → at.waiting ≡ a → is_act_built a ≡ true → w.performs at.waiting ≡ true
+  as_built a is holds = ap (λ (p : Act F → Bool). p at.waiting) built ∙ ap (λ (x : Act F). is_act_built x) is ∙ holds
+
+  event_as : (a : Act F) → at.waiting ≡ a → is_act_built a ≡ true → enabled_event w sessions now (state.Live at) ≡ enabling sessions at.flow now a
+  event_as a is holds = ap (λ b. cond b (enabling sessions at.flow now at.waiting) None) (as_built a is holds) ∙ ap (λ (x : Act F). enabling sessions at.flow now x) is
+
+  move_as : (s : NodeState F) (a : Act F) → at.waiting ≡ a → is_act_built a ≡ true → effect_on w me s now (state.Live at) (event.Move at.flow) ≡ performed w me s now at a
+  move_as s a is holds = ap (λ b. cond b (performed w me s now at at.waiting) None) (as_built a is holds) ∙ ap (λ (x : Act F). performed w me s now at x) is
+
+  lapse_as : (s : NodeState F) (a : Act F) → at.waiting ≡ a → is_act_built a ≡ true → effect_on w me s now (state.Live at) (event.Lapse at.flow) ≡ lapsed w me now at (lapses s now at.flow a)
+  lapse_as s a is holds = ap (λ b. cond b (lapsed w me now at (lapses s now at.flow at.waiting)) None) (as_built a is holds) ∙ ap (λ (x : Act F). lapsed w me now at (lapses s now at.flow x)) is
+
+  -- an act that is always enabled
+  by_move : (a : Act F) (e : Effect F) → at.waiting ≡ a → is_act_built a ≡ true → enabling sessions at.flow now a ≡ Some (event.Move at.flow) → ((s : NodeState F) → s.sessions ≡ sessions → performed w me s now at a ≡ Some e) → By e
+  by_move a e is holds en does s ev same h =
+      let one : Some (event.Move at.flow) ≡ Some ev = sym en ∙ sym (event_as a is holds) ∙ h in
+      let move : event.Move at.flow ≡ ev = cc in
+      ap (λ x. effect_on w me s now (state.Live at) x) (sym move) ∙ move_as s a is holds ∙ does s same
+
+  pub by_open : (to : Party) (class : ℕ) (first : Value) → at.waiting ≡ act.Open to class first → By (goes_on w me now at (opens w.nodes me sessions at.flow to class first))
+  unfolding is_act_built
+  by_open to class first is = by_move (act.Open to class first) _ is refl refl (λ s same. ap (λ (l : List Session). Some (goes_on w me now at (opens w.nodes me l at.flow to class first))) same)
+
+  pub by_send : (key : Key) (value : Value) → at.waiting ≡ act.Send key value → By (goes_on w me now at (sends me value (owned at.flow key sessions)))
+  unfolding is_act_built
+  by_send key value is = by_move (act.Send key value) _ is refl refl (λ s same. ap (λ (l : List Session). Some (goes_on w me now at (sends me value (owned at.flow key l)))) same)
+
+  pub by_sub : (frame : F) → at.waiting ≡ act.Sub frame → By (pushes w me now at frame)
+  unfolding is_act_built
+  by_sub frame is = by_move (act.Sub frame) _ is refl refl (λ s same. refl)
+
+  returns_same : (s : NodeState F) (value : Value) (below : List F) → s.sessions ≡ sessions → returns w me s now at value below ≡ returns w me (standing sessions) now at value below
+  returns_same s value [] same = ap (λ (l : List Session). over me l at (state.Ended (at.step + 1) at.class value) body_of.End) same
+  returns_same s value (frame ∷ below) same = refl
+
+  pub by_return : (value : Value) → at.waiting ≡ act.Return value → By (returns w me (standing sessions) now at value at.stack.below)
+  unfolding is_act_built
+  by_return value is = by_move (act.Return value) _ is refl refl (λ s same. ap (λ (e : Effect F). Some e) (returns_same s value at.stack.below same))
+
+  pub by_fail : (code : ℕ) → at.waiting ≡ act.Fail code → By (fails me (standing {F = F} sessions) at code)
+  unfolding is_act_built
+  by_fail code is = by_move (act.Fail code) _ is refl refl (λ s same. ap (λ (l : List Session). Some (over me l at (state.Failed (at.step + 1) at.class code) (body_of.Error code))) same)
+
+  -- ---- acts that wait
+
+  move_on : (eff : Event → Option (Effect F)) (x : Option (Effect F)) (ev : Event) → eff (event.Move at.flow) ≡ x → Some (event.Move at.flow) ≡ Some ev → eff ev ≡ x
+  move_on eff x ev move h = let same : event.Move at.flow ≡ ev = cc in subst (λ v. eff v ≡ x) same move
+
+  lapse_on : (eff : Event → Option (Effect F)) (d : Done) (late : Bool) (ev : Event) → eff (event.Lapse at.flow) ≡ lapsed w me now at late → cond late (Some (event.Lapse at.flow)) None ≡ Some ev → eff ev ≡ Some (goes_on w me now at (resumed.Lapsed, nothing))
+  lapse_on eff d true ev lapse h = let same : event.Lapse at.flow ≡ ev = cc in subst (λ v. eff v ≡ Some (goes_on w me now at (resumed.Lapsed, nothing))) same lapse
+  lapse_on eff d false ev lapse h = cc
+
+  late_on : (eff : Event → Option (Effect F)) (late : Bool) (ev : Event) → eff (event.Lapse at.flow) ≡ lapsed w me now at (late && true) → cond late (Some (event.Lapse at.flow)) None ≡ Some ev → eff ev ≡ Some (goes_on w me now at (resumed.Lapsed, nothing))
+  late_on eff true ev lapse h = lapse_on eff (resumed.Lapsed, nothing) true ev lapse h
+  late_on eff false ev lapse h = cc
+
+  abbrev Items : Type 0
+  Items = Option (Option ℕ × Body)
+
+  taking_item : (eff : Event → Option (Effect F)) (session : Session) (n : Items) (ev : Event) → eff (event.Move at.flow) ≡ option_map (goes_on w me now at) (option_map (takes session) n) → cond (is_none n) None (Some (event.Move at.flow)) ≡ Some ev
+      → eff ev ≡ Some (goes_on w me now at (unwrap_or (option_map (takes session) n) (resumed.Lapsed, nothing)))
+  taking_item eff session None ev move h = cc
+  taking_item eff session (Some x) ev move h = move_on eff _ ev move h
+
+  taking : (eff : Event → Option (Effect F)) (o : Option Session) (ev : Event) → eff (event.Move at.flow) ≡ option_map (goes_on w me now at) (receives o) → cond (waits_for o) None (Some (event.Move at.flow)) ≡ Some ev
+      → eff ev ≡ Some (goes_on w me now at (takes_or_lapses o))
+  taking eff None ev move h = move_on eff _ ev move h
+  taking eff (Some session) ev move h = taking_item eff session (next_item session session.ending) ev move h
+
+  until_item : (eff : Event → Option (Effect F)) (session : Session) (n : Items) (late : Bool) (ev : Event) → eff (event.Move at.flow) ≡ option_map (goes_on w me now at) (option_map (takes session) n) → eff (event.Lapse at.flow) ≡ lapsed w me now at (late && is_none n)
+      → cond (is_none n) (cond late (Some (event.Lapse at.flow)) None) (Some (event.Move at.flow)) ≡ Some ev → eff ev ≡ Some (goes_on w me now at (unwrap_or (option_map (takes session) n) (resumed.Lapsed, nothing)))
+  until_item eff session None late ev move lapse h = late_on eff late ev lapse h
+  until_item eff session (Some x) late ev move lapse h = move_on eff _ ev move h
+
+  until : (eff : Event → Option (Effect F)) (o : Option Session) (late : Bool) (ev : Event) → eff (event.Move at.flow) ≡ option_map (goes_on w me now at) (receives o) → eff (event.Lapse at.flow) ≡ lapsed w me now at (late && waits_for o)
+      → cond (waits_for o) (cond late (Some (event.Lapse at.flow)) None) (Some (event.Move at.flow)) ≡ Some ev → eff ev ≡ Some (goes_on w me now at (takes_or_lapses o))
+  until eff None late ev move lapse h = move_on eff _ ev move h
+  until eff (Some session) late ev move lapse h = until_item eff session (next_item session session.ending) late ev move lapse h
+
+  pub by_receive : (key : Key) → at.waiting ≡ act.Receive key → By (goes_on w me now at (takes_or_lapses (owned at.flow key sessions)))
+  unfolding is_act_built
+  by_receive key is s ev same h =
+      taking (λ x. effect_on w me s now (state.Live at) x) (owned at.flow key sessions) ev (move_as s (act.Receive key) is refl ∙ ap (λ (l : List Session). option_map (goes_on w me now at) (receives (owned at.flow key l))) same)
+      (sym (event_as (act.Receive key) is refl) ∙ h)
+
+  pub by_receive_until : (key : Key) (moment : ℕ) → at.waiting ≡ act.ReceiveBy key moment → By (goes_on w me now at (takes_or_lapses (owned at.flow key sessions)))
+  unfolding is_act_built
+  by_receive_until key moment is s ev same h =
+      until (λ x. effect_on w me s now (state.Live at) x) (owned at.flow key sessions) (nat_le moment now) ev
+      (move_as s (act.ReceiveBy key moment) is refl ∙ ap (λ (l : List Session). option_map (goes_on w me now at) (receives (owned at.flow key l))) same)
+      (lapse_as s (act.ReceiveBy key moment) is refl ∙ ap (λ (l : List Session). lapsed w me now at (nat_le moment now && waits_for (owned at.flow key l))) same)
+      (sym (event_as (act.ReceiveBy key moment) is refl) ∙ h)
+
+  pub by_sleep : (moment : ℕ) → at.waiting ≡ act.Sleep moment → By (goes_on w me now at (resumed.Lapsed, nothing))
+  unfolding is_act_built
+  by_sleep moment is s ev same h = lapse_on (λ x. effect_on w me s now (state.Live at) x) (resumed.Lapsed, nothing) (nat_le moment now) ev (lapse_as s (act.Sleep moment) is refl) (sym (event_as (act.Sleep moment) is refl) ∙ h)
+
+  -- an act that nodes don't perform goes on by no event
+  pub by_none : is_act_built at.waiting ≡ false → enabled_event w sessions now (state.Live at) ≡ None
+  by_none not_built = ap (λ b. cond b (enabling sessions at.flow now at.waiting) None) (ap (λ (p : Act F → Bool). p at.waiting) built ∙ not_built)
+
+-- what holds of each holds of a result
+pub if_ok : {X E : Type 0} (P Q : X → Type 0) (r : Result X E) → ((x : X) → P x → Q x) → IfOk r P → IfOk r Q
+if_ok P Q (Ok x) f h = f x h
+if_ok P Q (Err e) f h = h
+
+-- ---- what an act performed
+
+module _ {F : Type 0} (w : Environment F) (me now : ℕ) (within : F → Type 0) (at : Checkpoint F) where
+  -- the flow goes on with what its act means, where that was done
+  pub told_becomes : {E : Type 0} (d e : Done) (r : Result (Gone F) E) → d ≡ e → IfOk r (λ gone. Becomes within at (goes_on w me now at d) gone) → IfOk r (λ gone. Becomes within at (goes_on w me now at e) gone)
+  told_becomes d e r same h = subst (λ x. IfOk r (λ gone. Becomes within at (goes_on w me now at x) gone)) same h
+
+  -- what becomes of the flow is what its act means, where that is its effect by each event
+  pub all_perform : {E : Type 0} (sessions : List Session) (e : Effect F) (r : Result (Gone F) E) → ((s : NodeState F) (ev : Event) → s.sessions ≡ sessions → enabled_event w sessions now (state.Live at) ≡ Some ev → effect_on w me s now (state.Live at) ev ≡ Some e)
+      → IfOk r (λ gone. Becomes within at e gone) → IfOk r (λ gone. Performs w me now within sessions at gone)
+  all_perform sessions e r by h = if_ok (λ gone. Becomes within at e gone) (λ gone. Performs w me now within sessions at gone) r (λ gone b. record { effect = e; becomes = b; by = by }) h
+
+-- ---- an act that nodes don't perform
+
+some_is : {X : Type 0} (o : Option X) → o ≡ None → IsSome o → ⊥
+some_is None is h = cc
+some_is (Some x) is h = cc
+
+module _ {F : Type 0} where
+  -- nodes perform no other acts than these
+  no_other : (a : Act F) → ((to : Party) (class : ℕ) (first : Value) → a ≡ act.Open to class first → ⊥) → ((key : Key) (value : Value) → a ≡ act.Send key value → ⊥) → ((key : Key) → a ≡ act.Receive key → ⊥) → ((key : Key) (until : ℕ) → a ≡ act.ReceiveBy key until → ⊥)
+      → ((until : ℕ) → a ≡ act.Sleep until → ⊥) → ((frame : F) → a ≡ act.Sub frame → ⊥) → ((value : Value) → a ≡ act.Return value → ⊥) → ((code : ℕ) → a ≡ act.Fail code → ⊥) → is_act_built a ≡ false
+  unfolding is_act_built
+  no_other (act.Open to class first) opens sends receives waits sleeps subs returns fails = absurd (opens to class first refl)
+  no_other (act.Send key value) opens sends receives waits sleeps subs returns fails = absurd (sends key value refl)
+  no_other (act.Receive key) opens sends receives waits sleeps subs returns fails = absurd (receives key refl)
+  no_other (act.ReceiveBy key until) opens sends receives waits sleeps subs returns fails = absurd (waits key until refl)
+  no_other (act.Sleep until) opens sends receives waits sleeps subs returns fails = absurd (sleeps until refl)
+  no_other (act.Sub frame) opens sends receives waits sleeps subs returns fails = absurd (subs frame refl)
+  no_other (act.Verify tx) opens sends receives waits sleeps subs returns fails = refl
+  no_other (act.Reserve token amount) opens sends receives waits sleeps subs returns fails = refl
+  no_other (act.Lookup id) opens sends receives waits sleeps subs returns fails = refl
+  no_other (act.Missing tx) opens sends receives waits sleeps subs returns fails = refl
+  no_other (act.Sign id) opens sends receives waits sleeps subs returns fails = refl
+  no_other (act.Notarise request) opens sends receives waits sleeps subs returns fails = refl
+  no_other (act.Record stx) opens sends receives waits sleeps subs returns fails = refl
+  no_other (act.Return value) opens sends receives waits sleeps subs returns fails = absurd (returns value refl)
+  no_other (act.Fail code) opens sends receives waits sleeps subs returns fails = absurd (fails code refl)
+
+  -- a flow goes on by no other act than these
+  pub not_enabled : (w : Environment F) → Built w → (now : ℕ) (sessions : List Session) (at : Checkpoint F) → IsSome (enabled_event w sessions now (state.Live at)) → ((to : Party) (class : ℕ) (first : Value) → at.waiting ≡ act.Open to class first → ⊥)
+      → ((key : Key) (value : Value) → at.waiting ≡ act.Send key value → ⊥) → ((key : Key) → at.waiting ≡ act.Receive key → ⊥) → ((key : Key) (until : ℕ) → at.waiting ≡ act.ReceiveBy key until → ⊥) → ((until : ℕ) → at.waiting ≡ act.Sleep until → ⊥) → ((frame : F) → at.waiting ≡ act.Sub frame → ⊥)
+      → ((value : Value) → at.waiting ≡ act.Return value → ⊥) → ((code : ℕ) → at.waiting ≡ act.Fail code → ⊥) → ⊥
+  not_enabled w built now sessions at enabled opens sends receives waits sleeps subs returns fails =
+      some_is (enabled_event w sessions now (state.Live at)) (by_none w built 0 now sessions at (no_other at.waiting opens sends receives waits sleeps subs returns fails)) enabled

@@ -1,0 +1,21 @@
+use Rattle.net_model.specs.Environment.{environment}
+use Rattle.net_model.specs.Steps.{sends}
+use Rattle.session_wire.specs.Rules.{owned}
+use Rattle.session_acts.specs.Parts.{done_of}
+use Rattle.flow_steps.proofs.Limits.{send_done}
+use Rattle.flow_steps.proofs.Performs.{told_becomes}
+use Rattle.flow_steps.proofs.acts.send_item.Goals as goal
+
+pub go_on-requires-clause-done : goal.go_on-requires-clause-done
+go_on-requires-clause-done g c =
+    let at = c.args.at.now in
+    let id = c.args.identity.now in
+    let list = c.args.sessions.now.list in
+    send_done id.party.0 at.flow c.args.value.now (owned at.flow c.args.key.now list) c.in_ok-done.done c.in_ok-done.ensures.done (c.in_ok-done.ensures.limits c.requires.key c.requires.value) c.in_ok-done.ensures.room
+
+pub returns : goal.returns
+returns g c =
+    let at = c.args.at.now in
+    let id = c.args.identity.now in
+    let list = c.args.sessions.now.list in
+    told_becomes (environment g.F.FlowSet.machine g.F.Spelt.reading id) id.party.0 c.args.now.0 g.F.Spelt.within at (done_of c.in_ok-done.done) (sends id.party.0 c.args.value.now (owned at.flow c.args.key.now list)) c.go_on.result c.in_ok-done.ensures.done c.go_on.ensures

@@ -1,0 +1,16 @@
+//! What a node is about to commit: the next step of a flow, or the answer to an item, worked out over the node's tables and
+//! changing nothing (Corda 4 documentation, "Flow framework", "Flow sessions").
+#![tactic(auto)]
+
+mod accepting;
+mod acts;
+mod picking;
+mod ready;
+mod resuming;
+
+pub use accepting::{answer_init, arrive_item};
+pub use picking::pick_event;
+pub use ready::{Ready, advance, begin};
+
+#[cfg(test)]
+mod tests;

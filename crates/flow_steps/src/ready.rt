@@ -1,0 +1,142 @@
+//! What a node is about to commit.
+
+ghost use Rattle.std.specs.Prelude.{◌≡◌, ◌<◌, ◌≤◌, ◌^◌, ◌+◌, ◌-◌, [], length, IfOk, IfSome, None, Some, ℕ, Option, option_map, option_and_then, slice_get};
+ghost use Rattle.std.specs.List.{AllByRecursion};
+ghost use Rattle.net_base.specs.Names.{IsIdentity};
+ghost use Rattle.net_base.specs.Reading.{IsBytes};
+ghost use Rattle.net_model.specs.State.{NodeState};
+ghost use Rattle.net_model.specs.Environment.{environment};
+ghost use Rattle.net_model.specs.Enabled.{picked};
+ghost use Rattle.net_model.specs.Steps.{checkpoint_of};
+ghost use Rattle.net_model.specs.Sound.{steps_of, AreNumbered};
+ghost use Rattle.flow_records.specs.Records.{IsFlow};
+ghost use Rattle.flow_steps.specs.Going.{first_state};
+ghost use Rattle.flow_steps.specs.Ready.{AreKept, IsBegun, IsReady};
+
+use crate::acts::{perform, unchanged};
+use crate::picking::flow_in;
+use crate::resuming::place_of;
+use checkpoints::{FlowView, Flows};
+use flow_machine::{Act, Checkpoint, FlowSet, FlowState, MakeFault, Stack};
+use flow_records::FlowAfter;
+use net_base::{ByteList, Event, Identity, Moment, Unlimited};
+use session_table::Sessions;
+use session_wire::SessionChange;
+use std::alloc::{AllocError, Global};
+
+/// What a node is about to commit: the event, the flow after it and what changes of the sessions.
+#[derive(Drop)]
+pub struct Ready<F> {
+    pub event: Event,
+    /// `None` where no flow changes.
+    pub flow: Option<FlowAfter<F>>,
+    /// Its `owner` is the flow's number, 0 where no flow changes.
+    pub session: SessionChange,
+}
+
+/// The checkpoint of the flow of the number, where it is live.
+fn live_at<F: Drop>(flows: &Flows<F>, number: u32) -> Option<&Checkpoint<F>>
+    ensures checkpoint { option_map (λ at. at.now) result ≡ option_and_then checkpoint_of (slice_get flows.now.flows number) }
+    ensures own { IfSome result (λ at. at.now.flow ≡ number) }
+{
+    match flows.get(number) {
+        Some(FlowView::Live(at)) => Some(at),
+        _ => None,
+    }
+}
+
+/// Tells a proof that these are bytes. It does nothing when it runs.
+fn known_bytes(bytes: &[u8])
+    ensures { IsBytes bytes.now }
+{
+    let _ = bytes;
+}
+
+/// A flow that begins, at step 0. Takes no memory.
+pub(crate) fn first_state<F>(
+    alloc: Global,
+    flow: u32,
+    class: u16,
+    top: F,
+    waiting: Act<F>,
+) -> FlowState<F>
+    ensures { result ≡ first_state flow class (top, waiting) }
+{
+    FlowState::Live(Checkpoint {
+        flow,
+        step: 0,
+        class,
+        waiting,
+        stack: Stack::new(alloc, top),
+    })
+}
+
+/// What a start of a class is about to commit: the flow of the node's next number.
+///
+/// # Errors
+///
+/// `UnknownClass` and `BadArgs` exactly where the flow set makes no such flow, `Memory` for want of memory.
+pub fn begin<F: FlowSet>(
+    alloc: Global,
+    identity: &Identity,
+    number: u32,
+    now: Moment,
+    class: u16,
+    args: &ByteList,
+) -> Result<Ready<F>, MakeFault>
+    requires { IsIdentity identity.now }
+    ensures { (s : NodeState F) → length s.flows ≡ number → IsBegun (environment F.machine F.reading identity.now) identity.now.party.0 now.0 F.within s class args.now result }
+{
+    let Ok(copy) = args.copy(alloc) else {
+        return Err(MakeFault::Memory);
+    };
+    known_bytes(args.as_slice());
+    now.known();
+    let (top, waiting) = F::make(alloc, class, args, &place_of(identity, number, 0, now))?;
+    Ok(Ready {
+        event: Event::Start {
+            flow: number,
+            class,
+            args: copy,
+        },
+        flow: Some(FlowAfter {
+            number,
+            state: first_state(alloc, number, class, top, waiting),
+        }),
+        session: unchanged(alloc, number),
+    })
+}
+
+/// What a node is about to commit where a flow goes on by this event, which was picked. The only error is want of memory.
+pub fn advance<F: FlowSet>(
+    alloc: Global,
+    identity: &Identity,
+    flows: &Flows<F>,
+    sessions: &Sessions,
+    now: Moment,
+    event: Event,
+) -> Result<Ready<F>, AllocError>
+    requires identity { IsIdentity identity.now }
+    requires picked { (pick : Option ℕ) × (picked (environment F.machine F.reading identity.now) sessions.now.list now.0 pick flows.now.flows ≡ Some event) }
+    requires steps { AllByRecursion (λ flow. steps_of flow < 2 ^ 32 - 1) flows.now.flows }
+    requires limits { AllByRecursion (IsFlow F.within) flows.now.flows }
+    requires numbered { AreNumbered 0 flows.now.flows }
+    requires party { sessions.now.party ≡ identity.now.party }
+    requires kept { AreKept identity.now.party sessions.now.list }
+    ensures event { IfOk result (λ r. r.event ≡ event) }
+    ensures ready { IfOk result (λ r. (s : NodeState F) → s.flows ≡ flows.now.flows → s.sessions ≡ sessions.now.list → IsReady (environment F.machine F.reading identity.now) identity.now.party.0 now.0 F.within s None r) }
+{
+    let number = flow_in(&event);
+    let Some(at) = live_at(flows, number) else {
+        unreachable!();
+    };
+    let gone = perform(alloc, identity, sessions, now, at)?;
+    Ok(Ready {
+        event,
+        flow: Some(FlowAfter {
+            number,
+            state: gone.state,
+        }),
+        session: gone.session,
+    })
+}
