@@ -1,60 +1,24 @@
--- How a journal is opened, and the tables rebuilt from its bodies.
-use Rattle.std.proofs.Common.{◌≡◌, ◌⊎◌, inl, inr, ⊎_elim, ℕ, zero, suc, ◌+◌, ◌<◌, ◌≤◌, List, [], ◌∷◌, ◌++◌, length, map, Option, Some, None, Result, Ok, Err, Bool, true, false, cond, refl, sym, ◌∙◌, ap, subst, arith, append_assoc, length-append}
-use Rattle.std.proofs.lemmas.List.{append-nil, map-append, length-map}
-use Rattle.outside.specs.Disk.{DiskState, DiskView, IsImage, EachImage, IfTold, clean}
+-- How a journal is opened.
+use Rattle.std.proofs.Common.{◌≡◌, ◌⊎◌, inl, inr, ⊎_elim, ℕ, ◌+◌, ◌≤◌, List, [], ◌∷◌, length, map, Some, None, Err, true, refl, sym, ◌∙◌, ap, subst, arith}
+use Rattle.std.proofs.lemmas.List.{length-map}
+use Rattle.outside.specs.Disk.{DiskView, IsImage, EachImage, IfTold, clean}
 use Rattle.outside.specs.Faults.{Rose}
 use Rattle.outside.proofs.Moments.{at_now}
 use Rattle.net_base.specs.declared.names.Identity.{Identity}
-use Rattle.net_model.specs.State.{NodeState, fresh, replay}
 use Rattle.disk_journal.specs.Journal.{JournalView, IsReady, IsSound, IsYoung, GivesUp, WasSpelt, journal_of, refusal, placed, size_of}
 use Rattle.disk_journal.specs.declared.fault.OpenFault.{OpenFault}
 use Rattle.disk_journal.specs.declared.fault.OpenFault.TheVariants as open_fault
-use Rattle.flow_records.specs.Records.{record_of}
-use Rattle.node_core.specs.declared.faults.BootFault.{BootFault}
-use Rattle.node_core.specs.declared.faults.BootFault.TheVariants as boot_fault
-use Rattle.node_core.specs.Journals.{Reads, state_of, bytes_of}
-use Rattle.node_core.specs.Fits.{fits_read, apply_read, misfit_from, misfit}
-use Rattle.node_core.specs.Disks.{roomless, Moves, KeepsForm, Holds}
-use Rattle.node_core.specs.Seen.{RunSeen, Tied, Opens, Refuses, Unopened, Unfit, Unbooted, Booted, RebuildsAs, boot_of}
-use Rattle.node_core.proofs.Runs.{state_push}
+use Rattle.node_tables.specs.declared.boot.RebuildFault.{RebuildFault}
+use Rattle.node_tables.specs.declared.boot.RebuildFault.TheVariants as rebuild_fault
+use Rattle.node_tables.specs.Journals.{Reads}
+use Rattle.node_tables.specs.Seen.{RebuildsAs}
+use Rattle.node_core.specs.Journals.{bytes_of}
+use Rattle.node_core.specs.Disks.{roomless}
+use Rattle.node_core.specs.Seen.{Tied, Opens, Refuses, Unfit, Unbooted, boot_by, boot_of}
 use Rattle.node_core.proofs.Commits.{tied_holds}
-
--- ---- the tables are rebuilt
 
 abbrev pub bodies_in : List (ℕ × List ℕ) → List (List ℕ)
 bodies_in list = map (λ x. x.1) list
-
--- the place of the first misfit of all is that of the bodies left
-pub record Rebuilding {F : Type 0} (f : Reads F) (all : List (ℕ × List ℕ)) (built : List (List ℕ)) (left : List (ℕ × List ℕ)) : Type 0 where
-  pub all_of : built ++ bodies_in left ≡ bodies_in all
-  pub place : misfit f all ≡ misfit_from f (state_of f built) left
-
-pub rebuilding_none : {F : Type 0} (f : Reads F) (all : List (ℕ × List ℕ)) (built : List (List ℕ)) → built ≡ [] → Rebuilding f all built all
-unfolding misfit state_of replay
-rebuilding_none f all built none = rw none (record { all_of = refl; place = refl })
-
-pub rebuilding_more : {F : Type 0} (f : Reads F) (all : List (ℕ × List ℕ)) (built more : List (List ℕ)) (left rest : List (ℕ × List ℕ)) (x : ℕ × List ℕ) → Rebuilding f all built left → left ≡ x ∷ rest → more ≡ built ++ x.1 ∷ [] → fits_read (state_of f built) (record_of f x.1) ≡ true → Rebuilding f all more rest
-rebuilding_more f all built more left rest x so_far next same ok =
-    let here : misfit_from f (state_of f built) left ≡ misfit_from f (apply_read (state_of f built) (record_of f x.1)) rest = ap (misfit_from f (state_of f built)) next ∙ ap (λ b. cond b (misfit_from f (apply_read (state_of f built) (record_of f x.1)) rest) (Some x.0)) ok in
-    let there : Rebuilding f all (built ++ x.1 ∷ []) rest = record {
-      all_of = append_assoc built (x.1 ∷ []) (bodies_in rest) ∙ ap (λ l. built ++ bodies_in l) (sym next) ∙ so_far.all_of;
-      place = so_far.place ∙ here ∙ ap (λ s. misfit_from f s rest) (sym (state_push f built x.1));
-    } in
-    subst (λ b. Rebuilding f all b rest) (sym same) there
-
-pub misfit_here : {F : Type 0} (f : Reads F) (all : List (ℕ × List ℕ)) (built : List (List ℕ)) (left rest : List (ℕ × List ℕ)) (x : ℕ × List ℕ) → Rebuilding f all built left → left ≡ x ∷ rest → fits_read (state_of f built) (record_of f x.1) ≡ false → misfit f all ≡ Some x.0
-misfit_here f all built left rest x so_far next bad = so_far.place ∙ ap (misfit_from f (state_of f built)) next ∙ ap (λ b. cond b (misfit_from f (apply_read (state_of f built) (record_of f x.1)) rest) (Some x.0)) bad
-
-pub rebuilt : {F : Type 0} (f : Reads F) (all : List (ℕ × List ℕ)) (built : List (List ℕ)) (left : List (ℕ × List ℕ)) → Rebuilding f all built left → length left ≡ 0 → (built ≡ bodies_in all) × (misfit f all ≡ None)
-rebuilt f all built [] so_far none = (sym (append-nil built) ∙ so_far.all_of, so_far.place)
-rebuilt f all built (x ∷ xs) so_far none = absurd (omega (arith, none))
-
--- fewer bodies were built than there are, while some are left
-pub fewer : {F : Type 0} (f : Reads F) (all : List (ℕ × List ℕ)) (built : List (List ℕ)) (left rest : List (ℕ × List ℕ)) (x : ℕ × List ℕ) → Rebuilding f all built left → left ≡ x ∷ rest → length all ≤ 65536 → length built < 65536
-fewer f all built left rest x so_far next few =
-    let sizes : length built + length (bodies_in left) ≡ length (bodies_in all) = sym (length-append built (bodies_in left)) ∙ ap length so_far.all_of in
-    let left_size : length left ≡ suc (length rest) = ap length next in
-    omega (arith, sizes, length-map left (λ (y : ℕ × List ℕ). y.1), length-map all (λ (y : ℕ × List ℕ). y.1), left_size, few)
 
 -- ---- a list with places
 
@@ -155,14 +119,11 @@ unopened f id old new why c = record {
   cause = inl (why, refl, refuses_roomless id old new why (refuses id old new why c));
 }
 
-unfit : {F : Type 0} (f : Reads F) (id : Identity) (old new : DiskView) (list : List (ℕ × List ℕ)) (why : BootFault) (failed : Result RunSeen BootFault) → failed ≡ Err why → RebuildsAs f list failed → Opens id old new list → Unfit f id old why new
-unfit f id old new list (boot_fault.Damaged at) failed is said o = let h : RebuildsAs f list (Err (boot_fault.Damaged at)) = subst (RebuildsAs f list) is said in (list, o, h)
-unfit f id old new list boot_fault.Memory failed is said o = (list, o)
-unfit f id old new list boot_fault.Fault failed is said o = let h : RebuildsAs f list (Err boot_fault.Fault) = subst (RebuildsAs f list) is said in h
-unfit f id old new list boot_fault.NotAJournal failed is said o = let h : RebuildsAs f list (Err boot_fault.NotAJournal) = subst (RebuildsAs f list) is said in h
-unfit f id old new list (boot_fault.WrongNode found) failed is said o = let h : RebuildsAs f list (Err (boot_fault.WrongNode found)) = subst (RebuildsAs f list) is said in h
+unfit : {F : Type 0} (f : Reads F) (id : Identity) (old new : DiskView) (list : List (ℕ × List ℕ)) (why : RebuildFault) → RebuildsAs f id.nodes id.party list (Err why) → Opens id old new list → Unfit f id old (boot_by why) new
+unfit f id old new list (rebuild_fault.Damaged at) said o = (list, o, said)
+unfit f id old new list rebuild_fault.Memory said o = (list, o)
 
-pub unbooted : {F : Type 0} (f : Reads F) (id : Identity) (old : DiskView) (journal : JournalView) (list : List (ℕ × List ℕ)) (why : BootFault) → Opening id old journal list → RebuildsAs f list (Err why) → Unbooted f id (roomless old) why (roomless journal.disk)
+pub unbooted : {F : Type 0} (f : Reads F) (id : Identity) (old : DiskView) (journal : JournalView) (list : List (ℕ × List ℕ)) (why : RebuildFault) → Opening id old journal list → RebuildsAs f id.nodes id.party list (Err why) → Unbooted f id (roomless old) (boot_by why) (roomless journal.disk)
 unbooted f id old journal list why o said =
     let opens = opening_opens id old journal list o in
-    record { moves = opens.moves; form = opens.form; same = λ other. opens.same; calm = opens.calm; cause = inr (unfit f id (roomless old) (roomless journal.disk) list why (Err why) refl said opens) }
+    record { moves = opens.moves; form = opens.form; same = λ other. opens.same; calm = opens.calm; cause = inr (unfit f id (roomless old) (roomless journal.disk) list why said opens) }

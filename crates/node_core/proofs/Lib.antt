@@ -1,9 +1,7 @@
-pub mod Lists
-pub mod Runs
-pub mod Ruled
 pub mod Boots
-pub mod Picks
-pub mod Performs
 pub mod Commits
+pub mod Items
+pub mod Kept
 pub mod Logs
 pub mod Nodes
+pub mod Accepts

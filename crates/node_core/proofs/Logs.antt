@@ -1,15 +1,14 @@
 -- What an append of a record makes of a journal.
-use Rattle.std.proofs.Common.{◌≡◌, ◌⊎◌, inl, inr, ℕ, ◌+◌, ◌≤◌, List, [], ◌∷◌, ◌++◌, length, Option, Some, None, Result, Ok, Err, true, false, Bool, refl, sym, ◌∙◌, ap, subst, arith, length-append}
-use Rattle.outside.specs.Disk.{DiskState, DiskView, IsImage, EachImage, IfTold, SameRest}
+use Rattle.std.proofs.Common.{◌≡◌, ◌⊎◌, inr, ℕ, ◌+◌, ◌≤◌, List, [], ◌∷◌, ◌++◌, length, Some, Ok, Err, true, sym, ◌∙◌, ap, subst, arith, length-append}
+use Rattle.outside.specs.Disk.{DiskState, DiskView, EachImage, IfTold, SameRest}
 use Rattle.outside.specs.Faults.{Rose}
-use Rattle.net_base.specs.declared.names.Identity.{Identity}
 use Rattle.net_model.specs.State.{Record}
 use Rattle.disk_journal.specs.Journal.{JournalView, IsReady, IsSound, IsYoung, IsOldOrNew, journal_of}
 use Rattle.flow_records.specs.Records.{record_of}
-use Rattle.node_core.specs.declared.faults.CommitFault.{CommitFault}
 use Rattle.node_core.specs.declared.faults.CommitFault.TheVariants as commit_fault
-use Rattle.node_core.specs.Journals.{Reads, bytes_of}
-use Rattle.node_core.specs.Disks.{roomless, Moves, KeepsForm, KeepsImages, OldOrMore}
+use Rattle.node_tables.specs.Journals.{Reads}
+use Rattle.node_core.specs.Journals.{bytes_of}
+use Rattle.node_core.specs.Disks.{roomless, Moves, KeepsForm, OldOrMore}
 use Rattle.node_core.specs.Seen.{Tied, LogsAs}
 
 pub bytes_push : (bs : List (List ℕ)) (b : List ℕ) → bytes_of (bs ++ b ∷ []) ≡ bytes_of bs + (5 + length b)

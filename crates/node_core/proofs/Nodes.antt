@@ -1,22 +1,31 @@
 -- A node that is up: its power is cut, or it takes no more records.
-use Rattle.std.proofs.Common.{◌≡◌, ◌⊎◌, inl, inr, ℕ, zero, suc, ◌+◌, ◌<◌, ◌≤◌, List, [], ◌∷◌, ◌++◌, length, Option, Some, None, Result, Ok, Err, IsOk, OnOk, Bool, true, false, max, refl, sym, ◌∙◌, ap, subst, arith}
+use Rattle.std.proofs.Common.{◌≡◌, inl, inr, ℕ, zero, suc, ◌<◌, List, [], Option, Some, None, Result, Ok, Err, IsOk, OnOk, Bool, true, false, max, refl, sym, ◌∙◌, ap, subst, arith}
 use Rattle.std.specs.Result.{is_err}
-use Rattle.outside.specs.Disk.{DiskState, DiskView, IsImage, EachImage, IfTold, CutsPower, LosesPower, clean}
+use Rattle.outside.specs.Disk.{DiskState, DiskView, IsImage, EachImage, CutsPower, clean}
 use Rattle.outside.proofs.Moments.{started, after_failed_read}
 use Rattle.net_base.specs.declared.names.Identity.{Identity}
-use Rattle.disk_journal.specs.Journal.{JournalView, IsSound, IsYoung}
+use Rattle.net_base.specs.declared.causes.Event.{Event}
+use Rattle.session_wire.specs.Sessions.{Sent}
+use Rattle.node_core.specs.declared.faults.CommitFault.{CommitFault}
+use Rattle.node_core.specs.declared.faults.CommitFault.TheVariants as commit_fault
+use Rattle.disk_journal.specs.Journal.{IsSound, IsYoung}
 use Rattle.flow_machine.specs.Machine.{Machine}
 use Rattle.net_model.specs.Environment.{Environment, environment}
 use Rattle.net_model.specs.Steps.{place}
 use Rattle.node_core.specs.declared.node.State.{State}
 use Rattle.node_core.specs.declared.node.State.TheVariants.{Down, Up, Moved}
-use Rattle.node_core.specs.declared.faults.StartFault.{StartFault}
 use Rattle.node_core.specs.declared.faults.StartFault.TheVariants as start_fault
-use Rattle.node_core.specs.declared.faults.CutFault.{CutFault}
-use Rattle.node_core.specs.Journals.{Reads, is_full}
-use Rattle.node_core.specs.Disks.{roomless, Moves, KeepsForm, OneOf, CutsNow}
-use Rattle.node_core.specs.States.{disk_in, journal_in, IsDown}
-use Rattle.node_core.specs.Seen.{NodeSeen, UpSeen, Tied, flow_count, after_cut, CutsDisk, CutsAs, CutAnswers, StartAnswers}
+use Rattle.flow_machine.specs.declared.flow_set.MakeFault.{MakeFault}
+use Rattle.flow_machine.specs.declared.flow_set.MakeFault.TheVariants as make
+use Rattle.flow_steps.specs.Ready.{IsBegun}
+use Rattle.node_tables.specs.Journals.{Reads, state_of}
+use Rattle.node_core.specs.declared.faults.Taken.{Taken}
+use Rattle.node_core.specs.declared.faults.TakeFault.{TakeFault}
+use Rattle.node_core.specs.declared.faults.TakeFault.TheVariants as take_fault
+use Rattle.node_core.specs.Journals.{is_full}
+use Rattle.node_core.specs.Disks.{roomless, OneOf, CutsNow}
+use Rattle.node_core.specs.States.{disk_in, journal_in, acked_in, IsDown, seen_up, seen_down, seen_after, is_fault}
+use Rattle.node_core.specs.Seen.{UpSeen, Tied, flow_count, after_cut, acks_after_cut, start_of, CommitsAs, CutsDisk, CutAnswers, StartAnswers}
 use Rattle.node_core.proofs.Boots.{kept_image}
 
 pub where_ok : {T E : Type 0} (P : Type 0) (r : Result T E) → is_err r ≡ false → OnOk r P → P
@@ -68,37 +77,74 @@ arms id calls outcome old calm some memory synced = record {
   faults = refl;
 }
 
--- a node that is up, as contracts see it
-abbrev pub seen_up : Identity → UpSeen → NodeSeen
-seen_up id up = record { identity = id; disk = roomless up.journal.disk; journal = Some up.bodies }
-
 down_journal : {D F : Type 0} (state : State D F) → IsDown state → journal_in state ≡ None
 down_journal (Down disk) h = refl
 down_journal (Up up) h = absurd h
 down_journal Moved h = absurd h
 
+down_acked : {D F : Type 0} (state : State D F) → IsDown state → acked_in state ≡ []
+down_acked (Down disk) h = refl
+down_acked (Up up) h = absurd h
+down_acked Moved h = absurd h
+
 pub cut_down : {D F : Type 0} (seen : D → DiskView) (id : Identity) (calls outcome : ℕ) (fuse : Option (ℕ × ℕ)) (up armed : UpSeen) (fallen state : State D F) → calls ≡ 0 → up.journal.disk.of_file ≡ false → armed.journal.disk ≡ record up.journal.disk { fuse = fuse; calm = armed.journal.disk.calm } → disk_in seen fallen ≡ roomless armed.journal.disk
-    → CutsNow (disk_in seen fallen) (disk_in seen state) → IsDown state → CutAnswers {T = Unit {0}} calls outcome (seen_up id up) (Ok tt) (record { identity = id; disk = disk_in seen state; journal = journal_in state })
+    → CutsNow (disk_in seen fallen) (disk_in seen state) → IsDown state → CutAnswers {T = Unit {0}} calls outcome (seen_up id up) (Ok tt) (record { identity = id; disk = disk_in seen state; journal = journal_in state; acked = acked_in state })
 cut_down seen id calls outcome fuse up armed fallen state none memory is fell cut down =
     let before : disk_in seen fallen ≡ fused (roomless up.journal.disk) fuse armed.journal.disk.calm = fell ∙ ap roomless is in
     let now : CutsNow (fused (roomless up.journal.disk) fuse armed.journal.disk.calm) (disk_in seen state) = subst (λ d. CutsNow d (disk_in seen state)) before cut in
-    subst (λ (n : ℕ). CutAnswers {T = Unit {0}} n outcome (seen_up id up) (Ok tt) (record { identity = id; disk = disk_in seen state; journal = journal_in state })) (sym none)
-    (down_journal state down, refl, cuts_now id outcome (roomless up.journal.disk) (disk_in seen state) fuse armed.journal.disk.calm memory now)
+    subst (λ (n : ℕ). CutAnswers {T = Unit {0}} n outcome (seen_up id up) (Ok tt) (record { identity = id; disk = disk_in seen state; journal = journal_in state; acked = acked_in state })) (sym none)
+    (down_journal state down, down_acked state down, refl, cuts_now id outcome (roomless up.journal.disk) (disk_in seen state) fuse armed.journal.disk.calm memory now)
 
 after_some : (calls : ℕ) (bodies : List (List ℕ)) → (calls ≡ 0 → ⊥) → Some bodies ≡ after_cut calls bodies
 after_some zero bodies some = absurd (some refl)
 after_some (suc n) bodies some = refl
 
-pub cut_later : (id : Identity) (calls outcome most : ℕ) (up armed : UpSeen) → (calls ≡ 0 → ⊥) → most ≡ max calls 1 → Tied id up.journal up.bodies → up.journal.disk.of_file ≡ false → armed.bodies ≡ up.bodies → armed.journal.disk ≡ record up.journal.disk { fuse = Some (most, outcome); calm = armed.journal.disk.calm }
+acks_some : (calls : ℕ) (acked : List ℕ) → (calls ≡ 0 → ⊥) → acked ≡ acks_after_cut calls acked
+acks_some zero acked some = absurd (some refl)
+acks_some (suc n) acked some = refl
+
+pub cut_later : (id : Identity) (calls outcome most : ℕ) (up armed : UpSeen) → (calls ≡ 0 → ⊥) → most ≡ max calls 1 → Tied id up.journal up.bodies → up.journal.disk.of_file ≡ false → armed.bodies ≡ up.bodies → armed.acked ≡ up.acked → armed.journal.disk ≡ record up.journal.disk { fuse = Some (most, outcome); calm = armed.journal.disk.calm }
     → CutAnswers {T = Unit {0}} calls outcome (seen_up id up) (Ok tt) (seen_up id armed)
-cut_later id calls outcome most up armed some at tied memory same is =
+cut_later id calls outcome most up armed some at tied memory same acks is =
     let above : 0 < calls = omega (arith, some) in
     let exact : most ≡ calls = omega (arith, at, above) in
     let after : fused (roomless up.journal.disk) (Some (calls, outcome)) armed.journal.disk.calm ≡ roomless armed.journal.disk = sym (ap roomless is ∙ ap (λ n. fused (roomless up.journal.disk) (Some (n, outcome)) armed.journal.disk.calm) exact) in
     let done : CutsDisk id calls outcome (roomless up.journal.disk) (roomless armed.journal.disk) = subst (CutsDisk id calls outcome (roomless up.journal.disk)) after (arms id calls outcome (roomless up.journal.disk) armed.journal.disk.calm above memory (λ told. (tied.ready told).synced)) in
-    (ap Some same ∙ after_some calls up.bodies some, refl, done)
+    (ap Some same ∙ after_some calls up.bodies some, acks ∙ acks_some calls up.acked some, refl, done)
+
+-- a node by which nothing was committed
+pub same_up : (id : Identity) (up new : UpSeen) → new.bodies ≡ up.bodies → new.acked ≡ up.acked → roomless new.journal.disk ≡ roomless up.journal.disk → seen_up id new ≡ seen_up id up
+same_up id up new bodies acked disk = λ i. record { identity = id; disk = disk i; journal = Some (bodies i); acked = acked i }
+
+pub memory_up : {F : Type 0} (w : Environment F) (id : Identity) (now : ℕ) (event : Event) (item : Option Sent) (up new : UpSeen) (fault : CommitFault) → fault ≡ commit_fault.Memory → CommitsAs w id now event item {T = Unit {0}} up (Err fault) new → seen_up id new ≡ seen_up id up
+memory_up w id now event item up new fault is said =
+    let h : CommitsAs w id now event item {T = Unit {0}} up (Err commit_fault.Memory) new = subst (λ (k : CommitFault). CommitsAs w id now event item {T = Unit {0}} up (Err k) new) is said in
+    same_up id up new h.0 h.1 h.2
+
+-- a node that took a frame
+pub fell : {D F : Type 0} (seen : D → DiskView) (id : Identity) (up : UpSeen) (state : State D F) → disk_in seen state ≡ roomless up.journal.disk → IsDown state → record { identity = id; disk = disk_in seen state; journal = journal_in state; acked = acked_in state } ≡ seen_down id up
+fell seen id up state disk down = λ i. record { identity = id; disk = disk i; journal = down_journal state down i; acked = down_acked state down i }
+
+pub after_fault : (id : Identity) (answer : Result Taken TakeFault) (up : UpSeen) → is_fault answer ≡ true → seen_after id answer up ≡ seen_down id up
+after_fault id (Err take_fault.Fault) up h = refl
+after_fault id other up h = cc
+
+pub after_answer : (id : Identity) (answer : Result Taken TakeFault) (up : UpSeen) → is_fault answer ≡ false → seen_after id answer up ≡ seen_up id up
+after_answer id (Err take_fault.Fault) up h = cc
+after_answer id other up h = refl
+
+pub no_fault : (answer : Result Taken TakeFault) → is_fault answer ≡ false → answer ≡ Err take_fault.Fault → ⊥
+no_fault (Err take_fault.Fault) h is = cc
+no_fault (Ok x) h is = cc
+no_fault (Err other) h is = cc
+
+-- a start of which no flow is made
+pub start_none : {F : Type 0} (m : Machine F) (f : Reads F) (within : F → Type 0) (now class : ℕ) (args : List ℕ) (id : Identity) (up : UpSeen) (why : MakeFault) → IsBegun (environment m f id) id.party.0 now within (state_of f up.bodies) class args (Err why) → StartAnswers (environment m f id) now class args (seen_up id up) (Err (start_of why)) (seen_up id up)
+start_none m f within now class args id up make.UnknownClass said = (said, refl)
+start_none m f within now class args id up make.BadArgs said = (said, refl)
+start_none m f within now class args id up make.Memory said = refl
 
 -- a start at a node that is full
-pub start_full : {F : Type 0} (m : Machine F) (f : Reads F) (now class : ℕ) (args : List ℕ) (id : Identity) (up : UpSeen) → IsOk (m.made class args (place (environment m f id) id.party.0 (flow_count (environment m f id) up.bodies) 0 now)) → is_full f up.bodies ≡ true
+pub start_full : {F : Type 0} (m : Machine F) (f : Reads F) (now class : ℕ) (args : List ℕ) (id : Identity) (up : UpSeen) → IsOk (m.made class args (place (environment m f id) id.party.0 (flow_count (environment m f id) up.bodies) 0 now)) → is_full f 0 up.bodies ≡ true
     → StartAnswers (environment m f id) now class args (seen_up id up) (Err start_fault.Full) (seen_up id up)
 start_full m f now class args id up made full = (made, full, refl)

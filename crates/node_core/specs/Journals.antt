@@ -1,42 +1,13 @@
--- A node's journal, as the bodies of its records, and the state that they make.
-use Rattle.std.specs.Prelude.{ℕ, ◌+◌, ◌-◌, ◌^◌, ◌||◌, nat_le, Bool, List, [], ◌∷◌, ◌++◌, length, map, option_to_list, Result}
-use Rattle.net_base.specs.declared.causes.Cause.{Cause}
-use Rattle.flow_machine.specs.declared.flows.FlowState.{FlowState}
-use Rattle.net_model.specs.State.{NodeState, Record, replay}
+-- When a node takes no more records.
+use Rattle.std.specs.Prelude.{ℕ, ◌+◌, ◌-◌, ◌^◌, ◌||◌, nat_le, Bool, List, [], ◌∷◌, length}
 use Rattle.disk_journal.specs.Journal.{is_full_at}
-use Rattle.flow_records.specs.Records.{record_of}
-
--- how a frame is read from the front of bytes
-abbrev pub Reads : Type 0 → Type 0
-Reads F = List ℕ → Result (F × List ℕ) ℕ
-
--- the records whose bodies these are; a body that is no record's is passed over
-abbrev pub records_of : {F : Type 0} → Reads F → List (List ℕ) → List (Record F)
-records_of frame_at [] = []
-records_of frame_at (body ∷ bodies) = option_to_list (record_of frame_at body) ++ records_of frame_at bodies
-
--- the state of a node with this journal
-unfoldable pub state_of : {F : Type 0} → Reads F → List (List ℕ) → NodeState F
-state_of frame_at bodies = replay (records_of frame_at bodies)
-
--- the causes of a journal
-unfoldable pub causes_of : {F : Type 0} → Reads F → List (List ℕ) → List Cause
-causes_of frame_at bodies = map (λ r. r.cause) (records_of frame_at bodies)
+use Rattle.node_tables.specs.Journals.{Reads, state_of}
 
 -- how many bytes records with these bodies take, with their gates and lengths
 abbrev pub bytes_of : List (List ℕ) → ℕ
 bytes_of [] = 0
 bytes_of (body ∷ bodies) = 5 + length body + bytes_of bodies
 
--- whether a node with this journal takes no more records: the journal is full, or the last stamp was given
-abbrev pub is_full : {F : Type 0} → Reads F → List (List ℕ) → Bool
-is_full frame_at bodies = is_full_at (length bodies) (17 + bytes_of bodies) || nat_le (2 ^ 63 - 1) (state_of frame_at bodies).stamp
-
--- the state of a node that has no session and has recorded, locked and booked nothing
-abbrev pub lone : {F : Type 0} → List (FlowState F) → ℕ → ℕ → NodeState F
-lone flows stamp moment = record { flows = flows; sessions = []; stored = []; locked = []; entries = []; stamp = stamp; moment = moment }
-
--- a list as contracts see it, with the room for more
-pub record Listed (T : Type 0) : Type 0 where
-  pub items : List T
-  pub room : ℕ
+-- whether a node with this journal takes no record over an item of this stamp, 0 without one: the journal is full, or the last stamp was given
+abbrev pub is_full : {F : Type 0} → Reads F → ℕ → List (List ℕ) → Bool
+is_full frame_at stamp bodies = is_full_at (length bodies) (17 + bytes_of bodies) || (nat_le (2 ^ 63 - 1) (state_of frame_at bodies).stamp || nat_le (2 ^ 63 - 1) stamp)

@@ -1,6 +1,5 @@
 pub mod Journals
-pub mod Fits
 pub mod Disks
-pub mod Nexts
 pub mod Seen
+pub mod Takes
 pub mod States

@@ -1,11 +1,17 @@
 -- Where a node's disk is.
-use Rattle.std.specs.Prelude.{◌≡◌, ℕ, false, List, [], Option, Some, None, ⊤}
+use Rattle.std.specs.Prelude.{◌≡◌, ◌⊎◌, ℕ, Bool, true, false, List, [], Option, Some, None, Result, Err, ⊤}
 use Rattle.outside.specs.Disk.{DiskView, clean}
 use Rattle.net_base.specs.declared.names.Identity.{Identity}
+use Rattle.session_table.specs.declared.resent.Item.{Item}
+use Rattle.net_model.specs.Environment.{Environment}
+use Rattle.node_core.specs.declared.faults.Taken.{Taken}
+use Rattle.node_core.specs.declared.faults.TakeFault.{TakeFault}
+use Rattle.node_core.specs.declared.faults.TakeFault.TheVariants as take_fault
 use Rattle.node_core.specs.declared.node.State.{State}
 use Rattle.node_core.specs.declared.node.State.TheVariants.{Down, Up, Moved}
 use Rattle.node_core.specs.Disks.{roomless}
-use Rattle.node_core.specs.Seen.{Tied}
+use Rattle.node_core.specs.Seen.{UpSeen, NodeSeen, Tied}
+use Rattle.node_core.specs.Takes.{AcceptsAs}
 
 -- no disk at all
 abbrev pub no_disk : DiskView
@@ -23,6 +29,12 @@ journal_in (Down disk) = None
 journal_in (Up up) = Some up.bodies
 journal_in Moved = None
 
+-- the acknowledged numbers of a node that is up
+abbrev pub acked_in : {D F : Type 0} → State D F → List ℕ
+acked_in (Down disk) = []
+acked_in (Up up) = up.acked
+acked_in Moved = []
+
 -- a node is up with a journal that took every append, or down
 abbrev pub IsWhole : {D F : Type 0} → Identity → State D F → Type 0
 IsWhole id (Down disk) = ⊤
@@ -34,3 +46,26 @@ abbrev pub IsDown : {D F : Type 0} → State D F → Type 0
 IsDown (Down disk) = ⊤
 IsDown (Up up) = ⊥
 IsDown Moved = ⊥
+
+-- a node that is up, as contracts see it
+abbrev pub seen_up : Identity → UpSeen → NodeSeen
+seen_up id up = record { identity = id; disk = roomless up.journal.disk; journal = Some up.bodies; acked = up.acked }
+
+-- the node once it went down with its disk
+abbrev pub seen_down : Identity → UpSeen → NodeSeen
+seen_down id up = record { identity = id; disk = roomless up.journal.disk; journal = None; acked = [] }
+
+-- the node after it answered to a frame: down where its disk failed
+abbrev pub seen_after : Identity → Result Taken TakeFault → UpSeen → NodeSeen
+seen_after id (Err take_fault.Fault) up = seen_down id up
+seen_after id _ up = seen_up id up
+
+-- whether a node that answers so to a frame goes down
+abbrev pub is_fault : Result Taken TakeFault → Bool
+is_fault (Err take_fault.Fault) = true
+is_fault _ = false
+
+-- what a node that is up answers where an item comes next; or memory runs out, and nothing changes
+abbrev pub TakesItem : {F : Type 0} → Environment F → ℕ → List (List ℕ) → Item → NodeSeen → Result Taken TakeFault → NodeSeen → Type 0
+TakesItem w now bodies item old answer new =
+    ((answer ≡ Err take_fault.Memory) × (new ≡ old)) ⊎ AcceptsAs w now bodies item.peer item.key item.direction item.number (record { body = item.body; stamp = item.stamp }) old answer new

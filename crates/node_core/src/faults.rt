@@ -1,6 +1,8 @@
 //! What the calls of a node answer.
 
-use net_base::Identity;
+use flow_machine::MakeFault;
+use net_base::{Identity, Party};
+use session_frames::Outgoing;
 use std::alloc::AllocError;
 use thiserror::Error;
 
@@ -51,6 +53,56 @@ pub enum TurnFault {
     /// A call of the disk failed. The record may stand or not; the node is down.
     #[error("the disk failed")]
     Fault,
+}
+
+/// What a node answers to a frame that is its own.
+#[derive(Debug, Drop)]
+pub enum Taken {
+    /// So many of the items that the node sent in the session have arrived, which it notes until it goes down.
+    Acked,
+    /// The item had arrived before: `expected` items of its direction of the session have. The acknowledgement is to be sent again.
+    Again { expected: u32, ack: Outgoing },
+    /// The frame is ahead of the node. For a message the number of the item that is expected, counted from 0; for an
+    /// acknowledgement how many items were sent.
+    Early { expected: u32 },
+    /// The sender is no node of the network, or the frame needs a session with its sender, and there is none of its key.
+    NoSession,
+    /// The item was committed: `upto` items of its direction of the session have arrived. The acknowledgement is to be sent.
+    Took { upto: u32, ack: Outgoing },
+}
+
+/// Why a frame was not taken.
+#[derive(Clone, Copy, Debug, PartialEq, Eq, Error)]
+pub enum TakeFault {
+    /// The node is down.
+    #[error("the node is down")]
+    NodeDown,
+    /// The bytes are no frame.
+    #[error("the bytes are no frame")]
+    Garbled,
+    /// The frame is for another node.
+    #[error("the frame is for another node")]
+    NotMine { to: Party },
+    /// The item comes next, and the journal takes no more records, or the last stamp was given, by the node or by the frame's sender.
+    #[error("the journal is full")]
+    Full,
+    /// Out of memory.
+    #[error("out of memory")]
+    Memory,
+    /// A call of the disk failed. The record may stand or not; the node is down.
+    #[error("the disk failed")]
+    Fault,
+}
+
+/// Why no frames to send were listed.
+#[derive(Clone, Copy, Debug, PartialEq, Eq, Error)]
+pub enum UnackedFault {
+    /// The node is down.
+    #[error("the node is down")]
+    NodeDown,
+    /// Out of memory.
+    #[error("out of memory")]
+    Memory,
 }
 
 /// Why the power was not cut.
@@ -107,24 +159,39 @@ impl From<AllocError> for CommitFault {
     }
 }
 
-impl From<AllocError> for BootFault {
+impl From<AllocError> for TakeFault {
     ghost use Rattle.std.specs.Prelude.{◌≡◌};
-    ghost use Rattle.node_core.specs.declared.faults.BootFault.TheVariants.{Memory};
+    ghost use Rattle.node_core.specs.declared.faults.TakeFault.TheVariants.{Memory};
 
     ghost from_gives = { λ _ e. e ≡ Memory };
 
-    fn from(_: AllocError) -> BootFault {
-        BootFault::Memory
+    fn from(_: AllocError) -> TakeFault {
+        TakeFault::Memory
     }
 }
 
-impl From<AllocError> for StartFault {
+impl From<AllocError> for UnackedFault {
     ghost use Rattle.std.specs.Prelude.{◌≡◌};
-    ghost use Rattle.node_core.specs.declared.faults.StartFault.TheVariants.{Memory};
+    ghost use Rattle.node_core.specs.declared.faults.UnackedFault.TheVariants.{Memory};
 
     ghost from_gives = { λ _ e. e ≡ Memory };
 
-    fn from(_: AllocError) -> StartFault {
-        StartFault::Memory
+    fn from(_: AllocError) -> UnackedFault {
+        UnackedFault::Memory
+    }
+}
+
+impl From<MakeFault> for StartFault {
+    ghost use Rattle.std.specs.Prelude.{◌≡◌};
+    ghost use Rattle.node_core.specs.Seen.{start_of};
+
+    ghost from_gives = { λ why e. e ≡ start_of why };
+
+    fn from(why: MakeFault) -> StartFault {
+        match why {
+            MakeFault::UnknownClass => StartFault::UnknownClass,
+            MakeFault::BadArgs => StartFault::BadArgs,
+            MakeFault::Memory => StartFault::Memory,
+        }
     }
 }

@@ -1,21 +1,21 @@
 //! A node: up on its journal, or down with its disk.
 
-ghost use Rattle.std.specs.Prelude.{◌≡◌, ◌↔◌, ◌<◌, ◌≤◌, ◌^◌, true, false, IsTrue, IsSome, MatchOption, List, ℕ, Some, None};
+ghost use Rattle.std.specs.Prelude.{◌≡◌, ◌↔◌, ◌<◌, ◌≤◌, ◌^◌, true, false, IsTrue, IsSome, MatchOption, List, [], ℕ, Some, None};
 ghost use Rattle.net_model.specs.Environment.{environment};
-ghost use Rattle.node_core.specs.Journals.{state_of, causes_of};
+ghost use Rattle.node_tables.specs.Journals.{state_of, causes_of};
 ghost use Rattle.node_core.specs.Disks.{roomless, CutsNow};
-ghost use Rattle.node_core.specs.Seen.{StartAnswers, TurnAnswers, CutAnswers, BootsAs, IsBy, IsMember};
-ghost use Rattle.node_core.specs.States.{disk_in, journal_in, IsDown};
+ghost use Rattle.node_core.specs.Seen.{StartAnswers, TurnAnswers, CutAnswers, BootsAs, IsBy, IsMember, flow_in};
+ghost use Rattle.node_core.specs.States.{disk_in, journal_in, is_fault, IsDown};
+ghost use Rattle.node_core.specs.Takes.{TakeAnswers, SendAnswers};
 
-use super::acts::let_go;
 use super::faults::CommitFault;
-use super::ready::flow_in;
-use super::up::Up;
-use super::{BootFault, CutFault, StartFault, TurnFault, Turned};
+use super::up::{Up, let_go};
+use super::{BootFault, CutFault, StartFault, TakeFault, Taken, TurnFault, Turned, UnackedFault};
 use checkpoints::Flows;
 use flow_machine::FlowSet;
-use net_base::{ByteList, Cause, Identity, Moment, Spelt};
+use net_base::{ByteList, Cause, Event, Identity, Moment, Spelt};
 use outside::{Bay, Disk};
+use session_frames::OutgoingList;
 use std::alloc::Global;
 use std::marker::Model;
 use std::mem;
@@ -31,9 +31,9 @@ pub enum State<D: Disk, F: Spelt + Drop> {
 
 /// One node on its journal.
 ///
-/// Contracts see its identity, what its disk may leave, and, while it is up, the bodies of its journal's records; all else is what
-/// these make. Each call that commits appends one record, and at every moment since the call began a power cut leaves the old
-/// records or these with the new one.
+/// Contracts see its identity, what its disk may leave, and, while it is up, the bodies of its journal's records and how many of the
+/// items that it sent are acknowledged; all else is what the bodies make. Each call that commits appends one record, and at every
+/// moment since the call began a power cut leaves the old records or these with the new one.
 #[derive(Drop)]
 pub struct Node<D: Disk, F: Spelt + Drop> {
     identity: Identity,
@@ -46,9 +46,9 @@ impl<D: Disk, F: Spelt + Drop> Model for Node<D, F> {
     ghost Value = { NodeSeen };
 
     ghost use Rattle.node_core.specs.Seen.{IsMember};
-    ghost use Rattle.node_core.specs.States.{disk_in, journal_in, IsWhole};
+    ghost use Rattle.node_core.specs.States.{disk_in, journal_in, acked_in, IsWhole};
 
-    ghost view = { λ n. record { identity = n.identity; disk = disk_in D.seen n.state; journal = journal_in n.state } };
+    ghost view = { λ n. record { identity = n.identity; disk = disk_in D.seen n.state; journal = journal_in n.state; acked = acked_in n.state } };
 
     ghost invariant = { λ n. IsMember n.identity × IsWhole n.identity n.state };
 }
@@ -60,6 +60,7 @@ impl<D: Disk, F: Spelt + Drop> Node<D, F> {
         ensures identity { result.identity ≡ identity }
         ensures disk { result.disk ≡ roomless (D.seen disk) }
         ensures down { result.journal ≡ None }
+        ensures acked { result.acked ≡ [] }
     {
         Node {
             identity,
@@ -112,6 +113,21 @@ impl<D: Disk, F: Spelt + Drop> Node<D, F> {
         }
     }
 
+    /// The messages of the items that the node sent and that aren't acknowledged, by session in order of making and then by number, each
+    /// with the session's other side as its addressee. They are sent until they are acknowledged; after a boot all are.
+    ///
+    /// # Errors
+    ///
+    /// `NodeDown` exactly where the node is down, and `Memory`.
+    pub fn unacked(&self, alloc: Global) -> Result<OutgoingList, UnackedFault>
+        ensures { SendAnswers F.reading self.now result }
+    {
+        match &self.state {
+            State::Up { up } => Ok(up.unacked(alloc)?),
+            _ => Err(UnackedFault::NodeDown),
+        }
+    }
+
     /// The disk.
     pub fn into_disk(self) -> D
         ensures { roomless (D.seen result) ≡ self.disk }
@@ -156,9 +172,9 @@ impl<D: Disk, F: FlowSet> Node<D, F> {
     ///
     /// # Errors
     ///
-    /// `NodeDown` exactly where the node is down; `UnknownClass` and `BadArgs` exactly where the flow set makes none; `Full` exactly where it
-    /// makes one and the journal is full or the last stamp was given; `Memory`; `Fault` only where the disk's count of faults
-    /// rose, and the node is then down. After any but `Fault` nothing has changed.
+    /// `NodeDown` exactly where the node is down; `UnknownClass` and `BadArgs` exactly where the flow set makes none; `Full` exactly
+    /// where it makes one and the journal is full or the last stamp was given; `Memory`; `Fault` only where the disk's count of
+    /// faults rose, and the node is then down. After any but `Fault` nothing has changed.
     pub fn start(
         &mut self,
         alloc: Global,
@@ -173,13 +189,13 @@ impl<D: Disk, F: FlowSet> Node<D, F> {
         let State::Up { up } = &mut self.state else {
             return Err(StartFault::NodeDown);
         };
-        let next = up.begin(alloc, &self.identity, now, class, args)?;
-        if up.is_full() {
-            let_go(next);
+        let number = up.flows().count();
+        let ready = up.begin(alloc, &self.identity, now, class, args)?;
+        if up.is_full(0) {
+            let_go(ready);
             return Err(StartFault::Full);
         }
-        let number = next.number;
-        match up.commit(alloc, &self.identity, now, next) {
+        match up.commit_alone(alloc, &self.identity, now, ready) {
             Ok(()) => Ok(number),
             Err(CommitFault::Full) => unreachable!(),
             Err(CommitFault::Memory) => Err(StartFault::Memory),
@@ -191,7 +207,7 @@ impl<D: Disk, F: FlowSet> Node<D, F> {
     }
 
     /// Lets the picked flow go on, or the one with the least number that can, at a moment that is no less than that of the last
-    /// cause. It looks at live flows alone.
+    /// cause. It looks at live flows alone. What flows send is listed by `unacked`.
     ///
     /// # Errors
     ///
@@ -214,7 +230,7 @@ impl<D: Disk, F: FlowSet> Node<D, F> {
         let Some(event) = up.pick(now, pick) else {
             return Ok(Turned::Idle);
         };
-        if up.is_full() {
+        if up.is_full(0) {
             return Err(TurnFault::Full);
         }
         let flow = flow_in(&event);
@@ -227,6 +243,33 @@ impl<D: Disk, F: FlowSet> Node<D, F> {
                 Err(TurnFault::Fault)
             }
         }
+    }
+}
+
+impl<D: Disk, F: FlowSet> Node<D, F> {
+    /// Takes the frame that the bytes are, at a moment that is no less than that of the last cause. An item that comes next of its
+    /// session is committed, by which a flow may begin; its stamp is no greater than the record's. An acknowledgement is noted until the
+    /// node goes down. With `Took` and `Again` comes an acknowledgement to send.
+    ///
+    /// # Errors
+    ///
+    /// `NodeDown` exactly where the node is down; then `Garbled` exactly where the bytes are no frame, and `NotMine` exactly where the
+    /// frame is for another. `Full` exactly where its item would be committed and the journal is full, or the last stamp was given,
+    /// by the node or by the frame's sender. `Memory`, before anything is written. `Fault` only where the disk's count of faults
+    /// rose, and the node is then down. After any but `Fault` nothing has changed.
+    pub fn take(&mut self, alloc: Global, now: Moment, bytes: &[u8]) -> Result<Taken, TakeFault>
+        requires { IsBy F.reading self.old.journal now.0 }
+        ensures take { TakeAnswers (environment F.machine F.reading self.old.identity) now.0 bytes.now self.old result self.new }
+        ensures by { IsBy F.reading self.new.journal now.0 }
+    {
+        let State::Up { up } = &mut self.state else {
+            return Err(TakeFault::NodeDown);
+        };
+        let answer = up.take(alloc, &self.identity, now, bytes);
+        if is_fault(&answer) {
+            fall(&mut self.state);
+        }
+        answer
     }
 }
 
@@ -266,6 +309,26 @@ impl<D: Bay, F: Spelt + Drop> Node<D, F> {
             State::Down { disk } => disk.restore_power(),
             _ => unreachable!(),
         }
+    }
+}
+
+/// The number of the flow that an event lets go on, 0 where it is that of an item.
+fn flow_in(event: &Event) -> u32
+    ensures { result ≡ flow_in event.now }
+{
+    match event {
+        Event::Start { flow, .. } | Event::Move { flow } | Event::Lapse { flow } => *flow,
+        Event::Answer { .. } | Event::Arrive { .. } => 0,
+    }
+}
+
+/// Whether the disk failed.
+fn is_fault(answer: &Result<Taken, TakeFault>) -> bool
+    ensures { result ≡ is_fault answer.now }
+{
+    match answer {
+        Err(TakeFault::Fault) => true,
+        _ => false,
     }
 }
 

@@ -3,45 +3,59 @@
 ghost use Rattle.std.specs.Prelude.{◌≡◌, ◌++◌, ◌∷◌, [], ◌<◌, ◌≤◌, ◌^◌, ◌+◌, ◌-◌, map, true, false, OnOk, OnErr, IfOk, IfErr, length, List, ℕ, Some, None, Option};
 ghost use Rattle.net_base.specs.Names.{IsIdentity};
 ghost use Rattle.net_base.specs.declared.names.Identity.{Identity as OfIdentity};
-ghost use Rattle.net_model.specs.Sound.{IsNumbered};
 ghost use Rattle.disk_journal.specs.Journal.{is_full_at};
-ghost use Rattle.transition_record.specs.Causes.{IsCause};
-ghost use Rattle.flow_records.specs.Records.{effect_to, IsFlow};
+ghost use Rattle.transition_record.specs.Changes.{session_text};
+ghost use Rattle.session_wire.specs.Sessions.{Sent, Session, session_of};
+ghost use Rattle.session_table.specs.Changes.{room_for};
+ghost use Rattle.session_table.specs.Tables.{raised, unacked};
+ghost use Rattle.session_frames.specs.Items.{GoesFurther, IsNextItem};
+ghost use Rattle.session_frames.specs.Judging.{IsJudged};
+ghost use Rattle.session_frames.specs.Sending.{AreMessages};
+ghost use Rattle.flow_records.specs.Steps.{step_record, IsStep};
 ghost use Rattle.net_model.specs.Environment.{environment};
-ghost use Rattle.net_model.specs.Enabled.{picked};
-ghost use Rattle.node_core.specs.Journals.{state_of, causes_of, is_full};
+ghost use Rattle.net_model.specs.Steps.{body_in, stamp_in};
+ghost use Rattle.flow_steps.specs.Ready.{IsBegun, IsReady};
+ghost use Rattle.node_tables.specs.Journals.{state_of, causes_of};
+ghost use Rattle.node_tables.specs.Seen.{padded};
+ghost use Rattle.node_core.specs.Journals.{is_full};
 ghost use Rattle.node_core.specs.Disks.{roomless};
-ghost use Rattle.node_core.specs.Nexts.{IsBegun, IsNext};
-ghost use Rattle.node_core.specs.Seen.{CommitsAs, LogsAs, Tied, Booted, Unbooted, picked_at};
+ghost use Rattle.node_core.specs.Seen.{CommitsAs, LogsAs, Tied, Booted, Unbooted, boot_by, boot_of, picked_at};
+ghost use Rattle.node_core.specs.Takes.{accepting, unacked_at};
 
-use super::acts::let_go;
+use super::BootFault;
 use super::faults::CommitFault;
-use super::ready::{Ready, flow_in};
-use super::rebuild::{boot_fault, rebuild};
-use super::run::Run;
-use super::{BootFault, StartFault};
 use checkpoints::Flows;
-use disk_journal::{AppendFault, Journal};
-use flow_machine::FlowSet;
-use flow_records::Transition;
-use net_base::{ByteList, Cause, Event, Identity, Moment, Spelt};
+use disk_journal::{AppendFault, Journal, OpenFault};
+use flow_machine::{FlowSet, MakeFault};
+use flow_records::{Step, spell_step};
+use flow_steps::{Ready, advance, answer_init, arrive_item, begin, pick_event};
+use net_base::{ByteList, Cause, Event, Identity, Key, Moment, Spelt, Unlimited};
+use node_tables::{RebuildFault, Tables, rebuild};
 use outside::{Bay, Disk, NoFuse};
+use session_frames::{Judged, OutgoingList, frames_to_send, judge};
+use session_table::Item;
 use std::alloc::{AllocError, Global};
 use std::marker::Model;
 
-/// A node that is up.
+/// No stamp is greater.
+const LAST_STAMP: u64 = 9_223_372_036_854_775_807;
+
+/// A node that is up. Its tables are those of the node whose journal it is.
 #[derive(Drop)]
 pub struct Up<D: Disk, F: Spelt + Drop> {
     journal: Journal<D>,
-    run: Run<F>,
+    tables: Tables<F>,
 }
 
 impl<D: Disk, F: Spelt + Drop> Model for Up<D, F> {
+    ghost use Rattle.std.specs.Prelude.{◌≡◌};
     ghost use Rattle.node_core.specs.Seen.{UpSeen};
 
     ghost Value = { UpSeen };
 
-    ghost view = { λ u. record { journal = u.journal; bodies = u.run.bodies } };
+    ghost view = { λ u. record { journal = u.journal; bodies = u.tables.bodies; acked = u.tables.acked } };
+
+    ghost invariant = { λ u. (u.tables.party ≡ u.journal.of.party) × (u.tables.nodes ≡ u.journal.of.nodes) };
 }
 
 /// A boot was refused; the disk comes back.
@@ -51,11 +65,39 @@ pub struct BootRefused<D: Disk> {
     pub why: BootFault,
 }
 
+/// Lets a value go.
+pub fn let_go<T: Drop>(value: T) {
+    let _ = value;
+}
+
+/// What a refused opening is at a boot.
+fn boot_fault(why: OpenFault) -> BootFault
+    ensures { result ≡ boot_of why }
+{
+    match why {
+        OpenFault::Fault => BootFault::Fault,
+        OpenFault::NotAJournal => BootFault::NotAJournal,
+        OpenFault::WrongNode { found } => BootFault::WrongNode { found },
+        OpenFault::Damaged { at } => BootFault::Damaged { at },
+        OpenFault::Memory => BootFault::Memory,
+    }
+}
+
+/// What a refused rebuilding of the tables is at a boot.
+fn rebuild_fault(why: RebuildFault) -> BootFault
+    ensures { result ≡ boot_by why }
+{
+    match why {
+        RebuildFault::Damaged { at } => BootFault::Damaged { at },
+        RebuildFault::Memory => BootFault::Memory,
+    }
+}
+
 impl<D: Disk, F: Spelt + Drop> Up<D, F> {
     /// Opens the journal, and rebuilds the tables from its records.
     pub fn open(alloc: Global, disk: D, identity: Identity) -> Result<Up<D, F>, BootRefused<D>>
         requires { IsIdentity identity }
-        ensures ok { IfOk result (λ up. (list : List (ℕ × List ℕ)) × (up.bodies ≡ map (λ x. x.1) list) × Booted F.reading identity (roomless (D.seen disk)) (roomless up.journal.disk) list × Tied identity up.journal up.bodies) }
+        ensures ok { IfOk result (λ up. (list : List (ℕ × List ℕ)) × (up.bodies ≡ map (λ x. x.1) list) × (up.acked ≡ padded [] (state_of F.reading up.bodies).sessions) × Booted F.reading identity (roomless (D.seen disk)) (roomless up.journal.disk) list × Tied identity up.journal up.bodies) }
         ensures refused { IfErr result (λ r. Unbooted F.reading identity (roomless (D.seen disk)) r.why (roomless (D.seen r.disk))) }
     {
         let (journal, list) = match Journal::open(alloc, disk, identity) {
@@ -67,34 +109,61 @@ impl<D: Disk, F: Spelt + Drop> Up<D, F> {
                 });
             }
         };
-        match rebuild(alloc, list) {
-            Ok(run) => Ok(Up { journal, run }),
+        match rebuild(alloc, identity.party, identity.nodes, list) {
+            Ok(tables) => Ok(Up { journal, tables }),
             Err(why) => Err(BootRefused {
                 disk: journal.into_disk(),
-                why,
+                why: rebuild_fault(why),
             }),
         }
     }
 
-    /// Whether the node takes no more records.
-    pub fn is_full(&self) -> bool
-        ensures { (id : OfIdentity) → Tied id self.now.journal self.now.bodies → result ≡ is_full F.reading self.now.bodies }
+    /// Whether the node takes no more records over an item of the stamp, 0 without one.
+    pub fn is_full(&self, stamp: u64) -> bool
+        ensures { (id : OfIdentity) → Tied id self.now.journal self.now.bodies → result ≡ is_full F.reading stamp self.now.bodies }
     {
-        self.journal.is_full() || self.run.is_late()
+        self.journal.is_full() || (self.tables.is_late() || stamp >= LAST_STAMP)
     }
 
-    /// The event by which the picked flow goes on, or the first that can.
-    pub fn pick(&self, now: Moment, pick: Option<u32>) -> Option<Event>
-        ensures { result ≡ picked now.0 pick (state_of F.reading self.now.bodies).flows }
+    /// What the node says of the frame that the bytes are, or that they are none. The only error is want of memory.
+    pub fn judge(
+        &self,
+        alloc: Global,
+        identity: &Identity,
+        bytes: &[u8],
+    ) -> Result<Judged, AllocError>
+        requires { Tied identity.now self.now.journal self.now.bodies }
+        ensures judged { IfOk result (λ said. IsJudged identity.now (state_of F.reading self.now.bodies).sessions bytes.now said) }
+        ensures further { IfOk result (λ said. GoesFurther identity.now (state_of F.reading self.now.bodies).sessions said) }
     {
-        self.run.pick(now, pick)
+        self.tables.kept();
+        judge(alloc, identity, self.tables.sessions(), bytes)
+    }
+
+    /// Notes that so many items of a direction of a session arrived.
+    pub fn acknowledge(&mut self, key: &Key, direction: u8, upto: u32)
+        requires { (s : Session) → session_of key.now (state_of F.reading self.old.bodies).sessions ≡ Some s → upto ≤ length s.sent }
+        ensures journal { self.new.journal ≡ self.old.journal }
+        ensures bodies { self.new.bodies ≡ self.old.bodies }
+        ensures acked { self.new.acked ≡ raised self.old.journal.of.party key.now direction upto (state_of F.reading self.old.bodies).sessions self.old.acked }
+    {
+        self.tables.acknowledge(key, direction, upto);
+    }
+
+    /// The messages of the items that aren't acknowledged. The only error is want of memory.
+    pub fn unacked(&self, alloc: Global) -> Result<OutgoingList, AllocError>
+        ensures list { IfOk result (λ frames. frames ≡ unacked_at F.reading self.now.journal.of.party self.now.bodies self.now.acked) }
+        ensures messages { AreMessages self.now.journal.of.party (unacked self.now.journal.of.party (state_of F.reading self.now.bodies).sessions self.now.acked) }
+    {
+        self.tables.kept();
+        frames_to_send(alloc, self.tables.party(), self.tables.sessions())
     }
 
     /// The disk; the node is up no more.
     pub fn into_disk(self) -> D
         ensures { D.seen result ≡ self.journal.disk }
     {
-        let Up { journal, run: _ } = self;
+        let Up { journal, tables: _ } = self;
         journal.into_disk()
     }
 
@@ -102,26 +171,59 @@ impl<D: Disk, F: Spelt + Drop> Up<D, F> {
     pub fn last_moment(&self) -> Moment
         ensures { result.0 ≡ (state_of F.reading self.now.bodies).moment }
     {
-        self.run.last_moment()
+        self.tables.last_moment()
     }
 
     /// The flows, by number.
     pub fn flows(&self) -> &Flows<F>
         ensures { result.now.flows ≡ (state_of F.reading self.now.bodies).flows }
     {
-        self.run.flows()
+        self.tables.flows()
     }
 
     /// The causes, in order.
     pub fn causes(&self) -> &[Cause]
         ensures { result.now ≡ causes_of F.reading self.now.bodies }
     {
-        self.run.causes()
+        self.tables.causes()
     }
 }
 
 impl<D: Disk, F: FlowSet> Up<D, F> {
-    /// Lets a flow go on by this event.
+    /// The event by which the picked flow goes on, or the first that can.
+    pub fn pick(&self, now: Moment, pick: Option<u32>) -> Option<Event>
+        ensures { (id : OfIdentity) → result ≡ picked_at (environment F.machine F.reading id) now.0 pick self.now.bodies }
+    {
+        self.tables.kept();
+        pick_event(self.tables.flows(), self.tables.sessions(), now, pick)
+    }
+
+    /// What a flow that goes on by this event, which was picked, is about to commit.
+    fn advance(
+        &self,
+        alloc: Global,
+        identity: &Identity,
+        now: Moment,
+        event: Event,
+    ) -> Result<Ready<F>, AllocError>
+        requires identity { IsIdentity identity.now }
+        requires tied { Tied identity.now self.now.journal self.now.bodies }
+        requires picked { (pick : Option ℕ) × (picked_at (environment F.machine F.reading identity.now) now.0 pick self.now.bodies ≡ Some event) }
+        ensures event { IfOk result (λ r. r.event ≡ event) }
+        ensures ready { IfOk result (λ r. IsReady (environment F.machine F.reading identity.now) identity.now.party.0 now.0 F.within (state_of F.reading self.now.bodies) None r) }
+    {
+        self.tables.kept();
+        advance(
+            alloc,
+            identity,
+            self.tables.flows(),
+            self.tables.sessions(),
+            now,
+            event,
+        )
+    }
+
+    /// Lets a flow go on by this event, which was picked.
     pub fn go_on(
         &mut self,
         alloc: Global,
@@ -132,13 +234,31 @@ impl<D: Disk, F: FlowSet> Up<D, F> {
         requires identity { IsIdentity identity.now }
         requires tied { Tied identity.now self.old.journal self.old.bodies }
         requires by { (state_of F.reading self.old.bodies).moment ≤ now.0 }
-        requires room { is_full F.reading self.old.bodies ≡ false }
+        requires room { is_full F.reading 0 self.old.bodies ≡ false }
         requires picked { (pick : Option ℕ) × (picked_at (environment F.machine F.reading identity.now) now.0 pick self.old.bodies ≡ Some event) }
-        ensures commits { CommitsAs (environment F.machine F.reading identity.now) identity.now now.0 event self.old result self.new }
+        ensures commits { CommitsAs (environment F.machine F.reading identity.now) identity.now now.0 event None self.old result self.new }
         ensures by { (state_of F.reading self.new.bodies).moment ≤ now.0 }
     {
-        let next = self.run.advance(alloc, identity, now, event)?;
-        self.commit(alloc, identity, now, next)
+        let ready = self.advance(alloc, identity, now, event)?;
+        self.commit_alone(alloc, identity, now, ready)
+    }
+
+    /// Commits what is ready over no item.
+    pub fn commit_alone(
+        &mut self,
+        alloc: Global,
+        identity: &Identity,
+        now: Moment,
+        ready: Ready<F>,
+    ) -> Result<(), CommitFault>
+        requires tied { Tied identity.now self.old.journal self.old.bodies }
+        requires by { (state_of F.reading self.old.bodies).moment ≤ now.0 }
+        requires room { is_full F.reading 0 self.old.bodies ≡ false }
+        requires ready { IsReady (environment F.machine F.reading identity.now) identity.now.party.0 now.0 F.within (state_of F.reading self.old.bodies) None ready }
+        ensures commits { CommitsAs (environment F.machine F.reading identity.now) identity.now now.0 ready.event None self.old result self.new }
+        ensures by { (state_of F.reading self.new.bodies).moment ≤ now.0 }
+    {
+        self.commit(alloc, identity, now, 0, ready)
     }
 
     /// What a start is about to commit.
@@ -149,50 +269,99 @@ impl<D: Disk, F: FlowSet> Up<D, F> {
         now: Moment,
         class: u16,
         args: &ByteList,
-    ) -> Result<Ready<F>, StartFault>
+    ) -> Result<Ready<F>, MakeFault>
         requires { IsIdentity identity.now }
         ensures { IsBegun (environment F.machine F.reading identity.now) identity.now.party.0 now.0 F.within (state_of F.reading self.now.bodies) class args.now result }
     {
-        self.run.begin(alloc, identity, now, class, args)
+        begin(
+            alloc,
+            identity,
+            self.tables.flows().count(),
+            now,
+            class,
+            args,
+        )
     }
 
-    /// Commits what comes next: its record is appended to the journal, and then taken into the tables.
+    /// Tells a proof that an item which comes next has another number behind its own. It does nothing when it runs.
+    pub fn known_next(&self, identity: &Identity, item: &Item)
+        requires { IsNextItem identity.now (state_of F.reading self.now.bodies).sessions item.now.peer item.now.key item.now.direction item.now.number item.now.stamp item.now.body }
+        ensures { item.now.number + 1 < 2 ^ 32 }
+    {
+        let _ = identity;
+        let _ = item;
+        self.tables.kept();
+    }
+
+    /// What the accepting of an item that comes next is about to commit. The only error is want of memory.
+    pub fn ready_for(
+        &self,
+        alloc: Global,
+        identity: &Identity,
+        now: Moment,
+        item: Item,
+    ) -> Result<Ready<F>, AllocError>
+        requires identity { IsIdentity identity.now }
+        requires next { IsNextItem identity.now (state_of F.reading self.now.bodies).sessions item.peer item.key item.direction item.number item.stamp item.body }
+        requires small { item.number + 1 < 2 ^ 32 }
+        ensures event { IfOk result (λ r. r.event ≡ accepting (state_of F.reading self.now.bodies).sessions item.key item.direction item.number) }
+        ensures ready { IfOk result (λ r. IsReady (environment F.machine F.reading identity.now) identity.now.party.0 now.0 F.within (state_of F.reading self.now.bodies) (Some item.body) r) }
+    {
+        let Item {
+            peer: _,
+            key,
+            direction,
+            number,
+            stamp: _,
+            body,
+        } = item;
+        if self.tables.sessions().peer(&key).is_some() {
+            return Ok(arrive_item(alloc, key, direction, number, body));
+        }
+        let flow = self.tables.flows().count();
+        answer_init(alloc, identity, flow, now, key, body)
+    }
+
+    /// Commits what is ready over an item of the stamp, 0 without one: its record is appended to the journal, and then taken into the
+    /// tables.
     pub fn commit(
         &mut self,
         alloc: Global,
         identity: &Identity,
         now: Moment,
-        next: Ready<F>,
+        stamp: u64,
+        ready: Ready<F>,
     ) -> Result<(), CommitFault>
         requires tied { Tied identity.now self.old.journal self.old.bodies }
         requires by { (state_of F.reading self.old.bodies).moment ≤ now.0 }
-        requires room { is_full F.reading self.old.bodies ≡ false }
-        requires next { IsNext (environment F.machine F.reading identity.now) identity.now.party.0 now.0 F.within (state_of F.reading self.old.bodies) next }
-        ensures commits { CommitsAs (environment F.machine F.reading identity.now) identity.now now.0 next.event self.old result self.new }
+        requires room { is_full F.reading stamp self.old.bodies ≡ false }
+        requires ready { (item : Option Sent) × (stamp_in item ≡ stamp) × IsReady (environment F.machine F.reading identity.now) identity.now.party.0 now.0 F.within (state_of F.reading self.old.bodies) (body_in item) ready }
+        ensures commits { (item : Option Sent) → stamp_in item ≡ stamp → IsReady (environment F.machine F.reading identity.now) identity.now.party.0 now.0 F.within (state_of F.reading self.old.bodies) (body_in item) ready → CommitsAs (environment F.machine F.reading identity.now) identity.now now.0 ready.event item self.old result self.new }
         ensures by { (state_of F.reading self.new.bodies).moment ≤ now.0 }
     {
         let Ready {
-            number,
             event,
-            state,
-        } = next;
-        self.run.kept();
-        let whole = Transition {
+            flow,
+            session,
+        } = ready;
+        self.tables.kept();
+        now.known();
+        let step = Step {
             cause: Cause {
-                stamp: self.run.stamp() + 1,
+                stamp: self.tables.stamp().max(stamp) + 1,
                 moment: now,
                 event,
             },
-            number,
-            state,
+            flow,
+            session,
         };
-        match log(alloc, &mut self.journal, &mut self.run, &whole) {
+        match log(alloc, &mut self.journal, &mut self.tables, &step) {
             Ok(body) => {
-                self.run.add(body, whole);
+                self.tables.add(body, step);
                 Ok(())
             }
             Err(fault) => {
-                let_go(whole);
+                let_go(step);
                 Err(fault)
             }
         }
@@ -209,31 +378,34 @@ impl<D: Bay, F: Spelt + Drop> Up<D, F> {
         ensures refused { OnErr result (self.new ≡ self.old) }
         ensures armed { OnOk result (self.new.journal.disk ≡ record self.old.journal.disk { fuse = Some (calls, outcome); calm = self.new.journal.disk.calm }) }
         ensures bodies { self.new.bodies ≡ self.old.bodies }
+        ensures acked { self.new.acked ≡ self.old.acked }
         ensures tied { (id : OfIdentity) → Tied id self.old.journal self.old.bodies → Tied id self.new.journal self.new.bodies }
     {
         self.journal.arm(calls, outcome)
     }
 }
 
-/// Appends the record of a transition to the journal, and makes room for it in the tables. All memory is taken before the first
-/// write.
+/// Appends the record of a step to the journal, and makes room for it in the tables. All memory is taken before the first write.
 fn log<D: Disk, F: FlowSet>(
     alloc: Global,
     journal: &mut Journal<D>,
-    run: &mut Run<F>,
-    whole: &Transition<F>,
+    tables: &mut Tables<F>,
+    step: &Step<F>,
 ) -> Result<ByteList, CommitFault>
-    requires tied { Tied journal.old.of journal.old run.old.bodies }
+    requires tied { Tied journal.old.of journal.old tables.old.bodies }
     requires room { is_full_at journal.old.count journal.old.length ≡ false }
-    requires cause { IsCause whole.now.cause }
-    requires limits { IsFlow F.within whole.now.state }
-    requires own { IsNumbered whole.now.number whole.now.state }
-    ensures bodies { run.new.bodies ≡ run.old.bodies }
-    ensures room { OnOk result (run.new.room ≡ true) }
-    ensures logs { LogsAs F.reading (record { cause = whole.now.cause; effect = effect_to whole.now.number whole.now.state }) run.old.bodies journal.old result journal.new }
+    requires limits { IsStep F.within step.now }
+    requires short { length (session_text step.now.session) ≤ 50000 }
+    ensures of { journal.new.of ≡ journal.old.of }
+    ensures party { tables.new.party ≡ tables.old.party }
+    ensures nodes { tables.new.nodes ≡ tables.old.nodes }
+    ensures bodies { tables.new.bodies ≡ tables.old.bodies }
+    ensures acked { tables.new.acked ≡ tables.old.acked }
+    ensures room { OnOk result (room_for step.now.session ≤ tables.new.room) }
+    ensures logs { LogsAs F.reading (step_record step.now) tables.old.bodies journal.old result journal.new }
 {
-    let body = flow_records::spell(alloc, &whole.cause, whole.number, &whole.state)?;
-    run.make_room()?;
+    let body = spell_step(alloc, step)?;
+    tables.make_room(alloc, &step.session)?;
     journal.make_room(alloc, body.len())?;
     match journal.append(body.as_slice()) {
         Ok(()) => Ok(body),

@@ -1,53 +1,65 @@
-use Rattle.std.proofs.Common.{◌≡◌, ◌≤◌, ◌++◌, ◌∷◌, [], Err, false, sym, subst, arith}
+use Rattle.std.proofs.Common.{◌≡◌, ◌+◌, ◌≤◌, Err, false, subst}
 use Rattle.net_model.specs.Environment.{environment}
 use Rattle.net_model.specs.Fits.{IsSound}
-use Rattle.node_core.specs.Journals.{state_of, is_full}
-use Rattle.node_core.specs.Nexts.{IsNext}
+use Rattle.net_model.specs.Steps.{body_in}
+use Rattle.flow_steps.specs.Ready.{IsReady}
+use Rattle.node_tables.specs.Journals.{state_of}
+use Rattle.node_core.specs.Journals.{is_full}
 use Rattle.node_core.specs.Seen.{Tied, UpSeen, CommitsAs}
-use Rattle.node_core.proofs.Commits.{alone_sound, next_fits, next_pends, pends_moment, appended, not_committed}
+use Rattle.node_core.proofs.Commits.{ready_fits, committed, committed_by, not_committed, under_item, stamp_same}
 use Rattle.node_core.proofs.up.Up.commit.Goals as goal
 
 pub add-requires-clause-fits : goal.add-requires-clause-fits
 add-requires-clause-fits g c =
     let id = c.args.identity.now in
-    let w = environment g.F.FlowSet.machine g.F.Spelt.reading id in
-    let bodies = c.self.inside.run.bodies in
-    let sound : IsSound id.party.0 (state_of g.F.Spelt.reading bodies) = alone_sound id.party.0 (state_of g.F.Spelt.reading bodies) c.kept.ensures.alone c.kept.ensures.numbered in
-    let fit = next_fits w id.party.0 c.args.now.0 g.F.Spelt.within bodies c.args.next (rw (← c.self.view_is) at c.requires.room) (rw (← c.self.view_is) at c.requires.by) (rw (← c.self.view_is) at c.requires.next) sound in
-    rw (c.log.ensures.bodies, c.stamp.ensures.same) fit
+    let f = g.F.Spelt.reading in
+    let w = environment g.F.FlowSet.machine f id in
+    let bodies = c.self.inside.tables.bodies in
+    let tied : Tied id c.self.inside.journal bodies = rw (← c.self.view_is) at c.requires.tied in
+    let by : (state_of f bodies).moment ≤ c.args.now.0 = rw (← c.self.view_is) at c.requires.by in
+    let room : is_full f c.args.stamp bodies ≡ false = rw (← c.self.view_is) at c.requires.room in
+    let r = rw (← c.self.view_is) at c.requires.ready in
+    let sound : IsSound id.party.0 (state_of f bodies) = rw (c.self.invariant.0, tied.of) at c.kept.ensures.sound in
+    let same = stamp_same f bodies r.0 c.args.stamp c.stamp.result c.max.result r.1 c.stamp.ensures.same c.max.ensures in
+    let fit = ready_fits w id c.args.now.0 g.F.Spelt.within bodies r.0 c.args.ready r.2 (under_item f bodies r.0 c.args.stamp r.1 room) by (c.max.result + 1) same sound in
+    rw (c.log.ensures.bodies, c.log.ensures.nodes, c.log.ensures.party, c.self.invariant.0, c.self.invariant.1, tied.of) fit
 
 pub returns-in-Ok-clause-commits : goal.returns-in-Ok-clause-commits
-returns-in-Ok-clause-commits g c =
+returns-in-Ok-clause-commits g c = λ item at ready.
     let id = c.args.identity.now in
-    let w = environment g.F.FlowSet.machine g.F.Spelt.reading id in
-    let bodies = c.self.inside.run.bodies in
-    let room : is_full g.F.Spelt.reading bodies ≡ false = rw (← c.self.view_is) at c.requires.room in
+    let f = g.F.Spelt.reading in
+    let w = environment g.F.FlowSet.machine f id in
+    let bodies = c.self.inside.tables.bodies in
     let tied : Tied id c.self.inside.journal bodies = rw (← c.self.view_is) at c.requires.tied in
-    let logs = c.in-Ok.ensures.logs in
-    let pends = next_pends w id.party.0 c.args.now.0 g.F.Spelt.within bodies c.args.next c.in-Ok.body room (rw (← c.self.view_is) at c.requires.by) (rw (← c.self.view_is) at c.requires.next) (rw c.stamp.ensures.same at logs.0) in
-    let same = rw c.log.ensures.bodies at c.add.ensures in
-    let a = appended w id c.args.now.0 bodies c.args.next.event c.in-Ok.body c.self.inside.journal c.log.new.journal pends room tied.of _ logs in
-    let after : Tied id c.log.new.journal (bodies ++ c.in-Ok.body ∷ []) = subst (λ i. Tied i c.log.new.journal (bodies ++ c.in-Ok.body ∷ [])) tied.of logs.1 in
-    rw (← c.self.view_is) (c.in-Ok.body, a, same, subst (Tied id c.log.new.journal) (sym same) after)
+    let by : (state_of f bodies).moment ≤ c.args.now.0 = rw (← c.self.view_is) at c.requires.by in
+    let room : is_full f c.args.stamp bodies ≡ false = rw (← c.self.view_is) at c.requires.room in
+    let is : IsReady w id.party.0 c.args.now.0 g.F.Spelt.within (state_of f bodies) (body_in item) c.args.ready = rw (← c.self.view_is) at ready in
+    let same = stamp_same f bodies item c.args.stamp c.stamp.result c.max.result at c.stamp.ensures.same c.max.ensures in
+    rw (← c.self.view_is) (committed w id c.args.now.0 g.F.Spelt.within bodies item c.args.ready is (under_item f bodies item c.args.stamp at room) by (c.max.result + 1) same c.self.inside.journal c.log.new.journal c.add.new.self.bodies c.self.inside.tables.acked c.add.new.self.acked tied.of c.in-Ok.body c.in-Ok.ensures.logs (rw c.log.ensures.bodies at c.add.ensures.bodies) (rw c.log.ensures.acked at c.add.ensures.acked))
 
 pub returns-in-Ok-clause-by : goal.returns-in-Ok-clause-by
 returns-in-Ok-clause-by g c =
     let id = c.args.identity.now in
-    let w = environment g.F.FlowSet.machine g.F.Spelt.reading id in
-    let bodies = c.self.inside.run.bodies in
-    let logs = c.in-Ok.ensures.logs in
-    let pends = next_pends w id.party.0 c.args.now.0 g.F.Spelt.within bodies c.args.next c.in-Ok.body (rw (← c.self.view_is) at c.requires.room) (rw (← c.self.view_is) at c.requires.by) (rw (← c.self.view_is) at c.requires.next) (rw c.stamp.ensures.same at logs.0) in
-    let same = rw c.log.ensures.bodies at c.add.ensures in
-    rw same (omega (arith, pends_moment w id.party.0 c.args.now.0 bodies c.args.next.event c.in-Ok.body pends))
+    let f = g.F.Spelt.reading in
+    let w = environment g.F.FlowSet.machine f id in
+    let bodies = c.self.inside.tables.bodies in
+    let tied : Tied id c.self.inside.journal bodies = rw (← c.self.view_is) at c.requires.tied in
+    let by : (state_of f bodies).moment ≤ c.args.now.0 = rw (← c.self.view_is) at c.requires.by in
+    let room : is_full f c.args.stamp bodies ≡ false = rw (← c.self.view_is) at c.requires.room in
+    let r = rw (← c.self.view_is) at c.requires.ready in
+    let same = stamp_same f bodies r.0 c.args.stamp c.stamp.result c.max.result r.1 c.stamp.ensures.same c.max.ensures in
+    committed_by w id c.args.now.0 g.F.Spelt.within bodies r.0 c.args.ready r.2 (under_item f bodies r.0 c.args.stamp r.1 room) by (c.max.result + 1) same c.self.inside.journal c.log.new.journal c.add.new.self.bodies c.self.inside.tables.acked c.add.new.self.acked tied.of c.in-Ok.body c.in-Ok.ensures.logs (rw c.log.ensures.bodies at c.add.ensures.bodies)
 
 pub returns-in-Err-clause-commits : goal.returns-in-Err-clause-commits
-returns-in-Err-clause-commits g c =
+returns-in-Err-clause-commits g c = λ item at ready.
     let id = c.args.identity.now in
-    let w = environment g.F.FlowSet.machine g.F.Spelt.reading id in
-    let bodies = c.self.inside.run.bodies in
-    let room : is_full g.F.Spelt.reading bodies ≡ false = rw (← c.self.view_is) at c.requires.room in
+    let f = g.F.Spelt.reading in
+    let w = environment g.F.FlowSet.machine f id in
+    let bodies = c.self.inside.tables.bodies in
     let tied : Tied id c.self.inside.journal bodies = rw (← c.self.view_is) at c.requires.tied in
-    let by : (state_of g.F.Spelt.reading bodies).moment ≤ c.args.now.0 = rw (← c.self.view_is) at c.requires.by in
-    let next : IsNext w id.party.0 c.args.now.0 g.F.Spelt.within (state_of g.F.Spelt.reading bodies) c.args.next = rw (← c.self.view_is) at c.requires.next in
-    subst (λ (u : UpSeen). CommitsAs w id c.args.now.0 c.args.next.event {T = Unit {0}} u (Err c.in-Err.fault) (record { journal = c.log.new.journal; bodies = c.log.new.run.bodies })) c.self.view_is
-    (not_committed w id c.args.now.0 g.F.Spelt.within c.args.next c.stamp.result bodies c.log.new.run.bodies c.self.inside.journal c.log.new.journal c.in-Err.fault c.stamp.ensures.same room by next tied.of c.log.ensures.bodies c.in-Err.ensures.logs)
+    let by : (state_of f bodies).moment ≤ c.args.now.0 = rw (← c.self.view_is) at c.requires.by in
+    let room : is_full f c.args.stamp bodies ≡ false = rw (← c.self.view_is) at c.requires.room in
+    let is : IsReady w id.party.0 c.args.now.0 g.F.Spelt.within (state_of f bodies) (body_in item) c.args.ready = rw (← c.self.view_is) at ready in
+    let same = stamp_same f bodies item c.args.stamp c.stamp.result c.max.result at c.stamp.ensures.same c.max.ensures in
+    subst (λ (u : UpSeen). CommitsAs w id c.args.now.0 c.args.ready.event item {T = Unit {0}} u (Err c.in-Err.fault) (record { journal = c.log.new.journal; bodies = c.log.new.tables.bodies; acked = c.log.new.tables.acked })) c.self.view_is
+    (not_committed w id c.args.now.0 g.F.Spelt.within bodies item c.args.ready is (under_item f bodies item c.args.stamp at room) by (c.max.result + 1) same c.self.inside.journal c.log.new.journal c.log.new.tables.bodies c.self.inside.tables.acked c.log.new.tables.acked tied.of c.in-Err.fault c.log.ensures.bodies c.log.ensures.acked c.in-Err.ensures.logs)

@@ -1,8 +1,5 @@
-use Rattle.std.proofs.Common.{rules, ◌≡◌, Ok, Err, refl, sym, ◌∙◌, ap, subst, arith}
-use Rattle.outside.specs.Disk.{DiskView}
-use Rattle.node_core.specs.Disks.{roomless}
-use Rattle.node_core.specs.Seen.{Unbooted, Tied}
-use Rattle.node_core.proofs.Boots.{Opening, bodies_in, opening_tied, opening_opens, unbooted}
+use Rattle.node_core.specs.Seen.{Tied}
+use Rattle.node_core.proofs.Boots.{Opening, opening_tied, opening_opens, unbooted}
 use Rattle.node_core.proofs.up.Up.open.Goals as goal
 
 pub returns-in-Ok-rebuild-clause-ok : goal.returns-in-Ok-rebuild-clause-ok
@@ -13,8 +10,8 @@ returns-in-Ok-rebuild-clause-ok g c =
     let old = g.D.Disk.seen c.args.disk in
     let opening : Opening c.args.identity old journal list = record { format = o.opened; told = o.list; ready = o.ready; same = o.same; counts = o.counts; moments = o.moments; young = o.young; sound = o.sound; later = o.later; calm = o.calm; rest = o.of_file } in
     let run = c.in-Ok-rebuild.ensures in
-    let tied : Tied c.args.identity journal c.in-Ok-rebuild.run'.bodies = opening_tied c.args.identity old journal list c.in-Ok-rebuild.run'.bodies opening run.0 in
-    (list, run.0, record { opens = opening_opens c.args.identity old journal list opening; fits = run.1 }, tied)
+    let tied : Tied c.args.identity journal c.in-Ok-rebuild.tables.bodies = opening_tied c.args.identity old journal list c.in-Ok-rebuild.tables.bodies opening run.0 in
+    (list, run.0, run.4, record { opens = opening_opens c.args.identity old journal list opening; fits = run.3 }, tied)
 
 pub returns-in-Err-rebuild-clause-refused : goal.returns-in-Err-rebuild-clause-refused
 returns-in-Err-rebuild-clause-refused g c =
@@ -23,4 +20,4 @@ returns-in-Err-rebuild-clause-refused g c =
     let list = c.in-Ok.opened.1 in
     let old = g.D.Disk.seen c.args.disk in
     let opening : Opening c.args.identity old journal list = record { format = o.opened; told = o.list; ready = o.ready; same = o.same; counts = o.counts; moments = o.moments; young = o.young; sound = o.sound; later = o.later; calm = o.calm; rest = o.of_file } in
-    subst (λ (d : DiskView). Unbooted g.F.Spelt.reading c.args.identity (roomless old) c.in-Err-rebuild.why (roomless d)) (sym c.into_disk.ensures) (unbooted g.F.Spelt.reading c.args.identity old journal list c.in-Err-rebuild.why opening c.in-Err-rebuild.ensures)
+    rw (c.rebuild_fault.ensures, c.into_disk.ensures) (unbooted g.F.Spelt.reading c.args.identity old journal list c.in-Err-rebuild.why opening c.in-Err-rebuild.ensures)

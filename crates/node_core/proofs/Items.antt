@@ -1,0 +1,70 @@
+-- Items that come next of their sessions.
+use Rattle.std.proofs.Common.{◌≡◌, inl, inr, ℕ, ◌+◌, ◌<◌, ◌≤◌, ◌^◌, ◌==◌, ◌&&◌, not, is_none, is_some, option_map, List, length, Option, Some, None, true, refl, ◌∙◌, ap, subst, arith}
+use Rattle.std.specs.List.{AllByRecursion}
+use Rattle.std.proofs.lemmas.Bool.{and_parts, eqb-true}
+use Rattle.net_base.specs.declared.names.Identity.{Identity}
+use Rattle.net_base.specs.declared.names.Key.{Key}
+use Rattle.net_base.specs.declared.values.Party.{Party}
+use Rattle.net_base.specs.declared.causes.Event.TheVariants as event
+use Rattle.net_base.specs.Names.{IsKey}
+use Rattle.session_wire.specs.declared.body.Body.{Body}
+use Rattle.session_wire.specs.Rules.{direction_in, is_init, is_lawful, is_no_peer}
+use Rattle.session_wire.specs.Sessions.{Session, session_of}
+use Rattle.session_frames.specs.Items.{BeginsSession, GoesOn, IsNextItem, IsOfSent}
+use Rattle.node_tables.proofs.Small.{all_find}
+use Rattle.node_core.specs.Takes.{accepting}
+
+-- an acknowledgement is of items that were sent
+pub of_sent : (me : Party) (sessions : List Session) (key : Key) (direction upto : ℕ) (s : Session) → IsOfSent me sessions key direction upto → session_of key sessions ≡ Some s → upto ≤ length s.sent
+of_sent me sessions key direction upto s h is =
+    let same : h.session ≡ s = cc (h.stands, is) in
+    subst (λ (x : Session). upto ≤ length x.sent) same h.below
+
+none_of : {X : Type 0} (o : Option X) → is_none o ≡ true → o ≡ None
+none_of None h = refl
+none_of (Some x) h = cc
+
+module _ (id : Identity) (sessions : List Session) (from : Party) (key : Key) (direction number stamp : ℕ) (body : Body) (next : IsNextItem id sessions from key direction number stamp body) where
+  -- its number has another one behind it
+  pub next_small : (m : ℕ) → m ≤ 65536 → AllByRecursion (λ session. length session.came ≤ m) sessions → number + 1 < 2 ^ 32
+  next_small m few all = elim next.place [ inl b ↦ (let first = b.first in omega (arith, first)) | inr g ↦ later g ]
+    where
+      later : GoesOn id sessions from key direction number body → number + 1 < 2 ^ 32
+      later g =
+          let came : length g.session.came ≤ m = all_find (λ s. length s.came ≤ m) _ sessions g.session all g.stands in
+          let p = and_parts (direction == direction_in id.party key) ((number == length g.session.came) && (is_lawful direction number body && not (is_init body))) g.next in
+          let q = and_parts (number == length g.session.came) (is_lawful direction number body && not (is_init body)) p.1 in
+          let at = eqb-true number (length g.session.came) q.0 in
+          omega (arith, came, at, few)
+
+  -- its key is one
+  pub next_key_is : number + 1 < 2 ^ 32 → IsKey key
+  next_key_is small = (next.answered small).0.key_is
+
+  new_none : BeginsSession id sessions from key direction number body → session_of key sessions ≡ None
+  new_none b = none_of (session_of key sessions) (and_parts (is_none (session_of key sessions)) (not (is_no_peer id.nodes id.party key.initiator)) b.is_new).0
+
+  -- where its session stands it goes on there, and else begins it
+  pub next_there : (s : Session) → session_of key sessions ≡ Some s → GoesOn id sessions from key direction number body
+  next_there s is = elim next.place [ inl b ↦ (let none = new_none b in absurd (cc (none, is))) | inr g ↦ g ]
+
+  pub next_new : session_of key sessions ≡ None → BeginsSession id sessions from key direction number body
+  next_new is = elim next.place [ inl b ↦ b | inr g ↦ (let stands = g.stands in absurd (cc (stands, is))) ]
+
+-- a session whose other side is known stands
+pub session_there : (sessions : List Session) (key : Key) (peer : Option Party) → peer ≡ option_map (λ s. s.peer) (session_of key sessions) → is_some peer ≡ true → (s : Session) × (session_of key sessions ≡ Some s)
+session_there sessions key peer is some = by (session_of key sessions) refl
+  where
+    by : (o : Option Session) → session_of key sessions ≡ o → (s : Session) × (session_of key sessions ≡ Some s)
+    by None none =
+        let gone : peer ≡ None = is ∙ ap (option_map (λ s. s.peer)) none in
+        let nothing : Option Party = None in
+        let lost : is_some nothing ≡ true = subst (λ (p : Option Party). is_some p ≡ true) gone some in
+        absurd (cc lost)
+    by (Some s) stands = (s, stands)
+
+pub accepting_there : (sessions : List Session) (key : Key) (direction number : ℕ) (s : Session) → session_of key sessions ≡ Some s → event.Arrive key direction number ≡ accepting sessions key direction number
+accepting_there sessions key direction number s is = rw is refl
+
+pub accepting_new : (sessions : List Session) (key : Key) (direction number : ℕ) → session_of key sessions ≡ None → event.Answer key ≡ accepting sessions key direction number
+accepting_new sessions key direction number is = rw is refl
