@@ -5,7 +5,7 @@ use Rattle.std.specs.Str.{bytes_eq}
 use Rattle.net_base.specs.Numbers.{number_of}
 use Rattle.shell_words.specs.declared.commands.Command.{Command}
 use Rattle.shell_words.specs.declared.program.NetworkWords.{NetworkWords}
-use Rattle.shell_words.specs.declared.commands.Command.TheVariants.{Clock, Start, Turn, Cut, Boot, Drain, Flows, Flow, History, Quit, Unknown}
+use Rattle.shell_words.specs.declared.commands.Command.TheVariants.{Clock, Start, Turn, Post, Deliver, Repeat, Lose, Cut, Boot, Drain, Flows, Flow, History, Quit, Unknown}
 
 -- ---- lines
 
@@ -119,21 +119,52 @@ flow_of None flow = Unknown
 flow_of (Some node) None = Unknown
 flow_of (Some node) (Some flow) = Flow node flow
 
+-- `post` with a node
+abbrev pub post_of : Option ℕ → Command
+post_of None = Unknown
+post_of (Some node) = Post node
+
+-- `deliver` with a node and the place of a frame
+abbrev pub deliver_of : Option ℕ → Option ℕ → Command
+deliver_of None place = Unknown
+deliver_of (Some node) None = Unknown
+deliver_of (Some node) (Some place) = Deliver node place
+
+-- `repeat` with a node and the place of a frame
+abbrev pub repeat_of : Option ℕ → Option ℕ → Command
+repeat_of None place = Unknown
+repeat_of (Some node) None = Unknown
+repeat_of (Some node) (Some place) = Repeat node place
+
+-- `lose` with a node and the place of a frame
+abbrev pub lose_of : Option ℕ → Option ℕ → Command
+lose_of None place = Unknown
+lose_of (Some node) None = Unknown
+lose_of (Some node) (Some place) = Lose node place
+
 -- what one word asks for: `drain`, `history` or `quit`
 abbrev pub one_word : List ℕ → Command
 one_word w = if bytes_eq w (codes "drain") then Drain else if bytes_eq w (codes "history") then History else if bytes_eq w (codes "quit") then Quit else Unknown
 
--- what two words ask for: `clock T`, `turn N`, `boot N` or `flows N`
+-- what two words ask for: `clock T`, `turn N`, `post N`, `boot N` or `flows N`
 abbrev pub two_words : List ℕ → List ℕ → Command
-two_words w n = if bytes_eq w (codes "clock") then clock_of (number_of n) else if bytes_eq w (codes "turn") then turn_of (number_of n) else if bytes_eq w (codes "boot") then boot_of (number_of n) else if bytes_eq w (codes "flows") then flows_of (number_of n) else Unknown
+two_words w n = if bytes_eq w (codes "clock") then clock_of (number_of n) else if bytes_eq w (codes "turn") then turn_of (number_of n) else if bytes_eq w (codes "post") then post_of (number_of n) else if bytes_eq w (codes "boot") then boot_of (number_of n) else if bytes_eq w (codes "flows") then flows_of (number_of n) else Unknown
 
 -- what three and more words ask for where no other command has so many: `start N CLASS ARGS..`
 abbrev pub many_words : List ℕ → List ℕ → Command
 many_words w n = if bytes_eq w (codes "start") then start_of (number_of n) else Unknown
 
--- what three words ask for: `turn N F`, `flow N F` or `start N CLASS`
+-- what three words ask for of a frame: `deliver N I`, `repeat N I` or `lose N I`; or `start N CLASS`
+abbrev pub frame_words : List ℕ → List ℕ → List ℕ → Command
+frame_words w n m =
+    if bytes_eq w (codes "deliver") then deliver_of (number_of n) (number_of m)
+    else if bytes_eq w (codes "repeat") then repeat_of (number_of n) (number_of m)
+    else if bytes_eq w (codes "lose") then lose_of (number_of n) (number_of m)
+    else many_words w n
+
+-- what three words ask for: `turn N F`, `flow N F`, what is asked of a frame, or `start N CLASS`
 abbrev pub three_words : List ℕ → List ℕ → List ℕ → Command
-three_words w n m = if bytes_eq w (codes "turn") then picked_turn_of (number_of n) (number_of m) else if bytes_eq w (codes "flow") then flow_of (number_of n) (number_of m) else many_words w n
+three_words w n m = if bytes_eq w (codes "turn") then picked_turn_of (number_of n) (number_of m) else if bytes_eq w (codes "flow") then flow_of (number_of n) (number_of m) else frame_words w n m
 
 -- what four words ask for: `cut N CALLS OUTCOME` or `start N CLASS ARG`
 abbrev pub four_words : List ℕ → List ℕ → List ℕ → List ℕ → Command
@@ -157,6 +188,10 @@ abbrev pub asks_quit : Command → Bool
 asks_quit (Clock to) = false
 asks_quit (Start node) = false
 asks_quit (Turn node pick) = false
+asks_quit (Post node) = false
+asks_quit (Deliver node place) = false
+asks_quit (Repeat node place) = false
+asks_quit (Lose node place) = false
 asks_quit (Cut node calls outcome) = false
 asks_quit (Boot node) = false
 asks_quit Drain = false

@@ -1,6 +1,6 @@
 ghost use Rattle.std.specs.Prelude.{◌≡◌, map, string_bytes};
-ghost use Rattle.shell_words.specs.Script.{clock_of, start_of, turn_of, picked_turn_of, cut_of, boot_of, flows_of, flow_of};
-ghost use Rattle.shell_words.specs.Script.{one_word, two_words, three_words, four_words, many_words, command_of};
+ghost use Rattle.shell_words.specs.Script.{clock_of, start_of, turn_of, picked_turn_of, post_of, deliver_of, repeat_of, lose_of, cut_of, boot_of, flows_of, flow_of};
+ghost use Rattle.shell_words.specs.Script.{one_word, two_words, frame_words, three_words, four_words, many_words, command_of};
 
 use net_base::number;
 
@@ -13,6 +13,14 @@ pub enum Command {
     Start { node: u64 },
     /// `turn N` or `turn N F`: one turn of the node, of its flow F where one is picked.
     Turn { node: u64, pick: Option<u64> },
+    /// `post N`: the node sends its messages that aren't acknowledged.
+    Post { node: u64 },
+    /// `deliver N I`: the frame at place I, from 0, of those that wait at the node is handed to it.
+    Deliver { node: u64, place: u64 },
+    /// `repeat N I`: a copy of that frame is handed to it.
+    Repeat { node: u64, place: u64 },
+    /// `lose N I`: that frame is lost.
+    Lose { node: u64, place: u64 },
     /// `cut N CALLS OUTCOME`: the node's power goes after so many calls. The outcome is at most 3.
     Cut { node: u64, calls: u64, outcome: u8 },
     /// `boot N`.
@@ -113,6 +121,42 @@ fn flow_of(node: Option<u64>, flow: Option<u64>) -> Command
     }
 }
 
+fn post_of(node: Option<u64>) -> Command
+    ensures { result ≡ post_of node }
+{
+    match node {
+        Some(node) => Command::Post { node },
+        None => Command::Unknown,
+    }
+}
+
+fn deliver_of(node: Option<u64>, place: Option<u64>) -> Command
+    ensures { result ≡ deliver_of node place }
+{
+    match (node, place) {
+        (Some(node), Some(place)) => Command::Deliver { node, place },
+        _ => Command::Unknown,
+    }
+}
+
+fn repeat_of(node: Option<u64>, place: Option<u64>) -> Command
+    ensures { result ≡ repeat_of node place }
+{
+    match (node, place) {
+        (Some(node), Some(place)) => Command::Repeat { node, place },
+        _ => Command::Unknown,
+    }
+}
+
+fn lose_of(node: Option<u64>, place: Option<u64>) -> Command
+    ensures { result ≡ lose_of node place }
+{
+    match (node, place) {
+        (Some(node), Some(place)) => Command::Lose { node, place },
+        _ => Command::Unknown,
+    }
+}
+
 fn one_word(word: &str) -> Command
     ensures { result ≡ one_word word.now }
 {
@@ -134,6 +178,8 @@ fn two_words(word: &str, first: &str) -> Command
         clock_of(number(first))
     } else if word == "turn" {
         turn_of(number(first))
+    } else if word == "post" {
+        post_of(number(first))
     } else if word == "boot" {
         boot_of(number(first))
     } else if word == "flows" {
@@ -153,6 +199,20 @@ fn many_words(word: &str, node: &str) -> Command
     }
 }
 
+fn frame_words(word: &str, node: &str, place: &str) -> Command
+    ensures { result ≡ frame_words word.now node.now place.now }
+{
+    if word == "deliver" {
+        deliver_of(number(node), number(place))
+    } else if word == "repeat" {
+        repeat_of(number(node), number(place))
+    } else if word == "lose" {
+        lose_of(number(node), number(place))
+    } else {
+        many_words(word, node)
+    }
+}
+
 fn three_words(word: &str, node: &str, flow: &str) -> Command
     ensures { result ≡ three_words word.now node.now flow.now }
 {
@@ -161,7 +221,7 @@ fn three_words(word: &str, node: &str, flow: &str) -> Command
     } else if word == "flow" {
         flow_of(number(node), number(flow))
     } else {
-        many_words(word, node)
+        frame_words(word, node, flow)
     }
 }
 

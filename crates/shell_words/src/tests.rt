@@ -58,6 +58,36 @@ fn the_words_of_each_command(rt: HostRuntime) -> Result<(), Fail> {
 }
 
 #[test]
+fn the_words_of_frames(rt: HostRuntime) -> Result<(), Fail> {
+    let alloc = rt.alloc();
+    let rows = [
+        ("post 15", Command::Post { node: 15 }),
+        ("post", Command::Unknown),
+        ("post 1 0", Command::Unknown),
+        ("deliver 1 0", Command::Deliver { node: 1, place: 0 }),
+        (
+            "deliver 1 4294967296",
+            Command::Deliver {
+                node: 1,
+                place: 4294967296,
+            },
+        ),
+        ("deliver 1", Command::Unknown),
+        ("deliver 1 x", Command::Unknown),
+        ("repeat 0 7", Command::Repeat { node: 0, place: 7 }),
+        ("repeat 00 7", Command::Unknown),
+        ("lose 2 1", Command::Lose { node: 2, place: 1 }),
+        ("lose 2 1 1", Command::Unknown),
+    ];
+    for (line, command) in rows {
+        assert!(rt; is_readable(line.as_bytes()) && !has_no_answer(line.as_bytes()));
+        let words = words_of(alloc, line.as_bytes())?;
+        assert_eq!(rt; command_of(words.as_slice()), command, "{line}");
+    }
+    Ok(())
+}
+
+#[test]
 fn marks(rt: HostRuntime) -> Result<(), Fail> {
     let alloc = rt.alloc();
     let rows = [
