@@ -1,5 +1,5 @@
 -- From disks to a network.
-use Rattle.std.proofs.Common.{◌≡◌, ◌⊎◌, inl, inr, ⊎_elim, ℕ, zero, suc, ◌+◌, ◌<◌, false, List, [], ◌∷◌, length, map, Option, Some, None, refl, sym, ◌∙◌, ap, subst, arith}
+use Rattle.std.proofs.Common.{◌≡◌, ◌⊎◌, inl, inr, ⊎_elim, ℕ, zero, suc, ◌+◌, ◌<◌, ◌≤◌, true, false, List, [], ◌∷◌, length, map, Option, Some, None, refl, sym, ◌∙◌, ap, subst, arith}
 use Rattle.std.specs.List.{slice_get, AllByRecursion}
 use Rattle.std.proofs.lemmas.Bool.{cases_lt, true≢false}
 use Rattle.std.proofs.lemmas.Option.{same_Some, none-some}
@@ -12,11 +12,13 @@ use Rattle.net_model.specs.Environment.{Environment, environment}
 use Rattle.net_model.proofs.Faithful.{get_less}
 use Rattle.node_core.specs.declared.faults.BootFault.{BootFault}
 use Rattle.node_core.specs.declared.faults.BootFault.TheVariants as boot_fault
-use Rattle.node_core.specs.Journals.{Reads, state_of}
+use Rattle.node_tables.specs.Journals.{Reads, state_of}
 use Rattle.node_core.specs.Disks.{roomless}
-use Rattle.node_core.specs.Seen.{NodeSeen, BootsAs, IsBy}
-use Rattle.network_core.specs.Worlds.{NodeWorld, World, NetSeen, MaySpell, ShowsJournal, NodeShows, NodeCoherent, Sound, Shows, Coherent}
-use Rattle.network_core.specs.Begins.{BeginsUp, LeavesDisk, member, came_up, no_boot, IsLast, BootsUpTo, BootStops, node_over, nodes_over, net_over, BeginsWorld, StayDown, IsRefused}
+use Rattle.node_core.specs.Seen.{NodeSeen, BootsAs, IsBy, acks_over}
+use Rattle.network_core.proofs.Agreeing.{begun_coherent, stay_down_coherent}
+use Rattle.network_core.proofs.Mailing.{waits_in}
+use Rattle.network_core.specs.Worlds.{NodeWorld, World, NetSeen, MaySpell, ShowsJournal, NodeShows, Shows, Coherent}
+use Rattle.network_core.specs.Begins.{Begun, BeginsUp, LeavesDisk, member, came_up, no_boot, IsLast, BootsUpTo, BootStops, node_over, nodes_over, net_over, BeginsWorld, StayDown, IsRefused}
 use Rattle.network_core.proofs.Faithful.{get_beside, map_length}
 use Rattle.network_core.proofs.Booting.{down_world, same_kept, booted_world}
 
@@ -76,13 +78,13 @@ over_at nodes notary from (x ∷ ds) (suc p) d at =
     over_at nodes notary (from + 1) ds p d at ∙ ap (λ q. Some (node_over nodes notary q d)) place
 
 abbrev lain : Identity → DiskView → NodeSeen
-lain i d = record { identity = i; disk = d; journal = None }
+lain i d = record { identity = i; disk = d; journal = None; acked = [] }
 
 same_node : (i j : Identity) (d c : DiskView) → i ≡ j → d ≡ c → lain i d ≡ lain j c
 same_node i j d c same disk = rw (same, disk) refl
 
-closed : (k : NodeSeen) → k.journal ≡ None → k ≡ lain k.identity k.disk
-closed k none = ap (λ j. record { identity = k.identity; disk = k.disk; journal = j }) none
+closed : (k : NodeSeen) → k.journal ≡ None → k.acked ≡ [] → k ≡ lain k.identity k.disk
+closed k none unsent = ap (λ j. record { identity = k.identity; disk = k.disk; journal = j; acked = k.acked }) none ∙ ap (λ (a : List ℕ). record { identity = k.identity; disk = k.disk; journal = None; acked = a }) unsent
 
 get_mapped : {X Y : Type 0} (f : X → Y) (xs : List X) (p : ℕ) (x : X) → slice_get xs p ≡ Some x → slice_get (map f xs) p ≡ Some (f x)
 get_mapped f [] p x at = cc
@@ -108,57 +110,50 @@ first_at nodes notary ds p d at =
 
 -- ---- one node
 
-module _ {F : Type 0} (e : Environment F) (p now : ℕ) (n k : NodeSeen) (x : NodeWorld) (shows : NodeShows e p n x) (coherent : NodeCoherent e p now x) (down : n.journal ≡ None) where
-  -- a sound journal is sound by a moment from that of its last cause on
-  sound_by : (journal : Option (List (List ℕ))) (y : NodeWorld) (bodies l : List (List ℕ)) (to : ℕ) → journal ≡ Some bodies → ShowsJournal journal y → IsBy e.frame_at journal to → y.other ≡ None → MaySpell y l → Sound e p now l → Sound e p to l
-  sound_by None y bodies l to here shown by one may sound = cc
-  sound_by (Some b) y bodies l to here shown by one may sound =
-      let is : l ≡ b = ⊎_elim (λ s. s ∙ shown.1) (λ s. absurd (none-some _ (sym one ∙ s))) may in
-      record { local = sound.local; whole = sound.whole; by = rw is by }
-
-  up_world : BootsAs e.frame_at n came_up k → (to : ℕ) → IsBy e.frame_at k.journal to → (y : NodeWorld) × (NodeShows e p k y × NodeCoherent e p to y × BeginsUp x y)
-  up_world s to by =
-      let up = booted_world e p now n k x shows coherent down e.frame_at s.0 s.1 s.2 s.3 in
+module _ {F : Type 0} (e : Environment F) (p : ℕ) (n k : NodeSeen) (x : NodeWorld) (shows : NodeShows e p n x) (down : n.journal ≡ None) (empty : x.waiting ≡ []) where
+  up_world : BootsAs e.frame_at n came_up k → (y : NodeWorld) × (NodeShows e p k y × BeginsUp e x y × (y.waiting ≡ []))
+  up_world s =
+      let up = booted_world e p n k x shows down s.0 s.1 s.2 s.3 s.4 in
       let y = up.0 in
-      let one : y.other ≡ None = ap (λ z. z.other) up.3.0 in (
+      let after = up.3.0 ∙ ap (λ w. record { up = true; journal = x.journal; other = None; faults = y.faults; calm = y.calm; file = x.file; acked = acks_over e [] x.journal; waiting = w }) empty in (
         y,
         (
           up.1,
-          record { every = λ l may. sound_by k.journal y _ l to s.1 up.1.journal by one may (up.2.every l may); one = λ u. one },
-          record { after = up.3.0; later = up.3.1; calm = λ calm. up.3.2 ∙ s.3.opens.calm (sym shows.calm_is ∙ calm) },
+          record { after = after; later = up.3.1; calm = λ calm. up.3.2 ∙ s.4.opens.calm (sym shows.calm_is ∙ calm) },
+          up.2 ∙ empty,
         ),
       )
 
   abbrev Left : BootFault → Type 0
-  Left why = (y : NodeWorld) × (NodeShows e p (record { identity = k.identity; disk = k.disk; journal = None }) y × NodeCoherent e p now y × LeavesDisk why x y)
+  Left why = (y : NodeWorld) × (NodeShows e p (lain k.identity k.disk) y × LeavesDisk why x y × (y.waiting ≡ []))
 
   -- the node was booted, and its disk is taken out again
   left_up : (why : BootFault) → BootsAs e.frame_at n came_up k → Left why
   left_up why s =
-      let up = booted_world e p now n k x shows coherent down e.frame_at s.0 s.1 s.2 s.3 in
+      let up = booted_world e p n k x shows down s.0 s.1 s.2 s.3 s.4 in
       let y = up.0 in
       let one : y.other ≡ None = ap (λ z. z.other) up.3.0 in
       let kept : y.journal ≡ x.journal = ap (λ z. z.journal) up.3.0 in
       let file : y.file ≡ x.file = ap (λ z. z.file) up.3.0 in (
-        record y { up = false },
+        record y { up = false; acked = [] },
         (
-          record { identity_is = up.1.identity_is; tells = up.1.tells; images = up.1.images; kept = up.1.kept; journal = refl; counts = up.1.counts; calm_is = up.1.calm_is; file_is = up.1.file_is },
-          record { every = up.2.every; one = λ u. absurd (true≢false (sym u)) },
+          record { identity_is = up.1.identity_is; tells = up.1.tells; images = up.1.images; kept = up.1.kept; journal = refl; counts = up.1.counts; calm_is = up.1.calm_is; file_is = up.1.file_is; acked_is = refl },
           record { down = refl; lists = λ l may. ⊎_elim (λ s. inl (s ∙ kept)) (λ s. absurd (none-some _ (sym one ∙ s))) may; kept = λ other. kept; later = up.3.1; file = file },
+          up.2 ∙ empty,
         ),
       )
 
   -- the node's boot was refused
   left_down : (why : BootFault) → BootsAs e.frame_at n (no_boot why) k → Left why
   left_down why s =
-      let to = down_world e p now n k x shows coherent down s.0 s.1 s.2.moves in
+      let to = down_world e p n k x shows down s.0 s.1 s.2 s.3.moves in
       let y = to.0 in
       let u = to.3 in (
         y,
         (
-          record { identity_is = to.1.identity_is; tells = to.1.tells; images = to.1.images; kept = to.1.kept; journal = u.down; counts = to.1.counts; calm_is = to.1.calm_is; file_is = to.1.file_is },
-          to.2,
-          record { down = u.down; lists = u.lists; kept = λ other. same_kept e p now n k x shows coherent down y u (s.2.same other shows.tells); later = u.later; file = u.file },
+          record { identity_is = to.1.identity_is; tells = to.1.tells; images = to.1.images; kept = to.1.kept; journal = u.down; counts = to.1.counts; calm_is = to.1.calm_is; file_is = to.1.file_is; acked_is = u.acked },
+          record { down = u.down; lists = u.lists; kept = λ other. same_kept e p n k x shows down y u (s.3.same other shows.tells); later = u.later; file = u.file },
+          to.2 ∙ empty,
         ),
       )
 
@@ -166,7 +161,7 @@ module _ {F : Type 0} (e : Environment F) (p now : ℕ) (n k : NodeSeen) (x : No
   left_same : (why : BootFault) → k ≡ n → Left why
   left_same why same =
       let was : x.up ≡ false = rw down at shows.journal in (
-        x,
+        record x { acked = [] },
         (
           record {
             identity_is = ap (λ z. z.identity) same ∙ shows.identity_is;
@@ -177,11 +172,21 @@ module _ {F : Type 0} (e : Environment F) (p now : ℕ) (n k : NodeSeen) (x : No
             counts = shows.counts ∙ sym (ap (λ z. z.disk.faults) same);
             calm_is = shows.calm_is ∙ sym (ap (λ z. z.disk.calm) same);
             file_is = shows.file_is ∙ sym (ap (λ z. z.disk.of_file) same);
+            acked_is = refl;
           },
-          coherent,
           record { down = was; lists = λ l h. h; kept = λ other. refl; later = omega arith; file = refl },
+          empty,
         ),
       )
+
+-- what waits at a place of a world at none of whose places a frame waits
+none_at : {C : Type 0} (ys : List NodeWorld) (cs : List C) (p : ℕ) (y : NodeWorld) → waits_in ys ≡ map (λ (c : C). []) cs → slice_get ys p ≡ Some y → y.waiting ≡ []
+none_at [] cs p y is at = cc
+none_at (z ∷ ys) [] p y is at = cc
+none_at (z ∷ ys) (c ∷ cs) zero y is at = let same : z ≡ y = cc in ap (λ (a : NodeWorld). a.waiting) (sym same) ∙ cc
+none_at {C} (z ∷ ys) (c ∷ cs) (suc p) y is at =
+    let rest : waits_in ys ≡ map (λ (c : C). []) cs = cc in
+    none_at ys cs p y rest at
 
 -- ---- the network
 
@@ -192,8 +197,23 @@ module _ {F : Type 0} (m : Machine F) (f : Reads F) (nodes : ℕ) (notary : Part
   abbrev olds : List NodeSeen
   olds = nodes_over nodes notary 0 disks
 
-  abbrev Ups : ℕ → ℕ → NodeSeen → NodeWorld → NodeWorld → Type 0
-  Ups to p k x y = NodeShows e p k y × NodeCoherent e p to y × BeginsUp x y
+  abbrev Ups : ℕ → NodeSeen → NodeWorld → NodeWorld → Type 0
+  Ups p k x y = NodeShows e p k y × BeginsUp e x y × (y.waiting ≡ [])
+
+  -- no frame waits at the nodes of a world over disks
+  empty_at : (now : ℕ) (w : World) → Shows e (net_over nodes notary now disks) w → (p : ℕ) (x : NodeWorld) → slice_get w.nodes p ≡ Some x → x.waiting ≡ []
+  empty_at now w shows p x at = none_at w.nodes disks p x shows.waiting at
+
+  -- of a list of nodes at none of which a frame waits
+  all_empty : {C : Type 0} (ys : List NodeWorld) (cs : List C) → length ys ≡ length cs → ((p : ℕ) (y : NodeWorld) → slice_get ys p ≡ Some y → y.waiting ≡ []) → waits_in ys ≡ map (λ (c : C). []) cs
+  all_empty [] [] same each = refl
+  all_empty [] (c ∷ cs) same each = cc
+  all_empty (y ∷ ys) [] same each = cc
+  all_empty (y ∷ ys) (c ∷ cs) same each = ap (λ a. a ∷ waits_in ys) (each zero y refl) ∙ ap (λ l. [] ∷ l) (all_empty ys cs (omega (arith, same)) (λ p z at. each (suc p) z at))
+
+  latest_at : (journal : Option (List (List ℕ))) (y : NodeWorld) (to : ℕ) → ShowsJournal journal y → y.up ≡ true → IsBy f journal to → (state_of f y.journal).moment ≤ to
+  latest_at None y to shown up by = absurd (true≢false (sym up ∙ shown))
+  latest_at (Some b) y to shown up by = rw shown.1 by
 
   reached_by : (journal : Option (List (List ℕ))) (y : NodeWorld) (to : ℕ) → ShowsJournal journal y → IsLast f journal to → (to ≡ 0) ⊎ (to ≡ (state_of f y.journal).moment)
   reached_by None y to shown last = inl last
@@ -205,38 +225,40 @@ module _ {F : Type 0} (m : Machine F) (f : Reads F) (nodes : ℕ) (notary : Part
       ⊎_elim (λ none. inl none) (λ is. inr (p, there.0, there.1, is)) (reached_by k.journal there.0 net.now (shows.each p k there.0 i there.1).journal last)
 
   -- all nodes came up
-  pub begins_world : (net : NetSeen) → BootsUpTo f (length disks) net.now olds net.nodes → BeginsWorld m f nodes notary disks net
-  begins_world net b now w shows coherent =
+  pub begins_world : (net : NetSeen) → BootsUpTo f (length disks) net.now olds net.nodes → net.waiting ≡ map (λ (n : NodeSeen). []) net.nodes → BeginsWorld m f nodes notary disks net
+  begins_world net b silent now w shows coherent =
       let long : length olds ≡ length disks = over_length nodes notary 0 disks in
       let counts : length net.nodes ≡ length w.nodes = b.count ∙ sym shows.count in
       let one = λ (p : ℕ) (k : NodeSeen) (x : NodeWorld) (i : slice_get net.nodes p ≡ Some k) (j : slice_get w.nodes p ≡ Some x).
       let there = get_beside net.nodes olds p k b.count i in
       let n = there.0 in
       let below : p < length disks = omega (arith, get_less olds p n there.1, long) in
-      up_world e p w.now n k x (shows.each p n x there.1 j) (coherent.each p x j) (over_down nodes notary 0 disks p n there.1) (b.done p n k below there.1 i) net.now (b.latest p n k below there.1 i) in
-      let all : Chosen (Ups net.now) net.nodes w.nodes = choose (Ups net.now) net.nodes w.nodes counts one in
+      up_world e p n k x (shows.each p n x there.1 j) (over_down nodes notary 0 disks p n there.1) (empty_at now w shows p x j) (b.done p n k below there.1 i) in
+      let all : Chosen Ups net.nodes w.nodes = choose Ups net.nodes w.nodes counts one in
       let v : World = record { nodes = all.cs; now = net.now } in
-      let coherent_now : Coherent e v = record {
-        count = all.count ∙ coherent.count;
-        each = λ p y k.
+      let shows_now : Shows e net v = record {
+        count = all.count ∙ sym counts;
+        each = λ p n y i k. let x = get_beside net.nodes w.nodes p n counts i in (all.each p n x.0 y i x.1 k).0;
+        waiting = all_empty all.cs net.nodes (all.count ∙ sym counts) (λ p y k.
             let x = get_beside all.cs w.nodes p y all.count k in
             let n = get_beside w.nodes net.nodes p x.0 (sym counts) x.1 in
-            (all.each p n.0 x.0 y n.1 x.1 k).1;
+            (all.each p n.0 x.0 y n.1 x.1 k).2) ∙ sym silent;
+        clock = refl;
       } in
-      let shows_now : Shows e net v = record { count = all.count ∙ sym counts; each = λ p n y i k. let x = get_beside net.nodes w.nodes p n counts i in (all.each p n x.0 y i x.1 k).0; clock = refl } in (
-        v,
-        shows_now,
-        coherent_now,
-        record {
-          count = all.count;
-          each = λ p x y j k. let n = get_beside w.nodes net.nodes p x (sym counts) j in (all.each p n.0 x y n.1 j k).2;
-          latest = λ p y k. ((coherent_now.each p y k).every y.journal (inl refl)).by;
-          reached = ⊎_elim (λ none. inl none) (λ (p, k, below, i, last). reached_at net v shows_now p k i last) b.reached;
-        },
-      )
+      let begun : Begun e w v = record {
+        count = all.count;
+        each = λ p x y j k. let n = get_beside w.nodes net.nodes p x (sym counts) j in (all.each p n.0 x y n.1 j k).1;
+        latest = λ p y k.
+            let x = get_beside all.cs w.nodes p y all.count k in
+            let n = get_beside w.nodes net.nodes p x.0 (sym counts) x.1 in
+            let shown = all.each p n.0 x.0 y n.1 x.1 k in
+            latest_at n.0.journal y net.now shown.0.journal (ap (λ z. z.up) shown.1.after) (b.latest p (get_beside net.nodes olds p n.0 b.count n.1).0 n.0 (omega (arith, get_less net.nodes p n.0 n.1, b.count, long)) (get_beside net.nodes olds p n.0 b.count n.1).1 n.1);
+        reached = ⊎_elim (λ none. inl none) (λ (p, k, below, i, last). reached_at net v shows_now p k i last) b.reached;
+      } in
+      (v, shows_now, begun_coherent e w v coherent begun, begun)
 
-  abbrev Lefts : BootFault → ℕ → ℕ → NodeSeen → NodeWorld → NodeWorld → Type 0
-  Lefts why to p k x y = NodeShows e p (record { identity = k.identity; disk = k.disk; journal = None }) y × NodeCoherent e p to y × LeavesDisk why x y
+  abbrev Lefts : BootFault → ℕ → NodeSeen → NodeWorld → NodeWorld → Type 0
+  Lefts why p k x y = NodeShows e p (lain k.identity k.disk) y × LeavesDisk why x y × (y.waiting ≡ [])
 
   module _ (place : ℕ) (why : BootFault) (news : List NodeSeen) (stops : BootStops f place why olds news) (back : List DiskView) (handed : map roomless back ≡ map (λ n. n.disk) news) where
     long : length back ≡ length news
@@ -249,27 +271,32 @@ module _ {F : Type 0} (m : Machine F) (f : Reads F) (nodes : ℕ) (notary : Part
     disk_back : (p : ℕ) (b : DiskView) (k : NodeSeen) → slice_get back p ≡ Some b → slice_get news p ≡ Some k → roomless b ≡ k.disk
     disk_back p b k i j = same_Some _ _ (sym (get_mapped roomless back p b i) ∙ ap (λ l. slice_get l p) handed ∙ get_mapped (λ (n : NodeSeen). n.disk) news p k j)
 
-    one_left : (now : ℕ) (w : World) → Shows e (net_over nodes notary now disks) w → Coherent e w → (p : ℕ) (k : NodeSeen) (x : NodeWorld) → slice_get news p ≡ Some k → slice_get w.nodes p ≡ Some x → (y : NodeWorld) × Lefts why w.now p k x y
-    one_left now w shows coherent p k x i j =
+    one_left : (now : ℕ) (w : World) → Shows e (net_over nodes notary now disks) w → (p : ℕ) (k : NodeSeen) (x : NodeWorld) → slice_get news p ≡ Some k → slice_get w.nodes p ≡ Some x → (y : NodeWorld) × Lefts why p k x y
+    one_left now w shows p k x i j =
         let there = get_beside news olds p k stops.count i in
         let n = there.0 in
         let shown = shows.each p n x there.1 j in
-        let sound = coherent.each p x j in
+        let empty = empty_at now w shows p x j in
         let none = over_down nodes notary 0 disks p n there.1 in
         ⊎_elim
-        (λ below. left_up e p w.now n k x shown sound none why (stops.done p n k below there.1 i))
+        (λ below. left_up e p n k x shown none empty why (stops.done p n k below there.1 i))
         (λ above. ⊎_elim
-        (λ past. left_same e p w.now n k x shown sound none why (stops.rest p n k past there.1 i))
+        (λ past. left_same e p n k x shown none empty why (stops.rest p n k past there.1 i))
         (λ le. let here : p ≡ place = omega (arith, above, le) in
-        left_down e p w.now n k x shown sound none why (stops.refused n k (subst (λ (q : ℕ). slice_get olds q ≡ Some n) here there.1) (subst (λ (q : ℕ). slice_get news q ≡ Some k) here i)))
+        left_down e p n k x shown none empty why (stops.refused n k (subst (λ (q : ℕ). slice_get olds q ≡ Some n) here there.1) (subst (λ (q : ℕ). slice_get news q ≡ Some k) here i)))
         (cases_lt place p))
         (cases_lt p place)
 
     left_world : (now : ℕ) (w : World) → Shows e (net_over nodes notary now disks) w → Coherent e w → (v : World) × Shows e (net_over nodes notary now back) v × Coherent e v × StayDown why w v
     left_world now w shows coherent =
         let counts : length news ≡ length w.nodes = stops.count ∙ sym shows.count in
-        let all : Chosen (Lefts why w.now) news w.nodes = choose (Lefts why w.now) news w.nodes counts (one_left now w shows coherent) in
-        let v : World = record { nodes = all.cs; now = w.now } in (
+        let all : Chosen (Lefts why) news w.nodes = choose (Lefts why) news w.nodes counts (one_left now w shows) in
+        let v : World = record { nodes = all.cs; now = w.now } in
+        let silent = λ (p : ℕ) (y : NodeWorld) (k : slice_get all.cs p ≡ Some y).
+        let x = get_beside all.cs w.nodes p y all.count k in
+        let n = get_beside w.nodes news p x.0 (sym counts) x.1 in
+        (all.each p n.0 x.0 y n.1 x.1 k).2 in
+        let down : StayDown why w v = record { count = all.count; each = λ p x y j k. let n = get_beside w.nodes news p x (sym counts) j in (all.each p n.0 x y n.1 j k).1 } in (
           v,
           record {
             count = all.count ∙ sym counts ∙ sym long ∙ sym (over_length nodes notary 0 back);
@@ -279,16 +306,11 @@ module _ {F : Type 0} (m : Machine F) (f : Reads F) (nodes : ℕ) (notary : Part
                 let x = get_beside news w.nodes p node.0 counts node.1 in
                 let shown = (all.each p node.0 x.0 y node.1 x.1 k).0 in
                 subst (λ (z : NodeSeen). NodeShows e p z y) (sym (found.2 ∙ same_node (member nodes notary p) node.0.identity (roomless found.0) node.0.disk (sym shown.identity_is) (disk_back p found.0 node.0 found.1 node.1))) shown;
+            waiting = all_empty all.cs back (all.count ∙ sym counts ∙ sym long) silent;
             clock = shows.clock;
           },
-          record {
-            count = all.count ∙ coherent.count;
-            each = λ p y k.
-                let x = get_beside all.cs w.nodes p y all.count k in
-                let n = get_beside w.nodes news p x.0 (sym counts) x.1 in
-                (all.each p n.0 x.0 y n.1 x.1 k).1;
-          },
-          record { count = all.count; each = λ p x y j k. let n = get_beside w.nodes news p x (sym counts) j in (all.each p n.0 x y n.1 j k).2 },
+          stay_down_coherent e why w v coherent down refl silent,
+          down,
         )
 
     refused_boot : (d b : DiskView) → slice_get disks place ≡ Some d → slice_get back place ≡ Some b → BootsAs f (node_over nodes notary place d) (no_boot why) (node_over nodes notary place b)
@@ -297,8 +319,8 @@ module _ {F : Type 0} (m : Machine F) (f : Reads F) (nodes : ℕ) (notary : Part
         let node = get_beside back news place b long j in
         let k = node.0 in
         let s = stops.refused (node_over nodes notary place d) k old node.1 in
-        let same : lain k.identity k.disk ≡ node_over nodes notary place b = sym (same_node (member nodes notary place) k.identity (roomless b) k.disk (sym s.1) (disk_back place b k j node.1)) in
-        let whole : k ≡ lain k.identity k.disk = closed k s.0 in
+        let same : lain k.identity k.disk ≡ node_over nodes notary place b = sym (same_node (member nodes notary place) k.identity (roomless b) k.disk (sym s.2) (disk_back place b k j node.1)) in
+        let whole : k ≡ lain k.identity k.disk = closed k s.0 s.1 in
         subst (λ (z : NodeSeen). BootsAs f (node_over nodes notary place d) (no_boot why) z) (whole ∙ same) s
 
     left_there : (p : ℕ) (d b : DiskView) → place < p → slice_get disks p ≡ Some d → slice_get back p ≡ Some b → roomless b ≡ roomless d

@@ -2,7 +2,7 @@
 use Rattle.std.proofs.Common.{◌≡◌, ◌⊎◌, inl, inr, ⊎_elim, ℕ, zero, suc, max, ◌<◌, ◌≤◌, Bool, true, false, List, [], ◌∷◌, map, Option, Some, None, IsSome, Result, Ok, Err, refl, sym, ◌∙◌, ap, subst, arith, slice_set}
 use Rattle.std.specs.List.{slice_get, AllByRecursion}
 use Rattle.std.specs.Option.{MatchOption}
-use Rattle.std.proofs.lemmas.Bool.{cases_lt, true≢false}
+use Rattle.std.proofs.lemmas.Bool.{cases_lt}
 use Rattle.std.proofs.lemmas.Option.{same_Some}
 use Rattle.outside.specs.Disk.{DiskView, IsImage}
 use Rattle.outside.specs.Faults.{Rose}
@@ -12,16 +12,17 @@ use Rattle.disk_journal.specs.declared.fault.OpenFault.TheVariants as open_fault
 use Rattle.net_model.specs.Environment.{Environment, environment}
 use Rattle.node_core.specs.declared.faults.BootFault.{BootFault}
 use Rattle.node_core.specs.declared.faults.BootFault.TheVariants as boot_fault
-use Rattle.node_core.specs.Journals.{Reads, state_of}
+use Rattle.node_tables.specs.Journals.{Reads, state_of}
+use Rattle.node_tables.specs.Seen.{padded}
 use Rattle.node_core.specs.Disks.{Moves}
-use Rattle.node_core.specs.Seen.{NodeSeen, BootsAs, Booted, Unbooted, Unopened, Unfit, IsBy}
+use Rattle.node_core.specs.Seen.{NodeSeen, BootsAs, Booted, Unbooted, Unopened, Unfit, IsBy, acks_over}
 use Rattle.network_core.specs.declared.steps.Outcome.{Outcome}
 use Rattle.network_core.specs.Worlds.{NodeWorld, World, NetSeen, MaySpell, ShowsJournal, NodeShows, NodeCoherent, Shows, Coherent, KeepsWorld}
 use Rattle.network_core.specs.Answers.{said, boot_outcome, Restored, BootServes, BootClock, AtPlace}
 use Rattle.network_core.specs.Serves.{WorldPlace, WorldBoots, StaysDown}
-use Rattle.network_core.proofs.Stands.{shows_down, images_now}
+use Rattle.network_core.proofs.Agreeing.{boot_coherent}
+use Rattle.network_core.proofs.Stands.{Goes, shows_down, images_now}
 use Rattle.network_core.proofs.Faithful.{get_beside}
-use Rattle.network_core.proofs.Served.{Goes}
 use Rattle.network_core.proofs.Places.{place_world}
 
 -- what a boot makes of a node that is down, whether or not its power came back
@@ -34,8 +35,9 @@ pub record Unmoved (x y : NodeWorld) (k : NodeSeen) : Type 0 where
   pub calm_is : y.calm ≡ k.disk.calm
   pub file : y.file ≡ x.file
   pub kept : journal_of k.disk.state.kept ≡ y.journal
+  pub acked : y.acked ≡ []
 
-module _ {F : Type 0} (e : Environment F) (p now : ℕ) (n k : NodeSeen) (x : NodeWorld) (shows : NodeShows e p n x) (coherent : NodeCoherent e p now x) (none : n.journal ≡ None) where
+module _ {F : Type 0} (e : Environment F) (p : ℕ) (n k : NodeSeen) (x : NodeWorld) (shows : NodeShows e p n x) (none : n.journal ≡ None) where
   was_down : x.up ≡ false
   was_down = rw none at shows.journal
 
@@ -52,11 +54,13 @@ module _ {F : Type 0} (e : Environment F) (p now : ℕ) (n k : NodeSeen) (x : No
     faults_are : y.faults ≡ k.disk.faults
     calm_is : y.calm ≡ k.disk.calm
     file_is : y.file ≡ x.file
+    acked_none : y.acked ≡ []
+    waiting_is : y.waiting ≡ x.waiting
 
   world_of : (kept : List (List ℕ)) → MaySpell x kept → (y : NodeWorld) × Kept y kept
-  world_of kept (inl is) = (record { up = false; journal = x.journal; other = x.other; faults = k.disk.faults; calm = k.disk.calm; file = x.file }, record { down = refl; is = is; back = λ l h. h; on = λ l h. h; faults_are = refl; calm_is = refl; file_is = refl })
+  world_of kept (inl is) = (record { up = false; journal = x.journal; other = x.other; faults = k.disk.faults; calm = k.disk.calm; file = x.file; acked = []; waiting = x.waiting }, record { down = refl; is = is; back = λ l h. h; on = λ l h. h; faults_are = refl; calm_is = refl; file_is = refl; acked_none = refl; waiting_is = refl })
   world_of kept (inr is) = (
-    record { up = false; journal = kept; other = Some x.journal; faults = k.disk.faults; calm = k.disk.calm; file = x.file },
+    record { up = false; journal = kept; other = Some x.journal; faults = k.disk.faults; calm = k.disk.calm; file = x.file; acked = []; waiting = x.waiting },
     record {
       down = refl;
       is = refl;
@@ -65,11 +69,13 @@ module _ {F : Type 0} (e : Environment F) (p now : ℕ) (n k : NodeSeen) (x : No
       faults_are = refl;
       calm_is = refl;
       file_is = refl;
+      acked_none = refl;
+      waiting_is = refl;
     },
   )
 
-  pub down_world : k.journal ≡ None → k.identity ≡ n.identity → Moves n.disk k.disk WasSpelt → Goes e p now k (λ y. Unmoved x y k)
-  down_world gone same moves =
+  pub down_world : k.journal ≡ None → k.acked ≡ [] → k.identity ≡ n.identity → Moves n.disk k.disk WasSpelt → Goes e p x k (λ y. Unmoved x y k)
+  down_world gone acked same moves =
       let found = world_of (journal_of k.disk.state.kept) (may k.disk.state.kept (moves.kept shows.tells)) in
       let y = found.0 in
       let w = found.1 in (
@@ -83,23 +89,24 @@ module _ {F : Type 0} (e : Environment F) (p now : ℕ) (n k : NodeSeen) (x : No
           counts = w.faults_are;
           calm_is = w.calm_is;
           file_is = w.file_is ∙ shows.file_is ∙ sym moves.file;
+          acked_is = w.acked_none ∙ sym acked;
         },
-        record { every = λ l h. coherent.every l (w.back l h); one = λ u. absurd (true≢false (sym u ∙ w.down)) },
-        record { was_down = was_down; down = w.down; lists = w.back; later = omega (arith, moves.later, shows.counts, w.faults_are); faults_are = w.faults_are; calm_is = w.calm_is; file = w.file_is; kept = w.is },
+        w.waiting_is,
+        record { was_down = was_down; down = w.down; lists = w.back; later = omega (arith, moves.later, shows.counts, w.faults_are); faults_are = w.faults_are; calm_is = w.calm_is; file = w.file_is; kept = w.is; acked = w.acked_none },
       )
 
   -- what is kept spells the same journal where it did so at the node
   pub same_kept : (y : NodeWorld) → Unmoved x y k → journal_of k.disk.state.kept ≡ journal_of n.disk.state.kept → y.journal ≡ x.journal
   same_kept y u same = sym u.kept ∙ same ∙ shows.kept
 
-  pub booted_world : (f : Reads F) (list : List (ℕ × List ℕ)) → k.journal ≡ Some (map (λ z. z.1) list) → k.identity ≡ n.identity → Booted f n.identity n.disk k.disk list
-      → Goes e p now k (λ y. (y ≡ record { up = true; journal = x.journal; other = None; faults = y.faults; calm = y.calm; file = x.file }) × (x.faults ≤ y.faults) × (y.calm ≡ k.disk.calm))
-  booted_world f list here id b =
+  pub booted_world : (list : List (ℕ × List ℕ)) → k.journal ≡ Some (map (λ z. z.1) list) → k.acked ≡ padded [] (state_of e.frame_at (map (λ z. z.1) list)).sessions → k.identity ≡ n.identity → Booted e.frame_at n.identity n.disk k.disk list
+      → Goes e p x k (λ y. (y ≡ record { up = true; journal = x.journal; other = None; faults = y.faults; calm = y.calm; file = x.file; acked = acks_over e [] x.journal; waiting = x.waiting }) × (x.faults ≤ y.faults) × (y.calm ≡ k.disk.calm))
+  booted_world list here acked id b =
       let o = b.opens in
       let bodies = map (λ z. z.1) list in
       let tells : k.disk.tells ≡ true = o.moves.tells ∙ shows.tells in
       let same : bodies ≡ x.journal = sym (o.holds.kept tells) ∙ o.same shows.tells ∙ shows.kept in
-      let y : NodeWorld = record { up = true; journal = x.journal; other = None; faults = k.disk.faults; calm = k.disk.calm; file = x.file } in (
+      let y : NodeWorld = record { up = true; journal = x.journal; other = None; faults = k.disk.faults; calm = k.disk.calm; file = x.file; acked = acks_over e [] x.journal; waiting = x.waiting } in (
         y,
         record {
           identity_is = id ∙ shows.identity_is;
@@ -110,14 +117,15 @@ module _ {F : Type 0} (e : Environment F) (p now : ℕ) (n k : NodeSeen) (x : No
           counts = refl;
           calm_is = refl;
           file_is = shows.file_is ∙ sym o.moves.file;
+          acked_is = ap (λ b. padded [] (state_of e.frame_at b).sessions) (sym same) ∙ sym acked;
         },
-        record { every = λ l h. ⊎_elim (λ s. coherent.every l (inl s)) (λ s. cc) h; one = λ u. refl },
+        refl,
         (refl, rw shows.counts o.moves.later, refl),
       )
 
-module _ {F : Type 0} (e : Environment F) (p now : ℕ) (n mid k : NodeSeen) (x : NodeWorld) (shows : NodeShows e p n x) (coherent : NodeCoherent e p now x) (down : n.journal ≡ None) (restored : Restored n mid) where
+module _ {F : Type 0} (e : Environment F) (p : ℕ) (n mid k : NodeSeen) (x : NodeWorld) (shows : NodeShows e p n x) (down : n.journal ≡ None) (restored : Restored n mid) where
   abbrev z : NodeWorld
-  z = record x { calm = mid.disk.calm }
+  z = record x { calm = mid.disk.calm; acked = mid.acked }
 
   lit : mid.disk ≡ record n.disk { power = true; fuse = None; calm = mid.disk.calm }
   lit = restored.disk
@@ -132,64 +140,62 @@ module _ {F : Type 0} (e : Environment F) (p now : ℕ) (n mid k : NodeSeen) (x 
     counts = shows.counts ∙ sym (ap (λ v. v.faults) lit);
     calm_is = refl;
     file_is = shows.file_is ∙ sym (ap (λ v. v.of_file) lit);
+    acked_is = refl;
   }
-
-  coherent_mid : NodeCoherent e p now z
-  coherent_mid = record { every = coherent.every; one = coherent.one }
 
   calm_mid : x.file ≡ false → mid.disk.calm ≡ true
   calm_mid memory = restored.calm (sym shows.file_is ∙ memory)
 
-  stays_down : (y : NodeWorld) → Unmoved z y k → (mid.disk.calm ≡ true → k.disk.calm ≡ true) → StaysDown x y
-  stays_down y u calm = record { was_down = u.was_down; down = u.down; lists = u.lists; later = u.later; calm = λ memory. u.calm_is ∙ calm (calm_mid memory); file = u.file }
+  stays_down : (y : NodeWorld) → y.waiting ≡ x.waiting → Unmoved z y k → (mid.disk.calm ≡ true → k.disk.calm ≡ true) → StaysDown x y
+  stays_down y waits u calm = record { was_down = u.was_down; down = u.down; lists = u.lists; later = u.later; calm = λ memory. u.calm_is ∙ calm (calm_mid memory); file = u.file; acked = u.acked; waiting = waits }
 
   -- what a fault of the opening says
-  fault_of : (f : Reads F) → Unopened mid.identity mid.disk boot_fault.Fault k.disk ⊎ Unfit f mid.identity mid.disk boot_fault.Fault k.disk → Rose mid.disk.faults k.disk.faults × (mid.disk.calm ≡ true → ⊥)
-  fault_of f (inl (open_fault.Fault, is, r)) = r
-  fault_of f (inl (open_fault.Memory, is, r)) = cc
-  fault_of f (inl (open_fault.NotAJournal, is, r)) = cc
-  fault_of f (inl (open_fault.WrongNode found, is, r)) = cc
-  fault_of f (inl (open_fault.Damaged at, is, r)) = cc
-  fault_of f (inr u) = absurd u
+  fault_of : Unopened mid.identity mid.disk boot_fault.Fault k.disk ⊎ Unfit e.frame_at mid.identity mid.disk boot_fault.Fault k.disk → Rose mid.disk.faults k.disk.faults × (mid.disk.calm ≡ true → ⊥)
+  fault_of (inl (open_fault.Fault, is, r)) = r
+  fault_of (inl (open_fault.Memory, is, r)) = cc
+  fault_of (inl (open_fault.NotAJournal, is, r)) = cc
+  fault_of (inl (open_fault.WrongNode found, is, r)) = cc
+  fault_of (inl (open_fault.Damaged at, is, r)) = cc
+  fault_of (inr u) = absurd u
 
   -- only a file's disk fails at a boot
   is_file : (b : Bool) → x.file ≡ b → (mid.disk.calm ≡ true → ⊥) → b ≡ true
   is_file true here wild = refl
   is_file false here wild = absurd (wild (calm_mid here))
 
-  kept_as : (f : Reads F) (why : BootFault) → Unbooted f mid.identity mid.disk why k.disk → (why ≡ boot_fault.Fault → ⊥) → (y : NodeWorld) → Unmoved z y k → y.journal ≡ x.journal
-  kept_as f why u other y un = same_kept e p now mid k z shows_mid coherent_mid restored.journal y un (u.same other shows_mid.tells)
+  kept_as : (why : BootFault) → Unbooted e.frame_at mid.identity mid.disk why k.disk → (why ≡ boot_fault.Fault → ⊥) → (y : NodeWorld) → Unmoved z y k → y.journal ≡ x.journal
+  kept_as why u other y un = same_kept e p mid k z shows_mid restored.journal y un (u.same other shows_mid.tells)
 
-  unbooted : (f : Reads F) (why : BootFault) → k.journal ≡ None → k.identity ≡ mid.identity → Unbooted f mid.identity mid.disk why k.disk → Goes e p now k (λ y. Unmoved z y k)
-  unbooted f why none id u = down_world e p now mid k z shows_mid coherent_mid restored.journal none id u.moves
+  unbooted : (why : BootFault) → k.journal ≡ None → k.acked ≡ [] → k.identity ≡ mid.identity → Unbooted e.frame_at mid.identity mid.disk why k.disk → Goes e p x k (λ y. Unmoved z y k)
+  unbooted why none acked id u = down_world e p mid k z shows_mid restored.journal none acked id u.moves
 
-  refused : (f : Reads F) (why : BootFault) → (why ≡ boot_fault.Fault → ⊥) → k.journal ≡ None → k.identity ≡ mid.identity → Unbooted f mid.identity mid.disk why k.disk → Goes e p now k (λ y. StaysDown x y × (y.journal ≡ x.journal))
-  refused f why other none id u =
-      let to = unbooted f why none id u in
-      (to.0, to.1, to.2, (stays_down to.0 to.3 u.calm, kept_as f why u other to.0 to.3))
+  refused : (why : BootFault) → (why ≡ boot_fault.Fault → ⊥) → k.journal ≡ None → k.acked ≡ [] → k.identity ≡ mid.identity → Unbooted e.frame_at mid.identity mid.disk why k.disk → Goes e p x k (λ y. StaysDown x y × (y.journal ≡ x.journal))
+  refused why other none acked id u =
+      let to = unbooted why none acked id u in
+      (to.0, to.1, to.2, (stays_down to.0 to.2 to.3 u.calm, kept_as why u other to.0 to.3))
 
-  boots : (f : Reads F) (answer : Result (Unit {0}) BootFault) → BootsAs f mid answer k → Goes e p now k (λ y. WorldBoots x (boot_outcome answer) y)
-  boots f (Ok u) s =
-      let to = booted_world e p now mid k z shows_mid coherent_mid restored.journal f s.0 s.1 s.2 s.3 in
-      (to.0, to.1, to.2, record { was_down = rw down at shows.journal; after = to.3.0; later = to.3.1; calm = λ memory. to.3.2 ∙ s.3.opens.calm (calm_mid memory) })
-  boots f (Err boot_fault.Fault) s =
-      let to = unbooted f boot_fault.Fault s.0 s.1 s.2 in
-      let c = fault_of f s.2.cause in
+  boots : (answer : Result (Unit {0}) BootFault) → BootsAs e.frame_at mid answer k → Goes e p x k (λ y. WorldBoots e x (boot_outcome answer) y)
+  boots (Ok u) s =
+      let to = booted_world e p mid k z shows_mid restored.journal s.0 s.1 s.2 s.3 s.4 in
+      (to.0, to.1, to.2, record { was_down = rw down at shows.journal; after = to.3.0; later = to.3.1; calm = λ memory. to.3.2 ∙ s.4.opens.calm (calm_mid memory) })
+  boots (Err boot_fault.Fault) s =
+      let to = unbooted boot_fault.Fault s.0 s.1 s.2 s.3 in
+      let c = fault_of s.3.cause in
       let rose : Rose x.faults to.0.faults = subst (λ (i : ℕ). Rose i to.0.faults) (sym shows_mid.counts) (subst (λ (i : ℕ). Rose mid.disk.faults i) (sym to.3.faults_are) c.0) in
-      (to.0, to.1, to.2, (stays_down to.0 to.3 s.2.calm, rose, is_file x.file refl c.1))
-  boots f (Err boot_fault.Memory) s = refused f boot_fault.Memory (λ is. cc) s.0 s.1 s.2
-  boots f (Err boot_fault.NotAJournal) s = let to = refused f boot_fault.NotAJournal (λ is. cc) s.0 s.1 s.2 in (to.0, to.1, to.2, inr (refl, to.3.0, to.3.1))
-  boots f (Err (boot_fault.WrongNode found)) s = let to = refused f (boot_fault.WrongNode found) (λ is. cc) s.0 s.1 s.2 in (to.0, to.1, to.2, inr (refl, to.3.0, to.3.1))
-  boots f (Err (boot_fault.Damaged at)) s = let to = refused f (boot_fault.Damaged at) (λ is. cc) s.0 s.1 s.2 in (to.0, to.1, to.2, inr (refl, to.3.0, to.3.1))
+      (to.0, to.1, to.2, (stays_down to.0 to.2 to.3 s.3.calm, rose, is_file x.file refl c.1))
+  boots (Err boot_fault.Memory) s = refused boot_fault.Memory (λ is. cc) s.0 s.1 s.2 s.3
+  boots (Err boot_fault.NotAJournal) s = let to = refused boot_fault.NotAJournal (λ is. cc) s.0 s.1 s.2 s.3 in (to.0, to.1, to.2, inr (refl, to.3.0, to.3.1))
+  boots (Err (boot_fault.WrongNode found)) s = let to = refused (boot_fault.WrongNode found) (λ is. cc) s.0 s.1 s.2 s.3 in (to.0, to.1, to.2, inr (refl, to.3.0, to.3.1))
+  boots (Err (boot_fault.Damaged at)) s = let to = refused (boot_fault.Damaged at) (λ is. cc) s.0 s.1 s.2 s.3 in (to.0, to.1, to.2, inr (refl, to.3.0, to.3.1))
 
 up_of : (journal : Option (List (List ℕ))) (x : NodeWorld) → IsSome journal → ShowsJournal journal x → x.up ≡ true
 up_of None x up shows = cc
 up_of (Some b) x up shows = shows.0
 
 -- a boot of any node
-boot_any : {F E : Type 0} (e : Environment F) (f : Reads F) (p now : ℕ) (n k : NodeSeen) (x : NodeWorld) (result : Result Outcome E) → NodeShows e p n x → NodeCoherent e p now x → BootServes f n result k → Goes e p now k (λ y. WorldBoots x (said result) y)
-boot_any e f p now n k x result shows coherent (inl (up, is, same)) = rw is (x, subst (λ (z : NodeSeen). NodeShows e p z x) (sym same) shows, coherent, inl (refl, up_of n.journal x up shows.journal, refl))
-boot_any e f p now n k x result shows coherent (inr (down, (mid, answer, restored, s, so))) = rw so (boots e p now n mid k x shows coherent down restored f answer s)
+boot_any : {F E : Type 0} (e : Environment F) (p : ℕ) (n k : NodeSeen) (x : NodeWorld) (result : Result Outcome E) → NodeShows e p n x → BootServes e.frame_at n result k → Goes e p x k (λ y. WorldBoots e x (said result) y)
+boot_any e p n k x result shows (inl (up, is, same)) = rw is (x, subst (λ (z : NodeSeen). NodeShows e p z x) (sym same) shows, refl, inl (refl, up_of n.journal x up shows.journal, refl))
+boot_any e p n k x result shows (inr (down, (mid, answer, restored, s, so))) = rw so (boots e p n mid k x shows down restored answer s)
 
 -- no journal of a coherent world is later than its moment
 by_of : {F : Type 0} (e : Environment F) (p now : ℕ) (n : NodeSeen) (x : NodeWorld) (bodies : List (List ℕ)) → NodeShows e p n x → NodeCoherent e p now x → n.journal ≡ Some bodies → (state_of e.frame_at bodies).moment ≤ now
@@ -198,22 +204,26 @@ by_of e p now n x bodies shows coherent here =
     (coherent.every bodies (inl (sym stands.1))).by
 
 -- the place of a boot, at the old moment
-at_mid : {E : Type 0} (p : ℕ) (old new : NetSeen) (result : Result Outcome E) (serves : NodeSeen → Result Outcome E → NodeSeen → Type 0) → AtPlace p old result new serves → AtPlace p old result (record { nodes = new.nodes; now = old.now }) serves
-at_mid p old new result serves (inl (past, is, same)) = inl (past, is, ap (λ (z : NetSeen). record { nodes = z.nodes; now = old.now }) same)
+at_mid : {E : Type 0} (p : ℕ) (old new : NetSeen) (result : Result Outcome E) (serves : NodeSeen → Result Outcome E → NodeSeen → Type 0) → AtPlace p old result new serves → AtPlace p old result (record { nodes = new.nodes; waiting = new.waiting; now = old.now }) serves
+at_mid p old new result serves (inl (past, is, same)) = inl (past, is, ap (λ (z : NetSeen). record { nodes = z.nodes; waiting = z.waiting; now = old.now }) same)
 at_mid p old new result serves (inr r) = inr r
 
-too_late : {F : Type 0} (e : Environment F) (p : ℕ) (old new : NetSeen) (v : World) → Shows e (record { nodes = new.nodes; now = old.now }) v → Coherent e v → (k : NodeSeen) (bodies : List (List ℕ)) → slice_get new.nodes p ≡ Some k → k.journal ≡ Some bodies → old.now < (state_of e.frame_at bodies).moment → ⊥
+too_late : {F : Type 0} (e : Environment F) (p : ℕ) (old new : NetSeen) (v : World) → Shows e (record { nodes = new.nodes; waiting = new.waiting; now = old.now }) v → Coherent e v → (k : NodeSeen) (bodies : List (List ℕ)) → slice_get new.nodes p ≡ Some k → k.journal ≡ Some bodies → old.now < (state_of e.frame_at bodies).moment → ⊥
 too_late e p old new v shows coherent k bodies at here late =
     let found = get_beside new.nodes v.nodes p k (sym shows.count) at in
     let by = by_of e p v.now k found.0 bodies (shows.each p k found.0 at found.1) (coherent.each p found.0 found.1) here in
     omega (arith, by, shows.clock, late)
 
-pub boot_world : {F E : Type 0} (m : Machine F) (f : Reads F) (p : ℕ) (old new : NetSeen) (result : Result Outcome E) → BootClock f p old new → AtPlace p old result new (λ n r k. BootServes f n r k) → KeepsWorld m f old new (λ e w v. WorldPlace p w (said result) v (λ x o y. WorldBoots x o y))
+pub boot_world : {F E : Type 0} (m : Machine F) (f : Reads F) (p : ℕ) (old new : NetSeen) (result : Result Outcome E) → BootClock f p old new → AtPlace p old result new (λ n r k. BootServes f n r k) → KeepsWorld m f old new (λ e w v. WorldPlace p w (said result) v (λ x o y. WorldBoots e x o y))
 boot_world m f p old new result clock at id w shows coherent =
     let e = environment m f id in
-    let mid : NetSeen = record { nodes = new.nodes; now = old.now } in
-    let there = place_world m f p old mid result (λ n r k. BootServes f n r k) (λ e t x o y. WorldBoots x o y) (λ id n k x s c b. boot_any (environment m f id) f p old.now n k x result s c b) refl (at_mid p old new result (λ n r k. BootServes f n r k) at) id w shows coherent in
-    let same : new ≡ mid = ⊎_elim (λ s. ap (λ t. record { nodes = new.nodes; now = t }) s) (λ (k, bodies, at_k, here, late). absurd (too_late e p old new there.0 there.1 there.2 k bodies at_k here late)) clock in
+    let mid : NetSeen = record { nodes = new.nodes; waiting = new.waiting; now = old.now } in
+    let there =
+    place_world m f p old mid result (λ n r k. BootServes f n r k) (λ e t x o y. WorldBoots e x o y)
+    (λ id n k x s b. boot_any (environment m f id) p n k x result s b)
+    (λ id w v c h. boot_coherent (environment m f id) p w v (said result) c h)
+    refl (at_mid p old new result (λ n r k. BootServes f n r k) at) id w shows coherent in
+    let same : new ≡ mid = ⊎_elim (λ s. ap (λ t. record { nodes = new.nodes; waiting = new.waiting; now = t }) s) (λ (k, bodies, at_k, here, late). absurd (too_late e p old new there.0 there.1 there.2 k bodies at_k here late)) clock in
     (there.0, subst (λ (z : NetSeen). Shows e z there.0) (sym same) there.1, there.2, there.3)
 
 -- ---- the moments of the nodes after a boot

@@ -2,12 +2,10 @@
 use Rattle.std.proofs.Common.{◌≡◌, ℕ, zero, suc, List, [], ◌∷◌, length, map, Some, refl, ◌∙◌, ap, subst, arith}
 use Rattle.std.specs.List.{slice_get}
 use Rattle.net_model.specs.Environment.{Environment}
-use Rattle.net_model.specs.Cut.{IsNarrow}
 use Rattle.net_model.specs.State.{Record, replay}
 use Rattle.net_model.specs.Runs.{AreLocal, IsFaithful, network_of}
 use Rattle.net_model.proofs.Faithful.{faithful_exactly, faithful_run}
-use Rattle.net_model.proofs.Cut.{local_is_matched}
-use Rattle.node_core.specs.Journals.{records_of, state_of, causes_of}
+use Rattle.node_tables.specs.Journals.{records_of, state_of, causes_of}
 use Rattle.network_core.specs.Worlds.{World, Coherent, Choice, CoherentIsFaithful}
 
 -- what stands at a place of a mapped list
@@ -31,7 +29,7 @@ pub map_twice : {X Y Z : Type 0} (g : Y → Z) (f : X → Y) (h : X → Z) (xs :
 map_twice g f h [] same = refl
 map_twice g f h (x ∷ xs) same = rw (same x) (ap (λ l. h x ∷ l) (map_twice g f h xs same))
 
-module _ {F : Type 0} (e : Environment F) (narrow : IsNarrow e) (w : World) (lists : List (List (List ℕ))) (coherent : Coherent e w) (choice : Choice w lists) where
+module _ {F : Type 0} (e : Environment F) (w : World) (lists : List (List (List ℕ))) (coherent : Coherent e w) (choice : Choice w lists) where
   abbrev journals : List (List (Record F))
   journals = map (records_of e.frame_at) lists
 
@@ -45,7 +43,7 @@ module _ {F : Type 0} (e : Environment F) (narrow : IsNarrow e) (w : World) (lis
       rw (← found.2) ((coherent.each p there.0 there.1).every found.0 (choice.each p there.0 found.0 there.1 found.1)).local
 
   faithful : IsFaithful e journals
-  faithful = (faithful_exactly e journals count).1 (local, local_is_matched e narrow journals local)
+  faithful = (faithful_exactly e journals count).1 (local, (coherent.agrees lists choice).matched)
 
   run : network_of e (map (causes_of e.frame_at) lists) ≡ Some (map (state_of e.frame_at) lists)
   unfolding causes_of state_of
@@ -56,4 +54,4 @@ module _ {F : Type 0} (e : Environment F) (narrow : IsNarrow e) (w : World) (lis
       subst (λ x. network_of e x ≡ Some (map (state_of e.frame_at) lists)) causes (all ∙ ap Some states)
 
 pub coherent_is_faithful : {F : Type 0} → CoherentIsFaithful F
-coherent_is_faithful e narrow w lists coherent choice = (faithful e narrow w lists coherent choice, run e narrow w lists coherent choice)
+coherent_is_faithful e w lists coherent choice = (faithful e w lists coherent choice, run e w lists coherent choice)

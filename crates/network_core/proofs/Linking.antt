@@ -2,7 +2,7 @@
 use Rattle.std.proofs.Common.{◌≡◌, ◌≤◌, length, arith, ℕ, zero, suc, take, drop, List, [], ◌∷◌, ◌++◌, Some, None, true, false, refl, ap, subst}
 use Rattle.std.specs.List.{slice_get}
 use Rattle.flow_machine.specs.Machine.{Machine}
-use Rattle.node_core.specs.Journals.{Reads}
+use Rattle.node_tables.specs.Journals.{Reads}
 use Rattle.network_core.specs.declared.steps.Outcome.{Outcome}
 use Rattle.network_core.specs.declared.steps.Step.{Step}
 use Rattle.network_core.specs.Worlds.{NetSeen, KeepsWorld}

@@ -1,6 +1,6 @@
 -- The loops by which a network begins, and gives its disks back.
 use Rattle.std.proofs.Common.{◌≡◌, inl, inr, ⊎_elim, ℕ, zero, suc, ◌+◌, max, ◌<◌, ◌≤◌, List, [], ◌∷◌, ◌++◌, length, map, Option, Some, None, Result, Ok, Err, refl, sym, ◌∙◌, ap, subst, arith, slice_set, length-append, append-nil, append_assoc}
-use Rattle.std.specs.List.{slice_get}
+use Rattle.std.specs.List.{slice_get, AllByRecursion}
 use Rattle.std.proofs.lemmas.Bool.{cases_lt}
 use Rattle.std.proofs.lemmas.Option.{same_Some}
 use Rattle.outside.specs.Disk.{DiskView}
@@ -8,15 +8,15 @@ use Rattle.net_base.specs.declared.names.Identity.{Identity}
 use Rattle.net_base.specs.declared.values.Party.{Party}
 use Rattle.net_base.specs.declared.values.Moment.{Moment}
 use Rattle.node_core.specs.declared.faults.BootFault.{BootFault}
-use Rattle.node_core.specs.Journals.{Reads}
+use Rattle.node_tables.specs.Journals.{Reads}
 use Rattle.node_core.specs.Disks.{roomless}
 use Rattle.node_core.specs.Seen.{NodeSeen, BootsAs, IsBy, IsMember}
 use Rattle.network_core.specs.Begins.{member, came_up, no_boot, IsLast, BootsUpTo, BootStops, node_over, nodes_over}
 use Rattle.net_model.proofs.Faithful.{get_less}
-use Rattle.network_core.proofs.Places.{set_length, get_set}
+use Rattle.network_core.proofs.Placing.{set_length, get_set}
 
-over_node : (n : NodeSeen) (i : Identity) (d : DiskView) → n.identity ≡ i → n.disk ≡ d → n.journal ≡ None → n ≡ record { identity = i; disk = d; journal = None }
-over_node n i d id disk down = rw (← id, ← disk) (ap (λ j. record { identity = n.identity; disk = n.disk; journal = j }) down)
+over_node : (n : NodeSeen) (i : Identity) (d : DiskView) → n.identity ≡ i → n.disk ≡ d → n.journal ≡ None → n.acked ≡ [] → n ≡ record { identity = i; disk = d; journal = None; acked = [] }
+over_node n i d id disk down none = rw (← id, ← disk) (ap (λ j. record { identity = n.identity; disk = n.disk; journal = j; acked = n.acked }) down ∙ ap (λ (a : List ℕ). record { identity = n.identity; disk = n.disk; journal = None; acked = a }) none)
 
 -- ---- the nodes over disks
 
@@ -30,9 +30,9 @@ pub making_none : {D : Type 0} (seen : D → DiskView) (nodes : ℕ) (notary : P
 making_none seen nodes notary all made none = record { all_of = rw none refl; count = ap length none; rest = omega arith }
 
 pub making_more : {D : Type 0} (seen : D → DiskView) (nodes : ℕ) (notary : Party) (all : List D) (made more : List NodeSeen) (place : ℕ) (left rest : List D) (d : D) (n : NodeSeen) → Making seen nodes notary all made place left → left ≡ d ∷ rest
-    → n.identity ≡ member nodes notary place → n.disk ≡ roomless (seen d) → n.journal ≡ None → more ≡ made ++ n ∷ [] → Making seen nodes notary all more (place + 1) rest
-making_more seen nodes notary all made more place left rest d n m is id disk down pushed =
-    let same : n ≡ node_over nodes notary place (seen d) = over_node n (member nodes notary place) (roomless (seen d)) id disk down in
+    → n.identity ≡ member nodes notary place → n.disk ≡ roomless (seen d) → n.journal ≡ None → n.acked ≡ [] → more ≡ made ++ n ∷ [] → Making seen nodes notary all more (place + 1) rest
+making_more seen nodes notary all made more place left rest d n m is id disk down none pushed =
+    let same : n ≡ node_over nodes notary place (seen d) = over_node n (member nodes notary place) (roomless (seen d)) id disk down none in
     let before : made ++ nodes_over nodes notary place (map seen (d ∷ rest)) ≡ nodes_over nodes notary 0 (map seen all) = subst (λ l. made ++ nodes_over nodes notary place (map seen l) ≡ nodes_over nodes notary 0 (map seen all)) is m.all_of in
     record {
       all_of = ap (λ l. l ++ nodes_over nodes notary (place + 1) (map seen rest)) (pushed ∙ ap (λ z. made ++ z ∷ []) same) ∙ append_assoc made (node_over nodes notary place (seen d) ∷ []) (nodes_over nodes notary (place + 1) (map seen rest)) ∙ before;
@@ -175,3 +175,12 @@ module _ {F : Type 0} (f : Reads F) (old : List NodeSeen) where
     latest = λ p n k lt i j. b.latest p n k (omega (arith, lt, le)) i j;
     reached = ⊎_elim (λ none. inl none) (λ (p, k, below, i, was). inr (p, k, omega (arith, b.count, get_less cur p k i), i, was)) b.reached;
   }
+
+-- ---- frames that wait
+
+-- lists without frames are as those of as many others
+pub none_wait : {X Y : Type 0} (g : X → List (List ℕ)) (xs : List X) (ys : List Y) → length xs ≡ length ys → AllByRecursion (λ x. g x ≡ []) xs → map g xs ≡ map (λ (y : Y). []) ys
+none_wait g [] [] same all = refl
+none_wait g [] (y ∷ ys) same all = cc
+none_wait g (x ∷ xs) [] same all = cc
+none_wait g (x ∷ xs) (y ∷ ys) same all = ap (λ a. a ∷ map g xs) all.0 ∙ ap (λ l. [] ∷ l) (none_wait g xs ys (omega (arith, same)) all.1)

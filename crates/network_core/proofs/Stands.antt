@@ -1,21 +1,24 @@
--- What a call of a node makes of its world.
-use Rattle.std.proofs.Common.{◌≡◌, ◌⊎◌, inl, inr, ⊎_elim, ℕ, Bool, true, false, List, [], ◌∷◌, ◌++◌, Option, Some, None, refl, sym, ◌∙◌, ap, subst}
+-- What a call of a node makes of what the world shows of it.
+use Rattle.std.proofs.Common.{◌≡◌, ◌⊎◌, inl, inr, ℕ, Bool, true, false, List, [], ◌∷◌, ◌++◌, Option, Some, None, refl, sym, ◌∙◌, ap, subst}
 use Rattle.std.proofs.lemmas.Option.{same_Some}
-use Rattle.std.proofs.lemmas.Bool.{true≢false}
 use Rattle.outside.specs.Disk.{DiskState, DiskView, IsImage}
 use Rattle.outside.specs.Faults.{Rose}
 use Rattle.outside.proofs.Moments.{at_now}
 use Rattle.net_base.specs.declared.names.Identity.{Identity}
 use Rattle.net_base.specs.declared.causes.Event.{Event}
+use Rattle.session_wire.specs.Sessions.{Sent}
 use Rattle.flow_machine.specs.Machine.{Machine}
 use Rattle.disk_journal.specs.Journal.{journal_of}
 use Rattle.net_model.specs.Environment.{Environment, environment}
-use Rattle.node_core.specs.Journals.{Reads}
+use Rattle.node_tables.specs.Journals.{Reads}
 use Rattle.node_core.specs.Disks.{Moves, OldOrMore}
-use Rattle.node_core.specs.Seen.{NodeSeen, Pends, Commits, Faults}
-use Rattle.network_core.specs.Worlds.{NodeWorld, MaySpell, ShowsJournal, NodeShows, NodeCoherent, Sound}
+use Rattle.node_core.specs.Seen.{NodeSeen, Pends, Commits, Faults, acks_over}
+use Rattle.network_core.specs.Worlds.{NodeWorld, MaySpell, ShowsJournal, NodeShows}
 use Rattle.network_core.specs.Serves.{WorldCommits, WorldFaults}
-use Rattle.network_core.proofs.Locals.{sound_push}
+
+-- the node is now k, in a world in which the same frames wait there, and which is so
+abbrev pub Goes : {F : Type 0} → Environment F → ℕ → NodeWorld → NodeSeen → (NodeWorld → Type 0) → Type 0
+Goes e p x k goal = (y : NodeWorld) × NodeShows e p k y × (y.waiting ≡ x.waiting) × goal y
 
 -- the images now are of those since
 pub images_now : (old new : DiskView) (may : DiskState → List ℕ → Type 0) → Moves old new may → old.tells ≡ true → (c : List ℕ) → IsImage new.state.now c → may old.state c
@@ -37,29 +40,25 @@ pub not_true : (b : Bool) → (b ≡ true → ⊥) → b ≡ false
 not_true true h = absurd (h refl)
 not_true false h = refl
 
-module _ {F : Type 0} (m : Machine F) (f : Reads F) (id : Identity) (p now : ℕ) (n k : NodeSeen) (x : NodeWorld) (shows : NodeShows (environment m f id) p n x) (coherent : NodeCoherent (environment m f id) p now x) where
+module _ {F : Type 0} (m : Machine F) (f : Reads F) (id : Identity) (p now : ℕ) (n k : NodeSeen) (x : NodeWorld) (shows : NodeShows (environment m f id) p n x) where
   abbrev e : Environment F
   e = environment m f id
 
   -- the node's own environment is the network's
-  pub pends_here : (bodies : List (List ℕ)) (event : Event) (body : List ℕ) → Pends (environment m f n.identity) n.identity.party.0 now bodies event body → Pends e p now bodies event body
-  pends_here bodies event body pends = subst (λ (i : Identity). Pends (environment m f i) i.party.0 now bodies event body) shows.identity_is pends
+  pub pends_here : (bodies : List (List ℕ)) (event : Event) (item : Option Sent) (body : List ℕ) → Pends (environment m f n.identity) n.identity.party.0 now bodies event item body → Pends e p now bodies event item body
+  pends_here bodies event item body pends = subst (λ (i : Identity). Pends (environment m f i) i.party.0 now bodies event item body) shows.identity_is pends
 
   module _ (bodies : List (List ℕ)) (here : n.journal ≡ Some bodies) where
     pub stands : ShowsJournal (Some bodies) x
     stands = rw here at shows.journal
 
-    sound : Sound e p now bodies
-    sound = coherent.every bodies (inl (sym stands.1))
-
-    module _ (event : Event) where
-      pub commits_world : Commits (environment m f n.identity) now bodies event n k → (y : NodeWorld) × NodeShows e p k y × NodeCoherent e p now y × WorldCommits e p now event x y
+    module _ (event : Event) (item : Option Sent) where
+      pub commits_world : Commits (environment m f n.identity) now bodies event item n k → Goes e p x k (λ y. WorldCommits e p now event item x y)
       commits_world c =
           let more = bodies ++ c.body ∷ [] in
-          let pends = pends_here bodies event c.body c.appended.pends in
-          let longer = sound_push e p now bodies event c.body sound pends in
+          let pends = pends_here bodies event item c.body c.appended.pends in
           let tells : k.disk.tells ≡ true = c.appended.moves.tells ∙ shows.tells in (
-            record { up = true; journal = more; other = None; faults = k.disk.faults; calm = k.disk.calm; file = x.file },
+            record { up = true; journal = more; other = None; faults = k.disk.faults; calm = k.disk.calm; file = x.file; acked = acks_over e x.acked more; waiting = x.waiting },
             record {
               identity_is = c.identity ∙ shows.identity_is;
               tells = tells;
@@ -69,8 +68,9 @@ module _ {F : Type 0} (m : Machine F) (f : Reads F) (id : Identity) (p now : ℕ
               counts = refl;
               calm_is = refl;
               file_is = shows.file_is ∙ sym c.appended.moves.file;
+              acked_is = ap (λ a. acks_over e a more) shows.acked_is ∙ sym c.acked;
             },
-            record { every = λ l may. ⊎_elim (λ is. rw is longer) (λ is. cc) may; one = λ u. refl },
+            refl,
             record {
               was_up = stands.0;
               room = rw stands.1 c.appended.room;
@@ -105,15 +105,24 @@ module _ {F : Type 0} (m : Machine F) (f : Reads F) (id : Identity) (p now : ℕ
         faults_are : y.faults ≡ k.disk.faults
         calm_is : y.calm ≡ k.disk.calm
         file_is : y.file ≡ x.file
+        acked_none : y.acked ≡ []
+        waiting_is : y.waiting ≡ x.waiting
 
       world_of_fault : (body : List ℕ) (kept : List (List ℕ)) → (kept ≡ bodies) ⊎ (kept ≡ bodies ++ body ∷ []) → (y : NodeWorld) × Faulted y body × Rest y kept
-      world_of_fault body kept (inl is) = (record { up = false; journal = bodies; other = Some (bodies ++ body ∷ []); faults = k.disk.faults; calm = k.disk.calm; file = x.file }, (refl, inl (refl, refl)), record { same = is; faults_are = refl; calm_is = refl; file_is = refl })
-      world_of_fault body kept (inr is) = (record { up = false; journal = bodies ++ body ∷ []; other = Some bodies; faults = k.disk.faults; calm = k.disk.calm; file = x.file }, (refl, inr (refl, refl)), record { same = is; faults_are = refl; calm_is = refl; file_is = refl })
+      world_of_fault body kept (inl is) = (
+        record { up = false; journal = bodies; other = Some (bodies ++ body ∷ []); faults = k.disk.faults; calm = k.disk.calm; file = x.file; acked = []; waiting = x.waiting },
+        (refl, inl (refl, refl)),
+        record { same = is; faults_are = refl; calm_is = refl; file_is = refl; acked_none = refl; waiting_is = refl },
+      )
+      world_of_fault body kept (inr is) = (
+        record { up = false; journal = bodies ++ body ∷ []; other = Some bodies; faults = k.disk.faults; calm = k.disk.calm; file = x.file; acked = []; waiting = x.waiting },
+        (refl, inr (refl, refl)),
+        record { same = is; faults_are = refl; calm_is = refl; file_is = refl; acked_none = refl; waiting_is = refl },
+      )
 
-      faults_of : (c : Faults (environment m f n.identity) now bodies event n k) (y : NodeWorld) → Faulted y c.body → Rest y (journal_of k.disk.state.kept) → NodeShows e p k y × NodeCoherent e p now y × WorldFaults e p now event x y
+      faults_of : (c : Faults (environment m f n.identity) now bodies event item n k) (y : NodeWorld) → Faulted y c.body → Rest y (journal_of k.disk.state.kept) → NodeShows e p k y × WorldFaults e p now event item x y
       faults_of c y faulted rest =
-          let pends = pends_here bodies event c.body c.failing.pends in
-          let longer = sound_push e p now bodies event c.body sound pends in
+          let pends = pends_here bodies event item c.body c.failing.pends in
           let rose : Rose x.faults y.faults = rw (shows.counts, rest.faults_are) c.failing.rose in (
             record {
               identity_is = c.identity ∙ shows.identity_is;
@@ -124,8 +133,8 @@ module _ {F : Type 0} (m : Machine F) (f : Reads F) (id : Identity) (p now : ℕ
               counts = rest.faults_are;
               calm_is = rest.calm_is;
               file_is = rest.file_is ∙ shows.file_is ∙ sym c.failing.moves.file;
+              acked_is = rest.acked_none ∙ sym c.acked;
             },
-            record { every = λ l may. ⊎_elim (λ is. rw is sound) (λ is. rw is longer) (lists_of y c.body l faulted may); one = λ u. absurd (true≢false (sym u ∙ faulted.0)) },
             record {
               was_up = stands.0;
               room = rw stands.1 c.failing.room;
@@ -136,11 +145,13 @@ module _ {F : Type 0} (m : Machine F) (f : Reads F) (id : Identity) (p now : ℕ
               rose = rose;
               calm = not_true x.calm (λ calm. c.failing.calm (sym shows.calm_is ∙ calm));
               file = rest.file_is;
+              acked = rest.acked_none;
+              waiting = rest.waiting_is;
             },
           )
 
-      pub faults_world : Faults (environment m f n.identity) now bodies event n k → (y : NodeWorld) × NodeShows e p k y × NodeCoherent e p now y × WorldFaults e p now event x y
+      pub faults_world : Faults (environment m f n.identity) now bodies event item n k → Goes e p x k (λ y. WorldFaults e p now event item x y)
       faults_world c =
           let found = world_of_fault c.body (journal_of k.disk.state.kept) (c.failing.moves.kept shows.tells) in
           let all = faults_of c found.0 found.1 found.2 in
-          (found.0, all.0, all.1, all.2)
+          (found.0, all.0, found.2.waiting_is, all.1)

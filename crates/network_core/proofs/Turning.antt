@@ -1,30 +1,44 @@
--- Each turn keeps the network's worlds, and each that commits takes from its room.
-use Rattle.std.proofs.Common.{◌≡◌, ◌⊎◌, inl, inr, ⊎_elim, ℕ, zero, suc, ◌+◌, ◌-◌, ◌<◌, ◌≤◌, ◌^◌, Bool, List, [], ◌∷◌, length, slice_set, Option, Some, None, IfSome, Result, Ok, Err, ◌==◌, if◌then◌else◌, true, false, refl, sym, ◌∙◌, ap, subst, arith, length-append, nat_le, nat_lt}
+-- Each step of a drain keeps the network's worlds, and each that commits takes from its room.
+use Rattle.std.proofs.Common.{◌≡◌, inl, inr, ℕ, zero, suc, ◌+◌, ◌-◌, ◌<◌, ◌≤◌, ◌^◌, ◌||◌, Bool, List, [], ◌∷◌, length, slice_set, Option, Some, None, IsSome, IsErr, Result, Ok, Err, false, refl, sym, ◌∙◌, ap, subst, arith, length-append, nat_le, nat_lt}
 use Rattle.std.specs.List.{slice_get}
-use Rattle.std.proofs.lemmas.Bool.{or_parts, leb-false, eqb-true, true≢false, cases_lt}
-use Rattle.std.proofs.lemmas.Option.{MatchOption-at_none, MatchOption-at_some, slice_get_past, none-some, same_Some}
+use Rattle.std.proofs.lemmas.Bool.{or_parts, leb-false}
+use Rattle.std.proofs.lemmas.Option.{MatchOption-at_none, MatchOption-at_some}
+use Rattle.session_wire.specs.Sessions.{Sent}
+use Rattle.session_frames.specs.declared.sending.Outgoing.{Outgoing}
+use Rattle.session_frames.specs.declared.judged.Judged.{Judged}
+use Rattle.session_frames.specs.declared.judged.Judged.TheVariants as judged
+use Rattle.net_base.specs.declared.causes.Event.{Event}
+use Rattle.net_base.specs.declared.names.Key.{Key}
+use Rattle.net_base.specs.declared.values.Party.{Party}
 use Rattle.flow_machine.specs.Machine.{Machine}
 use Rattle.disk_journal.specs.Journal.{is_full_at}
 use Rattle.net_model.specs.Environment.{Environment, environment}
-use Rattle.net_model.specs.Enabled.{picked}
+use Rattle.net_model.specs.Steps.{stamp_in}
 use Rattle.node_core.specs.declared.faults.TurnFault.{TurnFault}
 use Rattle.node_core.specs.declared.faults.TurnFault.TheVariants as turn_fault
 use Rattle.node_core.specs.declared.faults.Turned.{Turned}
 use Rattle.node_core.specs.declared.faults.Turned.TheVariants as turned
-use Rattle.node_core.specs.Journals.{Reads, state_of, is_full, bytes_of}
-use Rattle.node_core.specs.Seen.{NodeSeen, TurnsAs, TurnAnswers, picked_at}
+use Rattle.node_core.specs.declared.faults.Taken.{Taken}
+use Rattle.node_core.specs.declared.faults.Taken.TheVariants as taken
+use Rattle.node_core.specs.declared.faults.TakeFault.{TakeFault}
+use Rattle.node_core.specs.declared.faults.TakeFault.TheVariants as take_fault
+use Rattle.node_tables.specs.Journals.{Reads, state_of}
+use Rattle.node_core.specs.Journals.{is_full, bytes_of}
+use Rattle.node_core.specs.Seen.{NodeSeen, Commits, TurnsAs, TurnAnswers}
+use Rattle.node_core.specs.Takes.{AcceptsAs, Responds, TakesAs, TakeAnswers}
 use Rattle.network_core.specs.declared.net.Turning.{Turning}
-use Rattle.network_core.specs.declared.net.Turning.TheVariants as turning
 use Rattle.network_core.specs.declared.steps.Outcome.{Outcome}
 use Rattle.network_core.specs.declared.steps.Outcome.TheVariants as outcome
-use Rattle.network_core.specs.Worlds.{NodeWorld, World, NetSeen, ShowsJournal, Shows, KeepsWorld}
-use Rattle.network_core.specs.Answers.{said, turn_outcome, TurnServes, AtPlace}
-use Rattle.network_core.specs.Drains.{room, total_room, journal_room, takes, TurnAt, Drains, Drives, Quiet, QuietAt, turned}
+use Rattle.network_core.specs.Worlds.{World, NetSeen, Shows, Coherent, KeepsWorld}
+use Rattle.network_core.specs.Serves.{WorldPosts}
+use Rattle.network_core.specs.Answers.{said, turn_outcome, take_outcome, TurnServes, AtPlace, Posting, PostServes, SendServes, Handing, HandServes, LoseServes, count_fresh, mailed}
+use Rattle.network_core.specs.Drains.{room, total_room, journal_room, takes, TurnAt, HandAt, Drains, Drives, Posts, PostsAt, PostsStop, InOrder, Hands, DeliversAt, Turns, TurnsAt, TurnsStop}
 use Rattle.network_core.specs.Served.{WorldDrains}
-use Rattle.network_core.proofs.Faithful.{get_beside}
-use Rattle.net_model.proofs.Faithful.{get_less}
-use Rattle.network_core.proofs.Places.{get_set, set_length, turn_world, keeps_map, stays_world}
-use Rattle.network_core.proofs.Draining.{drained}
+use Rattle.network_core.proofs.Places.{turn_world, keeps_map, waits_get}
+use Rattle.network_core.proofs.Placing.{set_length}
+use Rattle.network_core.proofs.Delivering.{post_world, hand_world}
+use Rattle.network_core.proofs.Draining.{Counts, drained, hands_all}
+use Rattle.network_core.proofs.Driving.{drives_map, drives_shown}
 
 -- ---- the room
 
@@ -33,21 +47,26 @@ module _ {F : Type 0} (m : Machine F) (f : Reads F) (now : ℕ) (n k : NodeSeen)
   same_room is = omega (arith, ap (λ x. journal_room x.journal) is)
 
   -- a journal that isn't full has fewer than 65,536 records
-  few : (bodies : List (List ℕ)) → is_full f bodies ≡ false → length bodies < 65536
-  few bodies spare =
-      let counted = or_parts (is_full_at (length bodies) (17 + bytes_of bodies)) (nat_le (2 ^ 63 - 1) (state_of f bodies).stamp) spare in
+  few : (stamp : ℕ) (bodies : List (List ℕ)) → is_full f stamp bodies ≡ false → length bodies < 65536
+  few stamp bodies spare =
+      let counted = or_parts (is_full_at (length bodies) (17 + bytes_of bodies)) (nat_le (2 ^ 63 - 1) (state_of f bodies).stamp || nat_le (2 ^ 63 - 1) stamp) spare in
       leb-false 65536 (length bodies) (or_parts (nat_le 65536 (length bodies)) (nat_lt 133693435 (17 + bytes_of bodies)) counted.0).0
+
+  committed_room : (bodies : List (List ℕ)) (event : Event) (item : Option Sent) → n.journal ≡ Some bodies → Commits (environment m f n.identity) now bodies event item n k → journal_room k.journal + 1 ≤ journal_room n.journal
+  committed_room bodies event item here c =
+      let less = few (stamp_in item) bodies c.appended.room in
+      omega (arith, less, ap journal_room c.journal, ap journal_room here, length-append bodies (c.body ∷ []))
+
+  no_room : k.journal ≡ None → journal_room k.journal + 0 ≤ journal_room n.journal
+  no_room is = omega (arith, ap journal_room is)
 
   up_narrows : (pick : Option ℕ) (bodies : List (List ℕ)) → n.journal ≡ Some bodies → (answer : Result Turned TurnFault) → TurnsAs (environment m f n.identity) now pick bodies n answer k → journal_room k.journal + takes (turn_outcome answer) ≤ journal_room n.journal
   up_narrows pick bodies here (Ok turned.Idle) s = same_room s.1
-  up_narrows pick bodies here (Ok (turned.Moved g)) s =
-      let c = s.3 in
-      let less = few bodies c.appended.room in
-      omega (arith, less, ap journal_room c.journal, ap journal_room here, length-append bodies (c.body ∷ []))
+  up_narrows pick bodies here (Ok (turned.Moved g)) s = committed_room bodies s.0 None here s.3
   up_narrows pick bodies here (Err turn_fault.NodeDown) s = absurd s
   up_narrows pick bodies here (Err turn_fault.Full) s = same_room s.3
   up_narrows pick bodies here (Err turn_fault.Memory) s = same_room s.3
-  up_narrows pick bodies here (Err turn_fault.Fault) s = omega (arith, ap journal_room s.2.journal)
+  up_narrows pick bodies here (Err turn_fault.Fault) s = no_room s.2.journal
 
   node_narrows : (pick : Option ℕ) (journal : Option (List (List ℕ))) (answer : Result Turned TurnFault) → n.journal ≡ journal → TurnAnswers (environment m f n.identity) now pick n answer k → journal_room k.journal + takes (turn_outcome answer) ≤ journal_room n.journal
   node_narrows pick None answer here s =
@@ -55,65 +74,57 @@ module _ {F : Type 0} (m : Machine F) (f : Reads F) (now : ℕ) (n k : NodeSeen)
       rw q.0 (same_room q.1)
   node_narrows pick (Some bodies) answer here s = up_narrows pick bodies here answer (MatchOption-at_some _ _ bodies here s)
 
-  -- ---- where no flow can go on
+  -- ---- a frame that is handed over
 
-  -- a node after a turn that moved nothing and met no full journal
-  abbrev Still : Type 0
-  Still = IfSome k.journal (λ bodies. picked now None (state_of f bodies).flows ≡ None)
+  accepts_narrows : (bodies : List (List ℕ)) → n.journal ≡ Some bodies → (from : Party) (key : Key) (direction number : ℕ) (item : Sent) (answer : Result Taken TakeFault) → AcceptsAs (environment m f n.identity) now bodies from key direction number item n answer k
+      → journal_room k.journal + takes (take_outcome answer) ≤ journal_room n.journal
+  accepts_narrows bodies here from key direction number item (Ok (taken.Took upto ack)) s = committed_room bodies _ (Some item) here s.2
+  accepts_narrows bodies here from key direction number item (Ok taken.Acked) s = absurd s
+  accepts_narrows bodies here from key direction number item (Ok (taken.Again expected ack)) s = absurd s
+  accepts_narrows bodies here from key direction number item (Ok (taken.Early expected)) s = absurd s
+  accepts_narrows bodies here from key direction number item (Ok taken.NoSession) s = absurd s
+  accepts_narrows bodies here from key direction number item (Err take_fault.NodeDown) s = absurd s
+  accepts_narrows bodies here from key direction number item (Err take_fault.Garbled) s = absurd s
+  accepts_narrows bodies here from key direction number item (Err (take_fault.NotMine to)) s = absurd s
+  accepts_narrows bodies here from key direction number item (Err take_fault.Full) s = same_room s.1
+  accepts_narrows bodies here from key direction number item (Err take_fault.Memory) s = absurd s
+  accepts_narrows bodies here from key direction number item (Err take_fault.Fault) s = no_room s.journal
 
-  still_down : k.journal ≡ None → Still
-  still_down is = subst (λ (j : Option (List (List ℕ))). IfSome j (λ bodies. picked now None (state_of f bodies).flows ≡ None)) (sym is) tt
+  answered_room : (answer : Result Taken TakeFault) (z : Result Taken TakeFault) → answer ≡ z → takes (take_outcome z) ≡ 0 → k.journal ≡ n.journal → journal_room k.journal + takes (take_outcome answer) ≤ journal_room n.journal
+  answered_room answer z is none same = omega (arith, ap (λ a. takes (take_outcome a)) is, none, ap journal_room same)
 
-  still_up : (bodies : List (List ℕ)) → n.journal ≡ Some bodies → (answer : Result Turned TurnFault) (o : Outcome) → turn_outcome answer ≡ Some o → ((g : ℕ) → o ≡ outcome.Moved g → ⊥) → (o ≡ outcome.Refused 9 → ⊥) → TurnsAs (environment m f n.identity) now None bodies n answer k → Still
-  still_up bodies here (Ok turned.Idle) o is moved full s = subst (λ (j : Option (List (List ℕ))). IfSome j (λ b. picked now None (state_of f b).flows ≡ None)) (sym (ap (λ z. z.journal) s.1 ∙ here)) s.0
-  still_up bodies here (Ok (turned.Moved g)) o is moved full s = absurd (moved g cc)
-  still_up bodies here (Err turn_fault.NodeDown) o is moved full s = absurd s
-  still_up bodies here (Err turn_fault.Full) o is moved full s = absurd (full cc)
-  still_up bodies here (Err turn_fault.Memory) o is moved full s = cc
-  still_up bodies here (Err turn_fault.Fault) o is moved full s = still_down s.2.journal
+  responds_narrows : (bodies : List (List ℕ)) → n.journal ≡ Some bodies → (said : Judged) (answer : Result Taken TakeFault) → Responds (environment m f n.identity) now bodies said n answer k → journal_room k.journal + takes (take_outcome answer) ≤ journal_room n.journal
+  responds_narrows bodies here judged.Garbled answer s = answered_room answer _ s.0 refl (ap (λ z. z.journal) s.1)
+  responds_narrows bodies here (judged.NotMine to) answer s = answered_room answer _ s.0 refl (ap (λ z. z.journal) s.1)
+  responds_narrows bodies here judged.NoSession answer s = answered_room answer _ s.0 refl (ap (λ z. z.journal) s.1)
+  responds_narrows bodies here (judged.Early expected) answer s = answered_room answer _ s.0 refl (ap (λ z. z.journal) s.1)
+  responds_narrows bodies here (judged.Acked key direction upto) answer s = answered_room answer _ s.0 refl (ap (λ z. z.journal) s.1)
+  responds_narrows bodies here (judged.Again from key direction expected) answer s = answered_room answer _ s.0 refl (ap (λ z. z.journal) s.1)
+  responds_narrows bodies here (judged.Next from key direction number stamp body) answer s = accepts_narrows bodies here from key direction number (record { body = body; stamp = stamp }) answer s
 
-  still_any : (journal : Option (List (List ℕ))) (answer : Result Turned TurnFault) (o : Outcome) → n.journal ≡ journal → turn_outcome answer ≡ Some o → ((g : ℕ) → o ≡ outcome.Moved g → ⊥) → (o ≡ outcome.Refused 9 → ⊥) → TurnAnswers (environment m f n.identity) now None n answer k → Still
-  still_any None answer o here is moved full s =
-      let q : (answer ≡ Err turn_fault.NodeDown) × (k ≡ n) = MatchOption-at_none _ _ here s in
-      still_down (ap (λ z. z.journal) q.1 ∙ here)
-  still_any (Some bodies) answer o here is moved full s = still_up bodies here answer o is moved full (MatchOption-at_some _ _ bodies here s)
+  takes_narrows : (bytes : List ℕ) (bodies : List (List ℕ)) → n.journal ≡ Some bodies → (answer : Result Taken TakeFault) → TakesAs (environment m f n.identity) now bytes bodies n answer k → journal_room k.journal + takes (take_outcome answer) ≤ journal_room n.journal
+  takes_narrows bytes bodies here answer (inl (is, same)) = answered_room answer _ is refl (ap (λ z. z.journal) same)
+  takes_narrows bytes bodies here answer (inr (said, judges, further, s)) = responds_narrows bodies here said answer s
+
+  pub node_takes : (bytes : List ℕ) (journal : Option (List (List ℕ))) (answer : Result Taken TakeFault) → n.journal ≡ journal → IsSome journal → TakeAnswers (environment m f n.identity) now bytes n answer k → journal_room k.journal + takes (take_outcome answer) ≤ journal_room n.journal
+  node_takes bytes None answer here up s = cc
+  node_takes bytes (Some bodies) answer here up s = takes_narrows bytes bodies here answer (MatchOption-at_some _ _ bodies here s)
 
 total_set : (ns : List NodeSeen) (i : ℕ) (n k : NodeSeen) (by : ℕ) → slice_get ns i ≡ Some n → journal_room k.journal + by ≤ journal_room n.journal → total_room (slice_set ns i k) + by ≤ total_room ns
 total_set [] i n k by at le = cc
 total_set (x ∷ xs) zero n k by at le = let same : x ≡ n = cc in omega (arith, le, ap (λ z. journal_room z.journal) same)
 total_set (x ∷ xs) (suc i) n k by at le = omega (arith, total_set xs i n k by at le)
 
-get_there : {X : Type 0} (xs : List X) (i : ℕ) (x y : X) → slice_get xs i ≡ Some x → slice_get (slice_set xs i y) i ≡ Some y
-get_there [] i x y at = cc
-get_there (z ∷ zs) zero x y at = refl
-get_there (z ∷ zs) (suc i) x y at = get_there zs i x y at
-
-same_there : (ns : List NodeSeen) (p q : ℕ) (k z n : NodeSeen) → slice_get ns p ≡ Some n → q ≡ p → slice_get (slice_set ns p k) q ≡ Some z → z ≡ k
-same_there ns p q k z n at here set =
-    let there : slice_get (slice_set ns p k) p ≡ Some z = subst (λ (i : ℕ). slice_get (slice_set ns p k) i ≡ Some z) here set in
-    same_Some _ _ (sym there ∙ get_there ns p n k at)
-
--- at a node that shows itself as up, where no flow can go on
-quiet_node : {F : Type 0} (e : Environment F) (f : Reads F) (now : ℕ) (journal : Option (List (List ℕ))) (x : NodeWorld) → e.frame_at ≡ f → ShowsJournal journal x → x.up ≡ true → IfSome journal (λ b. picked now None (state_of f b).flows ≡ None) → picked_at e now None x.journal ≡ None
-quiet_node e f now None x reads shows up quiet = absurd (true≢false (sym up ∙ shows))
-quiet_node e f now (Some b) x reads shows up quiet = rw (shows.1, reads) quiet
-
-quiet_shown : {F : Type 0} (e : Environment F) (net : NetSeen) (v : World) (p : ℕ) (x : NodeWorld) → Shows e net v → QuietAt e.frame_at net p → slice_get v.nodes p ≡ Some x → x.up ≡ true → picked_at e v.now None x.journal ≡ None
-quiet_shown e net v p x shows quiet at up =
-    let found = get_beside v.nodes net.nodes p x shows.count at in
-    let node = shows.each p found.0 x found.1 at in
-    rw shows.clock (quiet_node e e.frame_at net.now found.0.journal x refl node.journal up (quiet found.0 found.1))
-
 -- a step at one place keeps the number of nodes
 pub same_count : {E : Type 0} (p : ℕ) (old new : NetSeen) (result : Result Outcome E) (serves : NodeSeen → Result Outcome E → NodeSeen → Type 0) → AtPlace p old result new serves → length new.nodes ≡ length old.nodes
 same_count p old new result serves (inl (past, is, same)) = ap (λ z. length z.nodes) same
-same_count p old new result serves (inr (n, k, at, nodes, served)) = ap length nodes ∙ set_length old.nodes p k
+same_count p old new result serves (inr (n, k, at, nodes, waiting, served)) = ap length nodes ∙ set_length old.nodes p k
 
 module _ {F : Type 0} (m : Machine F) (f : Reads F) where
   pub narrows : {E : Type 0} (now p : ℕ) (pick : Option ℕ) (old new : NetSeen) (result : Result Outcome E) → AtPlace p old result new (λ n r k. TurnServes m f now pick n r k) → room new + takes (said result) ≤ room old
   unfolding room
   narrows now p pick old new result (inl (past, is, same)) = rw is (omega (arith, ap (λ x. total_room x.nodes) same))
-  narrows now p pick old new result (inr (n, k, at, nodes, (answer, answers, so))) =
+  narrows now p pick old new result (inr (n, k, at, nodes, waiting, (answer, answers, so))) =
       let less = total_set old.nodes p n k (takes (turn_outcome answer)) at (node_narrows m f now n k pick n.journal answer refl answers) in
       rw so (omega (arith, less, ap total_room nodes))
 
@@ -124,32 +135,40 @@ module _ {F : Type 0} (m : Machine F) (f : Reads F) where
       let one : takes (said result) ≡ 1 = ap (λ r. takes (said r)) was ∙ ap (λ z. takes (Some z)) is in
       omega (arith, less, one)
 
-  -- after a turn that moved nothing and met no full journal, the node of its place is quiet, and so are those that were
-  pub quiet_turn : {E : Type 0} (p : ℕ) (old new : NetSeen) (result : Result Outcome E) (o : Outcome) → new.now ≡ old.now → AtPlace p old result new (λ n r k. TurnServes m f old.now None n r k) → result ≡ Ok o → ((g : ℕ) → o ≡ outcome.Moved g → ⊥) → (o ≡ outcome.Refused 9 → ⊥)
-      → (q : ℕ) → (q ≡ p) ⊎ QuietAt f old q → QuietAt f new q
-  quiet_turn p old new result o clock (inl (past, is, same)) was moved full q (inl here) n at =
-      absurd (none-some _ (sym (slice_get_past old.nodes p past) ∙ subst (λ (i : ℕ). slice_get old.nodes i ≡ Some n) here (subst (λ (z : NetSeen). slice_get z.nodes q ≡ Some n) same at)))
-  quiet_turn p old new result o clock (inl (past, is, same)) was moved full q (inr before) n at = rw clock (before n (subst (λ (z : NetSeen). slice_get z.nodes q ≡ Some n) same at))
-  quiet_turn p old new result o clock (inr (n, k, at, nodes, (answer, answers, so))) was moved full q before z there =
-      let still = still_any m f old.now n k n.journal answer o refl (sym so ∙ ap said was) moved full answers in
-      let set : slice_get (slice_set old.nodes p k) q ≡ Some z = subst (λ (l : List NodeSeen). slice_get l q ≡ Some z) nodes there in
-      let mine = λ (same : z ≡ k). subst (λ (y : NodeSeen). IfSome y.journal (λ b. picked old.now None (state_of f b).flows ≡ None)) (sym same) still in
-      rw clock
-      (⊎_elim
-      (λ here. mine (same_there old.nodes p q k z n at here set))
-      (λ was_quiet. ⊎_elim (λ s. mine s.1) (λ s. was_quiet z s) (get_set old.nodes p k q z set))
-      before)
+  -- ---- posts and deliveries
+
+  post_same : (n : NodeSeen) (old new : NetSeen) (o : Option Outcome) → Posting f n old o new → (new.nodes ≡ old.nodes) × (new.now ≡ old.now)
+  post_same n old new None s = (ap (λ z. z.nodes) s.1, ap (λ z. z.now) s.1)
+  post_same n old new (Some (outcome.Posted count)) s = (ap (λ z. z.nodes) s.4, ap (λ z. z.now) s.4)
+  post_same n old new (Some (outcome.Refused code)) s = (ap (λ z. z.nodes) s.2, ap (λ z. z.now) s.2)
+  post_same n old new (Some _) s = absurd s
+
+  -- a post changes no node, and no moment
+  pub post_keeps : {E : Type 0} (p : ℕ) (old new : NetSeen) (result : Result Outcome E) → PostServes f p old result new → (new.nodes ≡ old.nodes) × (new.now ≡ old.now)
+  post_keeps p old new result (inl (past, is, same)) = (ap (λ z. z.nodes) same, ap (λ z. z.now) same)
+  post_keeps p old new result (inr (n, at, posting)) = post_same n old new (said result) posting
+
+  -- what a delivery takes from the room; it changes no moment, and no number of nodes
+  pub record Took (old new : NetSeen) (o : Option Outcome) : Type 0 where
+    pub left : total_room new.nodes + takes o ≤ total_room old.nodes
+    pub clock : new.now ≡ old.now
+    pub count : length new.nodes ≡ length old.nodes
+
+  took_none : (old new : NetSeen) (o z : Option Outcome) → o ≡ z → takes z ≡ 0 → new ≡ old → Took old new o
+  took_none old new o z is none same = record { left = omega (arith, ap takes is, none, ap (λ y. total_room y.nodes) same); clock = ap (λ y. y.now) same; count = ap (λ y. length y.nodes) same }
+
+  handing_takes : (repeated : Bool) (p i : ℕ) (n : NodeSeen) (frames : List (List ℕ)) (old new : NetSeen) (o : Option Outcome) → slice_get old.nodes p ≡ Some n → Handing m f repeated p i n frames old o new → Took old new o
+  handing_takes repeated p i n frames old new o at (inl (none, is, same)) = took_none old new o _ is refl same
+  handing_takes repeated p i n frames old new o at (inr (up, inl (none, is, same))) = took_none old new o _ is refl same
+  handing_takes repeated p i n frames old new o at (inr (up, inr h)) =
+      let less = total_set old.nodes p n h.node (takes (take_outcome h.answer)) at (node_takes m f old.now n h.node h.bytes n.journal h.answer refl up h.takes) in
+      record { left = omega (arith, less, ap total_room h.nodes, ap takes h.outcome_is); clock = h.now; count = ap length h.nodes ∙ set_length old.nodes p h.node }
+
+  pub hand_takes : {E : Type 0} (repeated : Bool) (p i : ℕ) (old new : NetSeen) (result : Result Outcome E) → HandServes m f repeated p i old result new → Took old new (said result)
+  hand_takes repeated p i old new result (inl (past, is, same)) = took_none old new (said result) _ is refl same
+  hand_takes repeated p i old new result (inr (n, frames, at, waits, handing)) = handing_takes repeated p i n frames old new (said result) at handing
 
   -- ---- the worlds
-
-  -- nothing was done yet
-  pub drives_none : (old new : NetSeen) (goal : Environment F → World → World → Type 0) → new ≡ old → ((e : Environment F) (w : World) → goal e w w) → Drives m f old new goal
-  drives_none old new goal same holds = record {
-    world = stays_world m f old new goal same holds;
-    clock = ap (λ z. z.now) same;
-    left = omega (arith, ap room same);
-    count = ap (λ z. length z.nodes) same;
-  }
 
   -- one turn, at a place of the network
   pub drives_turn : {E : Type 0} (p : ℕ) (old new : NetSeen) (result : Result Outcome E) (o : Option Outcome) → p < length old.nodes → new.now ≡ old.now → AtPlace p old result new (λ n r k. TurnServes m f old.now None n r k) → said result ≡ o
@@ -163,76 +182,44 @@ module _ {F : Type 0} (m : Machine F) (f : Reads F) where
     count = same_count p old new result (λ n r k. TurnServes m f old.now None n r k) at;
   }
 
-  pub drives_map : (old new : NetSeen) (goal wider : Environment F → World → World → Type 0) → ((e : Environment F) (w v : World) → goal e w v → wider e w v) → Drives m f old new goal → Drives m f old new wider
-  drives_map old new goal wider map d = record { world = keeps_map m f old new goal wider map d.world; clock = d.clock; left = d.left; count = d.count }
+  -- one post
+  pub drives_post : {E : Type 0} (p : ℕ) (old new : NetSeen) (result : Result Outcome E) (o : Option Outcome) → PostServes f p old result new → said result ≡ o → Drives m f old new (λ e w v. WorldPosts e p w o v)
+  unfolding room
+  drives_post p old new result o at was =
+      let same = post_keeps p old new result at in
+      record {
+        world = λ id w shows coherent.
+            let one = post_world m f p old new result at id w shows coherent in
+            (one.0, one.1, one.2, subst (λ (s : Option Outcome). WorldPosts (environment m f id) p w s one.0) was one.3);
+        clock = same.1;
+        left = omega (arith, ap total_room same.0);
+        count = ap length same.0;
+      }
 
-  -- one thing after another
-  pub drives_then : (old mid new : NetSeen) (first second wider : Environment F → World → World → Type 0) → ((e : Environment F) (w u v : World) → first e w u → second e u v → wider e w v) → Drives m f old mid first → Drives m f mid new second → Drives m f old new wider
-  drives_then old mid new first second wider join before after = record {
-    world = λ id w shows coherent.
-        let one = before.world id w shows coherent in
-        let two = after.world id one.0 one.1 one.2 in
-        (two.0, two.1, two.2, join (environment m f id) w one.0 two.0 one.3 two.3);
-    clock = after.clock ∙ before.clock;
-    left = omega (arith, before.left, after.left);
-    count = after.count ∙ before.count;
-  }
+  -- one delivery, at a place of the network
+  pub drives_hand : {E : Type 0} (p : ℕ) (old new : NetSeen) (result : Result Outcome E) (o : Option Outcome) → p < length old.nodes → HandServes m f false p 0 old result new → said result ≡ o
+      → Drives m f old new (λ e w v. (p < length w.nodes) × HandAt e p w o v)
+  unfolding room
+  drives_hand p old new result o lt at was =
+      let took = hand_takes false p 0 old new result at in
+      record {
+        world = λ id w shows coherent.
+            let one = hand_world m f false p 0 old new result at id w shows coherent in
+            (one.0, one.1, one.2, (omega (arith, lt, shows.count), subst (λ (s : Option Outcome). HandAt (environment m f id) p w s one.0) was one.3));
+        clock = took.clock;
+        left = omega (arith, took.left);
+        count = took.count;
+      }
 
-  -- a world that the network shows has as many nodes
-  pub drives_counted : (old new : NetSeen) (goal : Environment F → World → World → Type 0) → Drives m f old new goal → Drives m f old new (λ e w v. (length w.nodes ≡ length old.nodes) × goal e w v)
-  drives_counted old new goal d = record {
-    world = λ id w shows coherent.
-        let one = d.world id w shows coherent in
-        (one.0, one.1, one.2, (shows.count, one.3));
-    clock = d.clock;
-    left = d.left;
-    count = d.count;
-  }
-
-  -- a network of quiet nodes shows a quiet world
-  pub drives_quiet : (old new : NetSeen) (goal : Environment F → World → World → Type 0) → Drives m f old new goal → ((p : ℕ) → QuietAt f new p) → Drives m f old new (λ e w v. goal e w v × Quiet e v)
-  drives_quiet old new goal d quiet = record {
-    world = λ id w shows coherent.
-        let one = d.world id w shows coherent in
-        (one.0, one.1, one.2, (one.3, λ p x at up. quiet_shown (environment m f id) new one.0 p x one.1 (quiet p) at up));
-    clock = d.clock;
-    left = d.left;
-    count = d.count;
-  }
-
-code_moved : {o : Outcome} (code : ℕ) (b : Bool) → (if b then turning.Full else turning.Quiet) ≡ turning.Moved → (g : ℕ) × (o ≡ outcome.Moved g)
-code_moved code true h = cc
-code_moved code false h = cc
-
-quiet_is_no_move : (t : Turning) → t ≡ turning.Quiet → t ≡ turning.Moved → ⊥
-quiet_is_no_move t a b = cc
-
--- what an outcome is, by what the turn came to
-turned_code : (code : ℕ) (b : Bool) → (code == 9) ≡ b → (if b then turning.Full else turning.Quiet) ≡ turning.Full → code ≡ 9
-turned_code code true is h = eqb-true code 9 is
-turned_code code false is h = cc
-
-pub was_full : (o : Outcome) → turned o ≡ turning.Full → o ≡ outcome.Refused 9
-was_full (outcome.Refused code) h = ap outcome.Refused (turned_code code (code == 9) refl h)
-was_full _ h = cc
-
-pub not_full : (o : Outcome) (t : Turning) → t ≡ turned o → (t ≡ turning.Full → ⊥) → o ≡ outcome.Refused 9 → ⊥
-not_full o t is other h = other (is ∙ ap turned h)
-
-pub was_moved : (o : Outcome) → turned o ≡ turning.Moved → (g : ℕ) × (o ≡ outcome.Moved g)
-was_moved (outcome.Moved g) h = (g, refl)
-was_moved (outcome.Refused code) h = code_moved code (code == 9) h
-was_moved _ h = cc
-
-pub not_moved : (o : Outcome) → turned o ≡ turning.Quiet → (g : ℕ) → o ≡ outcome.Moved g → ⊥
-not_moved o h g is = quiet_is_no_move (turned o) h (ap turned is)
+  -- a delivery that commits takes one
+  pub hand_falls : {E : Type 0} (p : ℕ) (old new : NetSeen) (result : Result Outcome E) (o : Outcome) → HandServes m f false p 0 old result new → result ≡ Ok o → takes (Some o) ≡ 1 → room new < room old
+  unfolding room
+  hand_falls p old new result o at was one =
+      let took = hand_takes false p 0 old new result at in
+      omega (arith, took.left, ap (λ r. takes (said r)) was, one)
 
 pub count_turn : {F E : Type 0} (m : Machine F) (f : Reads F) (now : ℕ) (pick : Option ℕ) (p : ℕ) (old new : NetSeen) (result : Result Outcome E) → AtPlace p old result new (λ n r k. TurnServes m f now pick n r k) → length new.nodes ≡ length old.nodes
 count_turn m f now pick p old new result at = same_count p old new result (λ n r k. TurnServes m f now pick n r k) at
-
--- no node stands past the last place
-pub quiet_past : {F : Type 0} (f : Reads F) (net : NetSeen) (count : ℕ) → length net.nodes ≤ count → ((p : ℕ) → p < count → QuietAt f net p) → (p : ℕ) → QuietAt f net p
-quiet_past f net count all below p n at = below p (omega (arith, all, get_less net.nodes p n at)) n at
 
 pub drained_world : {F E : Type 0} (m : Machine F) (f : Reads F) (old new : NetSeen) (r : Result Bool E) (full : Bool) → r ≡ Ok full → KeepsWorld m f old new (λ e w v. Drains e w r v) → KeepsWorld m f old new (λ e w v. WorldDrains e w (Some (outcome.Drained full)) v)
 drained_world {E} m f old new r full is h = keeps_map m f old new (λ e w v. Drains e w r v) (λ e w v. WorldDrains e w (Some (outcome.Drained full)) v) (λ e w v d. drained E e w v full (subst (λ (z : Result Bool E). Drains e w z v) is d)) h
@@ -240,12 +227,69 @@ drained_world {E} m f old new r full is h = keeps_map m f old new (λ e w v. Dra
 pub short_world : {F E : Type 0} (m : Machine F) (f : Reads F) (old new : NetSeen) (r : Result Bool E) (x : E) → r ≡ Err x → KeepsWorld m f old new (λ e w v. Drains e w r v) → KeepsWorld m f old new (λ e w v. WorldDrains e w None v)
 short_world {E} m f old new r x is h = keeps_map m f old new (λ e w v. Drains e w r v) (λ e w v. WorldDrains e w None v) (λ e w v d. subst (λ (z : Result Bool E). Drains e w z v) is d) h
 
-pub quiet_is_no_full : (t : Turning) → t ≡ turning.Quiet → t ≡ turning.Full → ⊥
-quiet_is_no_full t a b = cc
+-- frames that are lost change no node
+pub lose_count : {E : Type 0} (p i : ℕ) (old new : NetSeen) (result : Result Outcome E) → LoseServes p i old result new → length new.nodes ≡ length old.nodes
+lose_count p i old new result (inl (past, is, same)) = ap (λ z. length z.nodes) same
+lose_count p i old new result (inr (frames, at, inl (none, is, same))) = ap (λ z. length z.nodes) same
+lose_count p i old new result (inr (frames, at, inr (bytes, there, is, same))) = ap (λ z. length z.nodes) same
 
-pub moved_is_no_full : (t : Turning) → t ≡ turning.Moved → t ≡ turning.Full → ⊥
-moved_is_no_full t a b = cc
+-- ---- posts of all nodes
 
--- a place up to another one
-pub up_to : (p place : ℕ) (P : Type 0) → p < place + 1 → (p < place → P) → (p ≡ place) ⊎ P
-up_to p place P lt below = ⊎_elim (λ l. inr (below l)) (λ g. inl (omega (arith, g, lt))) (cases_lt p place)
+pub posts_short : {F E : Type 0} (e : Environment F) (w v : World) (r : Result (Unit {0}) E) → IsErr r → PostsStop e None w v → Posts e w r v
+posts_short e w v (Ok t) is h = cc
+posts_short e w v (Err x) is h = h
+
+pub posts_err : {F E : Type 0} (e : Environment F) (w v : World) (r : Result (Unit {0}) E) (x : E) → r ≡ Err x → Posts e w r v → PostsStop e None w v
+posts_err {F} {E} e w v r x is h = subst (λ (z : Result (Unit {0}) E). Posts e w z v) is h
+
+pub posts_ok : {F E : Type 0} (e : Environment F) (w v : World) (r : Result (Unit {0}) E) (x : Unit {0}) → r ≡ Ok x → Posts e w r v → InOrder (PostsAt e) (length w.nodes) 0 w v
+posts_ok {F} {E} e w v r x is h = subst (λ (z : Result (Unit {0}) E). Posts e w z v) is h
+
+pub posts_all : {F : Type 0} (e : Environment F) (p : ℕ) (w v : World) → length w.nodes ≡ p → InOrder (PostsAt e) p 0 w v → InOrder (PostsAt e) (length w.nodes) 0 w v
+posts_all e p w v is h = subst (λ (q : ℕ). InOrder (PostsAt e) q 0 w v) (sym is) h
+
+-- ---- deliveries at a node
+
+-- all frames that waited at first were delivered
+pub all_delivered : {F : Type 0} (m : Machine F) (f : Reads F) (old new : NetSeen) (p d : ℕ) (moved : Bool) (frames : List (List ℕ)) → slice_get old.waiting p ≡ Some frames → length frames ≡ d
+    → Drives m f old new (λ e w v. Counts moved (Hands e p d) w v) → Drives m f old new (λ e w v. Counts moved (DeliversAt e p) w v)
+all_delivered m f old new p d moved frames at count drives =
+    drives_map m f old new (λ e w v. Shows e old w × Coherent e w × Counts moved (Hands e p d) w v) (λ e w v. Counts moved (DeliversAt e p) w v)
+    (λ e w v h.
+    let found = waits_get w.nodes p frames (ap (λ l. slice_get l p) h.0.waiting ∙ at) in
+    hands_all e p d moved w v found.0 found.1 (ap length found.2 ∙ count) h.2)
+    (drives_shown m f old new (λ e w v. Counts moved (Hands e p d) w v) drives)
+
+pub turns_is : {E : Type 0} (made : ℕ → World → World → Type 0) (stops : Option Outcome → World → World → Type 0) (w v : World) (r : Result Turning E) (t : Turning) → r ≡ Ok t → Turns r made stops w v → Turns {E = E} (Ok t) made stops w v
+turns_is {E} made stops w v r t is h = subst (λ (z : Result Turning E). Turns z made stops w v) is h
+
+-- the turns and the posts of a round
+abbrev pub PostedSo : {F : Type 0} → Environment F → (E : Type 0) → Turning → World → World → Type 0
+PostedSo e E t w v = (u : World) × Turns {E = E} (Ok t) (InOrder (TurnsAt e) (length w.nodes)) (TurnsStop e) w u × InOrder (PostsAt e) (length u.nodes) 0 u v
+
+pub posted_so : {F : Type 0} (e : Environment F) (E : Type 0) (t : Turning) (w u v : World) → Turns {E = E} (Ok t) (InOrder (TurnsAt e) (length w.nodes)) (TurnsStop e) w u → InOrder (PostsAt e) (length u.nodes) 0 u v → PostedSo e E t w v
+posted_so e E t w u v turns posts = (u, turns, posts)
+
+-- ---- what a node has to send
+
+module _ {F E : Type 0} (f : Reads F) (n : NodeSeen) (r : Result (Option (List Outgoing)) E) (o : Option (List Outgoing)) (was : r ≡ Ok o) (serves : SendServes f n r) where
+  pub sends_some : (frames : List Outgoing) → o ≡ Some frames → SendServes {E = E} f n (Ok (Some frames))
+  sends_some frames is = subst (λ (z : Result (Option (List Outgoing)) E). SendServes f n z) (was ∙ ap Ok is) serves
+
+  pub sends_none : o ≡ None → n.journal ≡ None
+  sends_none is = subst (λ (z : Result (Option (List Outgoing)) E). SendServes f n z) (was ∙ ap Ok is) serves
+
+-- its frames are posted
+pub posting : (E : Type 0) {F : Type 0} (f : Reads F) (n : NodeSeen) (frames : List Outgoing) → SendServes {E = E} f n (Ok (Some frames)) → (nodes : List NodeSeen) (waiting : List (List (List ℕ))) (now count : ℕ) (after : List (List (List ℕ)))
+    → count ≡ count_fresh frames waiting → after ≡ mailed frames waiting → Posting f n (record { nodes = nodes; waiting = waiting; now = now }) (Some (outcome.Posted count)) (record { nodes = nodes; waiting = after; now = now })
+posting E f n frames (bodies, here, is, messages) nodes waiting now count after counted sent =
+    (bodies, here, messages, counted ∙ ap (λ l. count_fresh l waiting) is, ap (λ l. record { nodes = nodes; waiting = l; now = now }) (sent ∙ ap (λ l. mailed l waiting) is))
+
+-- memory ran out for a post of a node that is up, and nothing changed
+pub post_left : {F E : Type 0} (f : Reads F) (place : ℕ) (n : NodeSeen) (old new : NetSeen) (r : Result Outcome E) → IsErr r → slice_get old.nodes place ≡ Some n → IsSome n.journal → new ≡ old → PostServes f place old r new
+post_left f place n old new (Ok o) err at up same = cc
+post_left f place n old new (Err x) err at up same = inr (n, at, (up, same))
+
+-- a node whose frames were given is up
+pub up_by : {F : Type 0} (E : Type 0) (f : Reads F) (n : NodeSeen) (frames : List Outgoing) → SendServes {E = E} f n (Ok (Some frames)) → IsSome n.journal
+up_by E f n frames s = rw s.1 refl

@@ -1,5 +1,6 @@
 -- What a call of one node answers within a step of the network.
-use Rattle.std.specs.Prelude.{◌≡◌, ◌⊎◌, ℕ, zero, suc, ◌<◌, ◌≤◌, List, length, slice_get, slice_set, Option, Some, None, IsSome, true, false, Result, Ok, Err}
+use Rattle.std.specs.Prelude.{◌≡◌, ◌⊎◌, ℕ, zero, suc, ◌+◌, ◌<◌, ◌≤◌, ◌^◌, ⊤, Bool, if◌then◌else◌, List, [], ◌∷◌, length, slice_get, slice_set, Option, Some, None, IsSome, true, false, Result, Ok, Err}
+use Rattle.std.specs.Option.{option_to_list}
 use Rattle.flow_machine.specs.Machine.{Machine}
 use Rattle.net_model.specs.Environment.{environment}
 use Rattle.node_core.specs.declared.faults.StartFault.{StartFault}
@@ -12,11 +13,22 @@ use Rattle.node_core.specs.declared.faults.CutFault.{CutFault}
 use Rattle.node_core.specs.declared.faults.CutFault.TheVariants as cut_fault
 use Rattle.node_core.specs.declared.faults.BootFault.{BootFault}
 use Rattle.node_core.specs.declared.faults.BootFault.TheVariants as boot_fault
-use Rattle.node_core.specs.Journals.{Reads, state_of}
+use Rattle.node_core.specs.declared.faults.Taken.{Taken}
+use Rattle.node_core.specs.declared.faults.Taken.TheVariants as taken
+use Rattle.node_core.specs.declared.faults.TakeFault.{TakeFault}
+use Rattle.node_core.specs.declared.faults.TakeFault.TheVariants as take_fault
+use Rattle.node_tables.specs.Journals.{Reads, state_of}
 use Rattle.node_core.specs.Seen.{NodeSeen, StartAnswers, TurnAnswers, CutAnswers, BootsAs}
+use Rattle.node_core.specs.Takes.{TakeAnswers, unacked_at}
+use Rattle.session_table.specs.Tables.{unacked}
+use Rattle.session_frames.specs.declared.sending.Outgoing.{Outgoing}
+use Rattle.session_frames.specs.Sending.{AreMessages}
+use Rattle.waiting_frames.specs.Waiting.{is_waiting, joined}
+use Rattle.network_core.specs.declared.serving.Reply.{Reply}
 use Rattle.network_core.specs.declared.steps.Outcome.{Outcome}
 use Rattle.network_core.specs.declared.steps.Outcome.TheVariants as outcome
 use Rattle.network_core.specs.Worlds.{NetSeen}
+use Rattle.network_core.specs.Serves.{waits_on, without}
 
 -- the outcome of a call that had one, none at want of memory
 abbrev pub said : {E : Type 0} → Result Outcome E → Option Outcome
@@ -91,12 +103,139 @@ BootServes frame_at old result new =
 abbrev pub AtPlace : {E : Type 0} → ℕ → NetSeen → Result Outcome E → NetSeen → (NodeSeen → Result Outcome E → NodeSeen → Type 0) → Type 0
 AtPlace place old result new serves =
     ((length old.nodes ≤ place) × (said result ≡ Some (outcome.Refused 2)) × (new ≡ old))
-    ⊎ ((n : NodeSeen) × (k : NodeSeen) × (slice_get old.nodes place ≡ Some n) × (new.nodes ≡ slice_set old.nodes place k) × serves n result k)
+    ⊎ ((n : NodeSeen) × (k : NodeSeen) × (slice_get old.nodes place ≡ Some n) × (new.nodes ≡ slice_set old.nodes place k) × (new.waiting ≡ old.waiting) × serves n result k)
 
 -- the moment becomes the one that was asked for, which isn't before it
 abbrev pub ClockServes : ℕ → NetSeen → Outcome → NetSeen → Type 0
-ClockServes to old result new = ((to < old.now) × (result ≡ outcome.Refused 10) × (new ≡ old)) ⊎ ((old.now ≤ to) × (result ≡ outcome.Fine) × (new ≡ record { nodes = old.nodes; now = to }))
+ClockServes to old result new = ((to < old.now) × (result ≡ outcome.Refused 10) × (new ≡ old)) ⊎ ((old.now ≤ to) × (result ≡ outcome.Fine) × (new ≡ record { nodes = old.nodes; waiting = old.waiting; now = to }))
 
 -- the moment is raised by a boot only where the node's journal has a later cause, which none of a coherent world has
 abbrev pub BootClock : {F : Type 0} → Reads F → ℕ → NetSeen → NetSeen → Type 0
 BootClock frame_at place old new = (new.now ≡ old.now) ⊎ ((k : NodeSeen) × (bodies : List (List ℕ)) × (slice_get new.nodes place ≡ Some k) × (k.journal ≡ Some bodies) × (old.now < (state_of frame_at bodies).moment))
+
+-- ---- frames
+
+-- the outcome of a frame that was handed to a node; none that waits is garbled or another's
+abbrev pub take_outcome : Result Taken TakeFault → Option Outcome
+take_outcome (Ok taken.Acked) = Some outcome.Acked
+take_outcome (Ok (taken.Again expected ack)) = Some (outcome.Again expected)
+take_outcome (Ok (taken.Early expected)) = Some (outcome.Early expected)
+take_outcome (Ok taken.NoSession) = Some outcome.NoSession
+take_outcome (Ok (taken.Took upto ack)) = Some (outcome.Took upto)
+take_outcome (Err take_fault.NodeDown) = Some (outcome.Refused 3)
+take_outcome (Err take_fault.Garbled) = Some outcome.NoSession
+take_outcome (Err (take_fault.NotMine to)) = Some outcome.NoSession
+take_outcome (Err take_fault.Full) = Some (outcome.Refused 9)
+take_outcome (Err take_fault.Memory) = None
+take_outcome (Err take_fault.Fault) = Some outcome.Fault
+
+-- what is sent where a frame was handed to a node: an acknowledgement, or nothing
+abbrev pub take_sent : Result Taken TakeFault → List Outgoing
+take_sent (Ok (taken.Again expected ack)) = ack ∷ []
+take_sent (Ok (taken.Took upto ack)) = ack ∷ []
+take_sent _ = []
+
+-- the counts that an answer tells are numbers of 32 bits
+abbrev pub IsCounted : Result Taken TakeFault → Type 0
+IsCounted (Ok (taken.Again expected ack)) = expected < 2 ^ 32
+IsCounted (Ok (taken.Took upto ack)) = upto < 2 ^ 32
+IsCounted _ = ⊤
+
+-- the outcome that was reached, none at want of memory
+abbrev pub reached : {E : Type 0} → Result Reply E → Option Outcome
+reached (Ok reply) = Some reply.outcome
+reached (Err e) = None
+
+-- the acknowledgement that was made, if there is one
+abbrev pub replied : {E : Type 0} → Result Reply E → List Outgoing
+replied (Ok reply) = option_to_list reply.ack
+replied (Err e) = []
+
+-- a frame was handed to a node, with its outcome and the acknowledgement that it sends
+abbrev pub TakeServes : {F E : Type 0} → Machine F → Reads F → ℕ → List ℕ → NodeSeen → Result Reply E → NodeSeen → Type 0
+TakeServes m frame_at now bytes old result new =
+    (answer : Result Taken TakeFault) × TakeAnswers (environment m frame_at old.identity) now bytes old answer new × (reached result ≡ take_outcome answer) × (replied result ≡ take_sent answer) × IsCounted answer
+
+-- the messages that a node has to send, each a frame; none exactly where it is down
+abbrev pub SendServes : {F E : Type 0} → Reads F → NodeSeen → Result (Option (List Outgoing)) E → Type 0
+SendServes frame_at n (Ok None) = n.journal ≡ None
+SendServes frame_at n (Ok (Some frames)) = (bodies : List (List ℕ)) × (n.journal ≡ Some bodies) × (frames ≡ unacked_at frame_at n.identity.party bodies n.acked) × AreMessages n.identity.party (unacked n.identity.party (state_of frame_at bodies).sessions n.acked)
+SendServes frame_at n (Err e) = IsSome n.journal
+
+-- the frames that wait at each node once one was sent, by those that wait at its addressee, if there is such a node
+abbrev pub mailed_to : Outgoing → List (List (List ℕ)) → Option (List (List ℕ)) → List (List (List ℕ))
+mailed_to o waiting None = waiting
+mailed_to o waiting (Some frames) = slice_set waiting o.to.0 (joined o.bytes frames)
+
+abbrev pub mailed_once : Outgoing → List (List (List ℕ)) → List (List (List ℕ))
+mailed_once o waiting = mailed_to o waiting (slice_get waiting o.to.0)
+
+-- once these frames were sent, in order
+abbrev pub mailed : List Outgoing → List (List (List ℕ)) → List (List (List ℕ))
+mailed [] waiting = waiting
+mailed (o ∷ os) waiting = mailed os (mailed_once o waiting)
+
+-- 1 where a frame is new among those that wait where it goes
+abbrev pub fresh_at : List ℕ → Option (List (List ℕ)) → ℕ
+fresh_at bytes None = 0
+fresh_at bytes (Some frames) = if is_waiting bytes frames then 0 else 1
+
+-- how many of these frames are new where they go, when they are sent in order
+abbrev pub count_fresh : List Outgoing → List (List (List ℕ)) → ℕ
+count_fresh [] waiting = 0
+count_fresh (o ∷ os) waiting = fresh_at o.bytes (slice_get waiting o.to.0) + count_fresh os (mailed_once o waiting)
+
+-- what a post of a node came to
+abbrev pub Posting : {F : Type 0} → Reads F → NodeSeen → NetSeen → Option Outcome → NetSeen → Type 0
+Posting frame_at n old None new = IsSome n.journal × (new ≡ old)
+Posting frame_at n old (Some (outcome.Posted count)) new =
+    (bodies : List (List ℕ)) × (n.journal ≡ Some bodies)
+    × AreMessages n.identity.party (unacked n.identity.party (state_of frame_at bodies).sessions n.acked)
+    × (count ≡ count_fresh (unacked_at frame_at n.identity.party bodies n.acked) old.waiting)
+    × (new ≡ record { nodes = old.nodes; waiting = mailed (unacked_at frame_at n.identity.party bodies n.acked) old.waiting; now = old.now })
+Posting frame_at n old (Some (outcome.Refused code)) new = (code ≡ 3) × (n.journal ≡ None) × (new ≡ old)
+Posting frame_at n old (Some _) new = ⊥
+
+-- a post of the node at a place
+abbrev pub PostServes : {F E : Type 0} → Reads F → ℕ → NetSeen → Result Outcome E → NetSeen → Type 0
+PostServes frame_at place old result new =
+    ((length old.nodes ≤ place) × (said result ≡ Some (outcome.Refused 2)) × (new ≡ old))
+    ⊎ ((n : NodeSeen) × (slice_get old.nodes place ≡ Some n) × Posting frame_at n old (said result) new)
+
+-- the frames that wait once the one at a place of a node is taken away, or left
+abbrev pub parted : Bool → ℕ → ℕ → List (List ℕ) → List (List (List ℕ)) → List (List (List ℕ))
+parted true place at frames waiting = waiting
+parted false place at frames waiting = slice_set waiting place (without at frames)
+
+-- a node that is up was handed the frame at a place of those that wait there
+pub record Handed {F : Type 0} (m : Machine F) (frame_at : Reads F) (repeated : Bool) (place at : ℕ) (n : NodeSeen) (frames : List (List ℕ)) (old : NetSeen) (o : Option Outcome) (new : NetSeen) : Type 0 where
+  pub bytes : List ℕ
+  pub there : slice_get frames at ≡ Some bytes
+  pub answer : Result Taken TakeFault
+  pub node : NodeSeen
+  pub takes : TakeAnswers (environment m frame_at n.identity) old.now bytes n answer node
+  pub counted : IsCounted answer
+  pub outcome_is : o ≡ take_outcome answer
+  pub nodes : new.nodes ≡ slice_set old.nodes place node
+  pub waiting : new.waiting ≡ mailed (take_sent answer) (parted (waits_on repeated o) place at frames old.waiting)
+  pub now : new.now ≡ old.now
+
+-- what handing the frame at a place of a node came to
+abbrev pub Handing : {F : Type 0} → Machine F → Reads F → Bool → ℕ → ℕ → NodeSeen → List (List ℕ) → NetSeen → Option Outcome → NetSeen → Type 0
+Handing m frame_at repeated place at n frames old o new =
+    ((n.journal ≡ None) × (o ≡ Some (outcome.Refused 3)) × (new ≡ old))
+    ⊎ (IsSome n.journal × (((slice_get frames at ≡ None) × (o ≡ Some (outcome.Refused 7)) × (new ≡ old)) ⊎ Handed m frame_at repeated place at n frames old o new))
+
+-- a delivery, or a repetition, of the frame at a place of a node
+abbrev pub HandServes : {F E : Type 0} → Machine F → Reads F → Bool → ℕ → ℕ → NetSeen → Result Outcome E → NetSeen → Type 0
+HandServes m frame_at repeated place at old result new =
+    ((length old.nodes ≤ place) × (said result ≡ Some (outcome.Refused 2)) × (new ≡ old))
+    ⊎ ((n : NodeSeen) × (frames : List (List ℕ)) × (slice_get old.nodes place ≡ Some n) × (slice_get old.waiting place ≡ Some frames) × Handing m frame_at repeated place at n frames old (said result) new)
+
+-- the frame at a place of a node is lost
+abbrev pub LoseServes : {E : Type 0} → ℕ → ℕ → NetSeen → Result Outcome E → NetSeen → Type 0
+LoseServes place at old result new =
+    ((length old.nodes ≤ place) × (said result ≡ Some (outcome.Refused 2)) × (new ≡ old))
+    ⊎ ((frames : List (List ℕ)) × (slice_get old.waiting place ≡ Some frames)
+    × (((slice_get frames at ≡ None) × (said result ≡ Some (outcome.Refused 7)) × (new ≡ old))
+    ⊎ ((bytes : List ℕ) × (slice_get frames at ≡ Some bytes) × (said result ≡ Some outcome.Lost) × (new ≡ record { nodes = old.nodes; waiting = slice_set old.waiting place (without at frames); now = old.now }))))

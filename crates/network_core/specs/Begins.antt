@@ -1,14 +1,14 @@
 -- How a network begins: over disks of which it is known what they may leave.
-use Rattle.std.specs.Prelude.{◌≡◌, ◌⊎◌, ℕ, ◌+◌, ◌<◌, ◌≤◌, true, false, List, [], ◌∷◌, length, slice_get, MatchOption, Option, Some, None, Result, Ok, Err}
+use Rattle.std.specs.Prelude.{◌≡◌, ◌⊎◌, ℕ, ◌+◌, ◌<◌, ◌≤◌, true, false, List, [], ◌∷◌, length, map, slice_get, MatchOption, Option, Some, None, Result, Ok, Err}
 use Rattle.outside.specs.Disk.{DiskView}
 use Rattle.net_base.specs.declared.names.Identity.{Identity}
 use Rattle.net_base.specs.declared.values.Party.{Party}
 use Rattle.flow_machine.specs.Machine.{Machine}
 use Rattle.net_model.specs.Environment.{Environment, environment, party}
-use Rattle.node_core.specs.Journals.{Reads, state_of}
+use Rattle.node_tables.specs.Journals.{Reads, state_of}
 use Rattle.node_core.specs.declared.faults.BootFault.{BootFault}
 use Rattle.node_core.specs.declared.faults.BootFault.TheVariants as boot_fault
-use Rattle.node_core.specs.Seen.{NodeSeen, BootsAs, IsBy}
+use Rattle.node_core.specs.Seen.{NodeSeen, BootsAs, IsBy, acks_over}
 use Rattle.node_core.specs.Disks.{roomless}
 use Rattle.network_core.specs.Worlds.{World, NodeWorld, NetSeen, MaySpell, Shows, Coherent}
 
@@ -16,9 +16,9 @@ use Rattle.network_core.specs.Worlds.{World, NodeWorld, NetSeen, MaySpell, Shows
 abbrev pub member : ℕ → Party → ℕ → Identity
 member nodes notary p = record { party = party p; nodes = nodes; notary = notary }
 
--- a node that was down is up on its journal, which every image spells; a calm disk stays calm
-pub record BeginsUp (x y : NodeWorld) : Type 0 where
-  pub after : y ≡ record { up = true; journal = x.journal; other = None; faults = y.faults; calm = y.calm; file = x.file }
+-- a node that was down is up on its journal, which every image spells; nothing is acknowledged, and no frame waits; a calm disk stays calm
+pub record BeginsUp {F : Type 0} (e : Environment F) (x y : NodeWorld) : Type 0 where
+  pub after : y ≡ record { up = true; journal = x.journal; other = None; faults = y.faults; calm = y.calm; file = x.file; acked = acks_over e [] x.journal; waiting = [] }
   pub later : x.faults ≤ y.faults
   pub calm : x.calm ≡ true → y.calm ≡ true
 
@@ -60,21 +60,21 @@ pub record BootStops {F : Type 0} (frame_at : Reads F) (place : ℕ) (why : Boot
 
 -- a node that is down over a disk, at a place of a network
 abbrev pub node_over : ℕ → Party → ℕ → DiskView → NodeSeen
-node_over nodes notary p disk = record { identity = member nodes notary p; disk = roomless disk; journal = None }
+node_over nodes notary p disk = record { identity = member nodes notary p; disk = roomless disk; journal = None; acked = [] }
 
 -- nodes that are down over these disks, from a place on
 abbrev pub nodes_over : ℕ → Party → ℕ → List DiskView → List NodeSeen
 nodes_over nodes notary p [] = []
 nodes_over nodes notary p (d ∷ ds) = node_over nodes notary p d ∷ nodes_over nodes notary (p + 1) ds
 
--- a network whose nodes are down over these disks, at a moment
+-- a network whose nodes are down over these disks, at a moment; no frame waits
 abbrev pub net_over : ℕ → Party → ℕ → List DiskView → NetSeen
-net_over nodes notary now disks = record { nodes = nodes_over nodes notary 0 disks; now = now }
+net_over nodes notary now disks = record { nodes = nodes_over nodes notary 0 disks; waiting = map (λ d. []) disks; now = now }
 
 -- each node came up on its journal, and the moment is the greatest of their last causes', 0 without one
 pub record Begun {F : Type 0} (e : Environment F) (w v : World) : Type 0 where
   pub count : length v.nodes ≡ length w.nodes
-  pub each : (p : ℕ) (x y : NodeWorld) → slice_get w.nodes p ≡ Some x → slice_get v.nodes p ≡ Some y → BeginsUp x y
+  pub each : (p : ℕ) (x y : NodeWorld) → slice_get w.nodes p ≡ Some x → slice_get v.nodes p ≡ Some y → BeginsUp e x y
   pub latest : (p : ℕ) (y : NodeWorld) → slice_get v.nodes p ≡ Some y → (state_of e.frame_at y.journal).moment ≤ v.now
   pub reached : (v.now ≡ 0) ⊎ ((p : ℕ) × (y : NodeWorld) × (slice_get v.nodes p ≡ Some y) × (v.now ≡ (state_of e.frame_at y.journal).moment))
 

@@ -1,16 +1,18 @@
--- A drain: rounds of turns, until no flow can go on.
-use Rattle.std.specs.Prelude.{◌≡◌, ◌⊎◌, Bool, ℕ, zero, suc, ◌+◌, ◌-◌, ◌<◌, ◌≤◌, ◌==◌, if◌then◌else◌, true, false, List, [], ◌∷◌, length, slice_get, Option, Some, None, IfSome, Result, Ok, Err}
+-- A drain: rounds of turns, posts and deliveries, until nothing is left to do.
+use Rattle.std.specs.Prelude.{◌≡◌, ◌⊎◌, Bool, ℕ, zero, suc, ◌+◌, ◌-◌, ◌<◌, ◌≤◌, ◌==◌, if◌then◌else◌, true, false, List, [], ◌∷◌, length, slice_get, Option, Some, None, Result, Ok, Err}
 use Rattle.flow_machine.specs.Machine.{Machine}
 use Rattle.net_model.specs.Environment.{Environment}
-use Rattle.net_model.specs.Enabled.{picked}
-use Rattle.node_core.specs.Journals.{Reads, state_of}
+use Rattle.session_wire.specs.Sessions.{Session}
+use Rattle.node_tables.specs.Journals.{Reads, state_of}
 use Rattle.node_core.specs.Seen.{NodeSeen, picked_at}
 use Rattle.network_core.specs.declared.steps.Outcome.{Outcome}
 use Rattle.network_core.specs.declared.steps.Outcome.TheVariants as outcome
 use Rattle.network_core.specs.declared.net.Turning.{Turning}
 use Rattle.network_core.specs.declared.net.Turning.TheVariants as turning
-use Rattle.network_core.specs.Worlds.{World, NodeWorld, NetSeen, KeepsWorld}
-use Rattle.network_core.specs.Serves.{WorldPlace, WorldTurns}
+use Rattle.network_core.specs.declared.net.Hearing.{Hearing}
+use Rattle.network_core.specs.declared.net.Hearing.TheVariants as heard_as
+use Rattle.network_core.specs.Worlds.{World, NodeWorld, NetSeen, KeepsWorld, Choice, states_of, came_at}
+use Rattle.network_core.specs.Serves.{WorldPlace, WorldTurns, WorldPosts, WorldHands}
 
 -- ---- how many turns there can be
 
@@ -28,9 +30,10 @@ total_room (n ∷ ns) = journal_room n.journal + total_room ns
 unfoldable pub room : NetSeen → ℕ
 room net = total_room net.nodes
 
--- by how much a turn lessens the room at least
+-- by how much a turn or a delivery lessens the room at least
 abbrev pub takes : Option Outcome → ℕ
 takes (Some (outcome.Moved f)) = 1
+takes (Some (outcome.Took upto)) = 1
 takes _ = 0
 
 -- ---- worlds
@@ -39,9 +42,19 @@ takes _ = 0
 abbrev pub TurnAt : {F : Type 0} → Environment F → ℕ → World → Option Outcome → World → Type 0
 TurnAt e p w o v = WorldPlace p w o v (λ x r y. WorldTurns e p w.now None x r y)
 
--- at no node that is up a flow can go on
-abbrev pub Quiet : {F : Type 0} → Environment F → World → Type 0
-Quiet e v = (p : ℕ) (x : NodeWorld) → slice_get v.nodes p ≡ Some x → x.up ≡ true → picked_at e v.now None x.journal ≡ None
+-- a delivery of the first waiting frame at a place of a world
+abbrev pub HandAt : {F : Type 0} → Environment F → ℕ → World → Option Outcome → World → Type 0
+HandAt e p w o v = WorldHands e false p 0 w o v
+
+-- each item that a node sent to another that is up has arrived there
+abbrev pub HasArrived : {F : Type 0} → Environment F → World → NodeWorld → Type 0
+HasArrived e v x = (i q : ℕ) (session : Session) (y : NodeWorld) → slice_get (state_of e.frame_at x.journal).sessions i ≡ Some session → session.peer.0 ≡ q → slice_get v.nodes q ≡ Some y → y.up ≡ true
+    → (lists : List (List (List ℕ))) → Choice v lists → length session.sent ≤ came_at (states_of e lists) q session.key
+
+-- at no node that is up a flow can go on, and what nodes that are up sent each other has arrived
+pub record Quiet {F : Type 0} (e : Environment F) (v : World) : Type 0 where
+  pub idle : (p : ℕ) (x : NodeWorld) → slice_get v.nodes p ≡ Some x → x.up ≡ true → picked_at e v.now None x.journal ≡ None
+  pub arrived : (p : ℕ) (x : NodeWorld) → slice_get v.nodes p ≡ Some x → x.up ≡ true → HasArrived e v x
 
 -- ---- the turns at a place
 
@@ -69,47 +82,93 @@ abbrev pub InOrder : (ℕ → ℕ → World → World → Type 0) → ℕ → �
 InOrder at zero n w v = (n ≡ 0) × (v ≡ w)
 InOrder at (suc p) n w v = (u : World) × (k : ℕ) × (j : ℕ) × InOrder at p k w u × at p j u v × (n ≡ k + j)
 
--- a round: the turns at each node, in the order of places, of which so many let a flow go on
+-- a post of the node at a place; it commits nothing
+abbrev pub PostsAt : {F : Type 0} → Environment F → ℕ → ℕ → World → World → Type 0
+PostsAt e p n w v = (o : Outcome) × WorldPosts e p w (Some o) v × (n ≡ 0)
+
+-- how many records an outcome of a delivery stands for
+abbrev pub committed : Outcome → ℕ
+committed (outcome.Took upto) = 1
+committed _ = 0
+
+-- a delivery took a frame away
+abbrev pub IsTaken : Outcome → Type 0
+IsTaken o = (code : ℕ) → o ≡ outcome.Refused code → ⊥
+
+-- so many deliveries of the first waiting frame at a place, each of which took it away, and how many of them committed a record
+abbrev pub Hands : {F : Type 0} → Environment F → ℕ → ℕ → ℕ → World → World → Type 0
+Hands e p zero n w v = (n ≡ 0) × (v ≡ w)
+Hands e p (suc d) n w v = (u : World) × (k : ℕ) × (o : Outcome) × Hands e p d k w u × HandAt e p u (Some o) v × IsTaken o × (n ≡ k + committed o)
+
+-- the deliveries at a place: of one frame after another, until none waits or the node is down
+abbrev pub DeliversAt : {F : Type 0} → Environment F → ℕ → ℕ → World → World → Type 0
+DeliversAt e p n w v = (d : ℕ) × (u : World) × (o : Outcome) × Hands e p d n w u × HandAt e p u (Some o) v × ((o ≡ outcome.Refused 7) ⊎ (o ≡ outcome.Refused 3))
+
+-- deliveries at a place, and then one with this outcome
+abbrev pub HandStops : {F : Type 0} → Environment F → ℕ → Option Outcome → World → World → Type 0
+HandStops e p o w v = (d : ℕ) × (n : ℕ) × (u : World) × Hands e p d n w u × HandAt e p u o v
+
+-- a round: the turns at each node, in the order of places, then the posts of each, then the deliveries at each; so many of them committed a record
 abbrev pub Round : {F : Type 0} → Environment F → ℕ → World → World → Type 0
-Round e n w v = InOrder (TurnsAt e) (length w.nodes) n w v
+Round e n w v =
+    (u : World) × (t : World) × (k : ℕ) × (j : ℕ) × InOrder (TurnsAt e) (length w.nodes) k w u × InOrder (PostsAt e) (length w.nodes) 0 u t × InOrder (DeliversAt e) (length w.nodes) j t v × (n ≡ k + j)
 
--- the front of a round, up to a turn with this outcome
+-- the turns of a round at the first nodes, up to one with this outcome
+abbrev pub TurnsStop : {F : Type 0} → Environment F → Option Outcome → World → World → Type 0
+TurnsStop e o w v = (p : ℕ) × (n : ℕ) × (u : World) × (p < length w.nodes) × InOrder (TurnsAt e) p n w u × StopsAt e p o u v
+
+-- the posts of a round, up to one for which memory ran out
+abbrev pub PostsStop : {F : Type 0} → Environment F → Option Outcome → World → World → Type 0
+PostsStop e o w v = (p : ℕ) × (u : World) × (p < length w.nodes) × InOrder (PostsAt e) p 0 w u × WorldPosts e p u None v × (o ≡ None)
+
+-- the deliveries of a round, up to one with this outcome
+abbrev pub HandsStop : {F : Type 0} → Environment F → Option Outcome → World → World → Type 0
+HandsStop e o w v = (p : ℕ) × (n : ℕ) × (u : World) × (p < length w.nodes) × InOrder (DeliversAt e) p n w u × HandStops e p o u v
+
+-- the front of a round, up to what came to this outcome: a full journal, or none at want of memory
 abbrev pub RoundStops : {F : Type 0} → Environment F → Option Outcome → World → World → Type 0
-RoundStops e o w v = (p : ℕ) × (n : ℕ) × (u : World) × (p < length w.nodes) × InOrder (TurnsAt e) p n w u × StopsAt e p o u v
+RoundStops e o w v =
+    TurnsStop e o w v
+    ⊎ (((u : World) × (k : ℕ) × InOrder (TurnsAt e) (length w.nodes) k w u × PostsStop e o u v)
+    ⊎ ((u : World) × (t : World) × (k : ℕ) × InOrder (TurnsAt e) (length w.nodes) k w u × InOrder (PostsAt e) (length w.nodes) 0 u t × HandsStop e o t v))
 
--- so many rounds, one after another, in each of which a flow went on
+-- so many rounds, one after another, in each of which a record was committed
 abbrev pub Rounds : {F : Type 0} → Environment F → ℕ → World → World → Type 0
 Rounds e zero w v = v ≡ w
 Rounds e (suc r) w v = (u : World) × (n : ℕ) × Rounds e r w u × Round e (suc n) u v
 
 -- ---- a drain
 
--- rounds in each of which a flow went on, and then one in which none did; the network is quiet
+-- rounds in each of which a record was committed, and then one in which none was; the network is quiet
 abbrev pub IsDrained : {F : Type 0} → Environment F → World → World → Type 0
 IsDrained e w v = (r : ℕ) × (u : World) × Rounds e r w u × Round e 0 u v × Quiet e v
 
--- rounds in each of which a flow went on, and then the front of one, up to a turn with this outcome
+-- rounds in each of which a record was committed, and then the front of one, up to what came to this outcome
 abbrev pub DrainStops : {F : Type 0} → Environment F → Option Outcome → World → World → Type 0
 DrainStops e o w v = (r : ℕ) × (u : World) × Rounds e r w u × RoundStops e o u v
 
--- what a drain makes of a world: with true its last turn met a full journal, with false it came to an end; else its last turn ran out of memory
+-- what a drain makes of a world: with true its last turn or delivery met a full journal, with false it came to an end; else memory ran out at its last one
 abbrev pub Drains : {F E : Type 0} → Environment F → World → Result Bool E → World → Type 0
 Drains e w (Ok true) v = DrainStops e (Some (outcome.Refused 9)) w v
 Drains e w (Ok false) v = IsDrained e w v
 Drains e w (Err fault) v = DrainStops e None w v
 
--- ---- turns in any order
+-- ---- turns, posts and deliveries in any order
 
--- worlds that turns lead to, none of which met a full journal or ran out of memory
+-- a turn, a post or a delivery of a drain
+abbrev pub DoesAt : {F : Type 0} → Environment F → ℕ → World → Option Outcome → World → Type 0
+DoesAt e p w o v = TurnAt e p w o v ⊎ (WorldPosts e p w o v ⊎ HandAt e p w o v)
+
+-- worlds that turns, posts and deliveries lead to, none of which met a full journal or ran out of memory
 pub data Runs {F : Type 0} (e : Environment F) : World → World → Type 0 where
   none : {w v : World} → v ≡ w → Runs e w v
-  more : {w u v : World} (p : ℕ) (o : Outcome) → Runs e w u → TurnAt e p u (Some o) v → (o ≡ outcome.Refused 9 → ⊥) → Runs e w v
+  more : {w u v : World} (p : ℕ) (o : Outcome) → Runs e w u → DoesAt e p u (Some o) v → (o ≡ outcome.Refused 9 → ⊥) → Runs e w v
 
--- turns lead there, and a last one has this outcome
+-- they lead there, and a last one has this outcome
 abbrev pub RunsTo : {F : Type 0} → Environment F → World → Option Outcome → World → Type 0
-RunsTo e w o v = (u : World) × (p : ℕ) × Runs e w u × TurnAt e p u o v
+RunsTo e w o v = (u : World) × (p : ℕ) × Runs e w u × DoesAt e p u o v
 
--- a drain makes turns and nothing else: none met a full journal or ran out of memory but a last one that stopped it
+-- a drain makes turns, posts and deliveries and nothing else: none met a full journal or ran out of memory but a last one that stopped it
 pub record IsByTurns {F : Type 0} (e : Environment F) (w v : World) : Type 0 where
   pub drained : IsDrained e w v → Runs e w v
   pub stopped : (o : Option Outcome) → DrainStops e o w v → RunsTo e w o v
@@ -133,11 +192,24 @@ turned (outcome.Moved f) = turning.Moved
 turned (outcome.Refused code) = if code == 9 then turning.Full else turning.Quiet
 turned _ = turning.Quiet
 
--- ---- networks
+-- what the posts of a round came to: each was made, or memory ran out
+abbrev pub Posts : {F E : Type 0} → Environment F → World → Result (Unit {0}) E → World → Type 0
+Posts e w (Ok u) v = InOrder (PostsAt e) (length w.nodes) 0 w v
+Posts e w (Err fault) v = PostsStop e None w v
 
--- at the node of a place, where it is up, no flow can go on
-abbrev pub QuietAt : {F : Type 0} → Reads F → NetSeen → ℕ → Type 0
-QuietAt frame_at net p = (n : NodeSeen) → slice_get net.nodes p ≡ Some n → IfSome n.journal (λ bodies. picked net.now None (state_of frame_at bodies).flows ≡ None)
+-- what a delivery came to, by its outcome
+abbrev pub heard : Outcome → Hearing
+heard (outcome.Took upto) = heard_as.Took
+heard (outcome.Refused code) = if code == 9 then heard_as.Full else heard_as.Over
+heard _ = heard_as.Noted
+
+-- what turns and then deliveries came to
+abbrev pub joined : Turning → Turning → Turning
+joined turns turning.Quiet = turns
+joined turns turning.Moved = turning.Moved
+joined turns turning.Full = turning.Full
+
+-- ---- networks
 
 -- the network goes from one state to another as is stated of its worlds, and its room does not grow
 pub record Drives {F : Type 0} (m : Machine F) (frame_at : Reads F) (old new : NetSeen) (goal : Environment F → World → World → Type 0) : Type 0 where

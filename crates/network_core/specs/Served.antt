@@ -6,7 +6,7 @@ use Rattle.network_core.specs.declared.steps.Outcome.TheVariants as outcome
 use Rattle.network_core.specs.declared.steps.Step.{Step}
 use Rattle.network_core.specs.declared.steps.Step.TheVariants as step
 use Rattle.network_core.specs.Worlds.{World}
-use Rattle.network_core.specs.Serves.{WorldClock, WorldPlace, WorldStarts, WorldTurns, WorldCuts, WorldBoots}
+use Rattle.network_core.specs.Serves.{WorldClock, WorldPlace, WorldStarts, WorldTurns, WorldPosts, WorldHands, LosesAt, WorldCuts, WorldBoots}
 use Rattle.network_core.specs.Drains.{IsDrained, DrainStops}
 
 -- what a drain makes of a world, by its outcome
@@ -14,23 +14,19 @@ abbrev pub WorldDrains : {F : Type 0} → Environment F → World → Option Out
 WorldDrains e w None v = DrainStops e None w v
 WorldDrains e w (Some (outcome.Drained true)) v = DrainStops e (Some (outcome.Refused 9)) w v
 WorldDrains e w (Some (outcome.Drained false)) v = IsDrained e w v
-WorldDrains e w (Some outcome.Fine) v = ⊥
-WorldDrains e w (Some (outcome.Started f)) v = ⊥
-WorldDrains e w (Some (outcome.Moved f)) v = ⊥
-WorldDrains e w (Some outcome.Idle) v = ⊥
-WorldDrains e w (Some outcome.Armed) v = ⊥
-WorldDrains e w (Some outcome.Down) v = ⊥
-WorldDrains e w (Some outcome.Booted) v = ⊥
-WorldDrains e w (Some outcome.Fault) v = ⊥
-WorldDrains e w (Some (outcome.Refused code)) v = ⊥
+WorldDrains e w (Some _) v = ⊥
 
 -- what each step makes of a world, and its outcome, none at want of memory
 abbrev pub Serve : {F : Type 0} → Environment F → Step → World → Option Outcome → World → Type 0
 Serve e (step.Clock to) w o v = WorldClock to.0 w o v
 Serve e (step.Start node class args) w o v = WorldPlace node w o v (λ x r y. WorldStarts e node w.now class args x r y)
 Serve e (step.Turn node pick) w o v = WorldPlace node w o v (λ x r y. WorldTurns e node w.now pick x r y)
+Serve e (step.Post node) w o v = WorldPosts e node w o v
+Serve e (step.Deliver node at) w o v = WorldHands e false node at w o v
+Serve e (step.Repeat node at) w o v = WorldHands e true node at w o v
+Serve e (step.Lose node at) w o v = WorldPlace node w o v (λ x r y. LosesAt at x r y)
 Serve e (step.Cut node calls kind) w o v = ((3 < kind) × (o ≡ Some (outcome.Refused 1)) × (v ≡ w)) ⊎ ((kind ≤ 3) × WorldPlace node w o v (λ x r y. WorldCuts calls x r y))
-Serve e (step.Boot node) w o v = WorldPlace node w o v (λ x r y. WorldBoots x r y)
+Serve e (step.Boot node) w o v = WorldPlace node w o v (λ x r y. WorldBoots e x r y)
 Serve e step.Drain w o v = WorldDrains e w o v
 
 -- worlds that steps lead to, with their outcomes

@@ -1,11 +1,14 @@
 //! A network of nodes: its steps, and what each makes of the world (Corda 4 documentation, "The network", "Flows", "Checkpointing").
 //!
-//! A world says of each node whether it is up, its journal, and which journals a power cut may leave. It is coherent where each of
-//! these is one that the node's own steps make; every choice of them is then that of one run of the network.
+//! A world says of each node whether it is up, its journal, which journals a power cut may leave, what of what it sent is acknowledged,
+//! and which frames wait at it. It is coherent where each of these journals is one that the node's own steps make, and where, whichever of
+//! them are left, they agree with each other and with the frames under way; they are then those of one run of the network, which knows
+//! neither disks nor frames.
 #![tactic(auto)]
 
 mod begin;
 mod laws;
+mod mail;
 mod net;
 mod serving;
 mod steps;

@@ -1,16 +1,19 @@
 //! A network, and its steps.
 
-ghost use Rattle.std.specs.Prelude.{◌≡◌, ◌⊎◌, ◌≤◌, ◌<◌, List, ℕ, length, map, Some, None, IfOk, IfErr, true, false, [], vec_capacity};
+ghost use Rattle.std.specs.Prelude.{◌≡◌, ◌≤◌, ◌<◌, List, ℕ, length, map, slice_get, Some, None, IsSome, IfOk, IfErr, true, false, [], vec_capacity};
 ghost use Rattle.node_core.specs.Disks.{roomless};
+ghost use Rattle.node_core.specs.Seen.{NodeSeen};
 ghost use Rattle.network_core.specs.Worlds.{KeepsWorld};
-ghost use Rattle.network_core.specs.Answers.{AtPlace, StartServes, TurnServes, CutServes, BootServes, ClockServes, BootClock, said};
+ghost use Rattle.std.specs.List.{AllByRecursion};
+ghost use Rattle.network_core.specs.Answers.{AtPlace, StartServes, TurnServes, PostServes, HandServes, Handed, LoseServes, CutServes, BootServes, ClockServes, BootClock, said};
 ghost use Rattle.network_core.specs.Begins.{BeginsWorld, IsRefused, BootsUpTo, nodes_over as over_disks};
-ghost use Rattle.network_core.specs.Drains.{Drains, Drives, QuietAt, Round, RoundStops, StopsAt, Turns, TurnsAt, room, turned};
+ghost use Rattle.network_core.specs.Drains.{DeliversAt, Drains, Drives, HandStops, HandsStop, InOrder, Posts, Round, RoundStops, StopsAt, Turns, TurnsAt, TurnsStop, heard, joined, room, turned};
 ghost use Rattle.network_core.specs.Served.{Serve, Follows};
 ghost use Rattle.network_core.specs.declared.net.Turning.TheVariants as turning;
 
 use super::begin::{BeginRefused, boot_all, disks_of, nodes_over};
-use super::serving::{boot_at, cut_at, start_at, turn_at};
+use super::mail::{make_room, no_frames, send_all, settle};
+use super::serving::{boot_at, cut_at, post_at, start_at, take_at, turn_at, waits_on};
 use super::{Outcome, Step};
 use flow_machine::FlowSet;
 use net_base::{ByteList, Moment, Party};
@@ -18,29 +21,32 @@ use node_core::{BootFault, Node};
 use outside::Bay;
 use std::alloc::{AllocError, Global};
 use std::marker::Model;
+use waiting_frames::Waiting;
 
-/// A network: its nodes, in the order of their places, and its moment.
+/// A network: its nodes, in the order of their places, the frames that wait at each, and its moment.
 ///
-/// Contracts see the nodes and the moment. A network that shows a coherent world goes to such a world by each step.
+/// Contracts see the nodes, the frames and the moment. A network that shows a coherent world goes to such a world by each step.
 #[derive(Drop)]
 pub struct Net<D: Bay, F: FlowSet> {
     nodes: Vec<Node<D, F>>,
+    /// One list for each node.
+    waiting: Vec<Waiting>,
     /// Without items, and with room for the disks of all nodes.
     spare: Vec<D>,
     now: Moment,
 }
 
 impl<D: Bay, F: FlowSet> Model for Net<D, F> {
-    ghost use Rattle.std.specs.Prelude.{◌≡◌, ◌≤◌, [], length, vec_capacity};
+    ghost use Rattle.std.specs.Prelude.{◌≡◌, ◌≤◌, [], length, map, vec_capacity};
     ghost use Rattle.std.specs.List.{AllByRecursion};
     ghost use Rattle.node_core.specs.Seen.{IsBy};
     ghost use Rattle.network_core.specs.Worlds.{NetSeen};
 
     ghost Value = { NetSeen };
 
-    ghost view = { λ n. record { nodes = n.nodes.items; now = n.now.0 } };
+    ghost view = { λ n. record { nodes = n.nodes.items; waiting = map (λ w. w.frames) n.waiting.items; now = n.now.0 } };
 
-    ghost invariant = { λ n. AllByRecursion (λ k. IsBy F.reading k.journal n.now.0) n.nodes.items × (n.spare.items ≡ []) × (length n.nodes.items ≤ vec_capacity n.spare) × (length n.nodes.items ≤ 16) };
+    ghost invariant = { λ n. AllByRecursion (λ k. IsBy F.reading k.journal n.now.0) n.nodes.items × (n.spare.items ≡ []) × (length n.nodes.items ≤ vec_capacity n.spare) × (length n.nodes.items ≤ 16) × (length n.waiting.items ≡ length n.nodes.items) };
 }
 
 impl<D: Bay, F: FlowSet> Net<D, F> {
@@ -73,9 +79,13 @@ impl<D: Bay, F: FlowSet> Net<D, F> {
         let Ok(spare) = Vec::with_capacity(alloc, disks.len()) else {
             return Err(BeginRefused { disks, node, why });
         };
+        let Ok(lists) = Vec::with_capacity(alloc, disks.len()) else {
+            return Err(BeginRefused { disks, node, why });
+        };
         let mut places = nodes_over(nodes, notary, disks, places);
         match boot_all(alloc, &mut places) {
             Ok(now) => Ok(Net {
+                waiting: no_frames(alloc, nodes as usize, lists),
                 nodes: places,
                 spare,
                 now,
@@ -114,8 +124,8 @@ impl<D: Bay, F: FlowSet> Net<D, F> {
     ///
     /// # Errors
     ///
-    /// `AllocError` for want of memory. Nothing has changed then, but that a drain keeps the turns that it made, and that a node
-    /// that was to be booted has its power back.
+    /// `AllocError` for want of memory. Nothing has changed then, but that a drain keeps what it did, and that a node that was to be
+    /// booted has its power back.
     pub fn apply(&mut self, alloc: Global, step: &Step) -> Result<Outcome, AllocError>
         ensures serves { KeepsWorld F.machine F.reading self.old self.new (λ e w v. Serve e step.now w (said result) v) }
         ensures count { length self.new.nodes ≡ length self.old.nodes }
@@ -124,6 +134,10 @@ impl<D: Bay, F: FlowSet> Net<D, F> {
             Step::Clock { to } => Ok(self.clock(*to)),
             Step::Start { node, class, args } => self.start(alloc, *node, *class, args),
             Step::Turn { node, pick } => self.turn(alloc, *node as usize, *pick),
+            Step::Post { node } => self.post(alloc, *node as usize),
+            Step::Deliver { node, at } => self.hand(alloc, *node as usize, *at as usize, false),
+            Step::Repeat { node, at } => self.hand(alloc, *node as usize, *at as usize, true),
+            Step::Lose { node, at } => self.lose(*node as usize, *at as usize),
             Step::Boot { node } => self.boot(alloc, *node),
             Step::Drain => match self.drain(alloc) {
                 Ok(full) => Ok(Outcome::Drained { full }),
@@ -157,13 +171,14 @@ impl<D: Bay, F: FlowSet> Net<D, F> {
         true
     }
 
-    /// Makes rounds of turns. A round makes turns at each node in the order of places, until no flow of it can go on, its disk failed, or
-    /// it is down. After the first round in which no flow went on no flow at a node that is up can go on, and the answer is false; a turn
-    /// that meets a full journal ends all, and the answer is true.
+    /// Makes rounds. A round makes turns at each node in the order of places, until no flow of it can go on, its disk failed, or it is
+    /// down; then it posts each node; then it delivers at each node one frame after another, until none waits or it is down. After the
+    /// first round in which nothing was committed no flow at a node that is up can go on, and what nodes that are up sent each other has
+    /// arrived: the answer is false. A turn or a delivery that meets a full journal ends all: the answer is true.
     ///
     /// # Errors
     ///
-    /// `AllocError` for want of memory at a turn; those before it stay.
+    /// `AllocError` for want of memory at a turn, a post or a delivery; what was done before it stays.
     pub fn drain(&mut self, alloc: Global) -> Result<bool, AllocError>
         ensures { Drives F.machine F.reading self.old self.new (λ e w v. Drains e w result v) }
     {
@@ -176,11 +191,24 @@ impl<D: Bay, F: FlowSet> Net<D, F> {
         }
     }
 
-    /// Makes the turns at each node in the order of places, until one meets a full journal.
+    /// Makes the turns, then the posts, then the deliveries, until something meets a full journal.
     fn round(&mut self, alloc: Global) -> Result<Turning, AllocError>
         ensures drives { Drives F.machine F.reading self.old self.new (λ e w v. Turns result (Round e) (RoundStops e) w v) }
         ensures moved { IfOk result (λ t. t ≡ turning.Moved → room self.new < room self.old) }
-        ensures quiet { IfOk result (λ t. t ≡ turning.Quiet → (p : ℕ) → QuietAt F.reading self.new p) }
+    {
+        let turns = self.turns(alloc)?;
+        if is_full(turns) {
+            return Ok(Turning::Full);
+        }
+        self.posts(alloc)?;
+        let deliveries = self.deliveries(alloc)?;
+        Ok(joined(turns, deliveries))
+    }
+
+    /// Makes the turns at each node in the order of places, until one meets a full journal.
+    fn turns(&mut self, alloc: Global) -> Result<Turning, AllocError>
+        ensures drives { Drives F.machine F.reading self.old self.new (λ e w v. Turns result (InOrder (TurnsAt e) (length w.nodes)) (TurnsStop e) w v) }
+        ensures moved { IfOk result (λ t. t ≡ turning.Moved → room self.new < room self.old) }
     {
         let mut any_moved = false;
         let count = self.nodes.len();
@@ -199,8 +227,6 @@ impl<D: Bay, F: FlowSet> Net<D, F> {
         requires { place < length self.old.nodes }
         ensures drives { Drives F.machine F.reading self.old self.new (λ e w v. Turns result (TurnsAt e place) (StopsAt e place) w v) }
         ensures moved { IfOk result (λ t. t ≡ turning.Moved → room self.new < room self.old) }
-        ensures quiet { IfOk result (λ t. t ≡ turning.Quiet → (p : ℕ) → (p ≡ place) ⊎ QuietAt F.reading self.old p → QuietAt F.reading self.new p) }
-        ensures count { length self.new.nodes ≡ length self.old.nodes }
     {
         let mut moved = false;
         'turns: loop {
@@ -211,6 +237,55 @@ impl<D: Bay, F: FlowSet> Net<D, F> {
                 Turning::Moved => moved = true,
             }
         }
+    }
+
+    /// Posts each node, in the order of places.
+    fn posts(&mut self, alloc: Global) -> Result<(), AllocError>
+        ensures { Drives F.machine F.reading self.old self.new (λ e w v. Posts e w result v) }
+    {
+        let count = self.nodes.len();
+        'places: for place in 0..count {
+            let _ = self.post(alloc, place)?;
+        }
+        Ok(())
+    }
+
+    /// Makes the deliveries at each node in the order of places, until one meets a full journal.
+    fn deliveries(&mut self, alloc: Global) -> Result<Turning, AllocError>
+        ensures drives { Drives F.machine F.reading self.old self.new (λ e w v. Turns result (InOrder (DeliversAt e) (length w.nodes)) (HandsStop e) w v) }
+        ensures moved { IfOk result (λ t. t ≡ turning.Moved → room self.new < room self.old) }
+    {
+        let mut any_moved = false;
+        let count = self.nodes.len();
+        'places: for place in 0..count {
+            match self.deliveries_at(alloc, place)? {
+                Turning::Quiet => {}
+                Turning::Full => return Ok(Turning::Full),
+                Turning::Moved => any_moved = true,
+            }
+        }
+        Ok(turning_of(any_moved))
+    }
+
+    /// Delivers at one node the frames that wait there, one after another, as long as it is up; or until one meets a full journal. A node
+    /// that takes a frame sends nothing to itself, so none waits in the end.
+    fn deliveries_at(&mut self, alloc: Global, place: usize) -> Result<Turning, AllocError>
+        requires { place < length self.old.nodes }
+        ensures drives { Drives F.machine F.reading self.old self.new (λ e w v. Turns result (DeliversAt e place) (HandStops e place) w v) }
+        ensures moved { IfOk result (λ t. t ≡ turning.Moved → room self.new < room self.old) }
+    {
+        let mut moved = false;
+        let count = self.waiting[place].len();
+        'frames: for _ in 0..count {
+            let outcome = self.hand(alloc, place, 0, false)?;
+            match heard(outcome) {
+                Hearing::Over => return Ok(turning_of(moved)),
+                Hearing::Full => return Ok(Turning::Full),
+                Hearing::Noted => {}
+                Hearing::Took => moved = true,
+            }
+        }
+        Ok(turning_of(moved))
     }
 
     fn clock(&mut self, to: Moment) -> Outcome
@@ -259,6 +334,78 @@ impl<D: Bay, F: FlowSet> Net<D, F> {
         turn_at(alloc, node, now, pick)
     }
 
+    fn post(&mut self, alloc: Global, place: usize) -> Result<Outcome, AllocError>
+        ensures { PostServes F.reading place self.old result self.new }
+    {
+        if place >= self.nodes.len() {
+            return Ok(Outcome::Refused { code: 2 });
+        }
+        match post_at(alloc, &self.nodes[place])? {
+            Some(frames) => {
+                make_room(&mut self.waiting, frames.len())?;
+                let count = send_all(&mut self.waiting, frames);
+                Ok(Outcome::Posted { count })
+            }
+            None => Ok(Outcome::Refused { code: 3 }),
+        }
+    }
+
+    /// Hands the frame at a place of a node to it, or a copy.
+    fn hand(
+        &mut self,
+        alloc: Global,
+        place: usize,
+        at: usize,
+        repeated: bool,
+    ) -> Result<Outcome, AllocError>
+        ensures { HandServes F.machine F.reading repeated place at self.old result self.new }
+    {
+        if place >= self.nodes.len() {
+            return Ok(Outcome::Refused { code: 2 });
+        }
+        if !self.nodes[place].is_up() {
+            return Ok(Outcome::Refused { code: 3 });
+        }
+        if at >= self.waiting[place].len() {
+            return Ok(Outcome::Refused { code: 7 });
+        }
+        self.hand_over(alloc, place, at, repeated)
+    }
+
+    /// Hands a frame that waits to its node. There is room for the acknowledgement before anything is committed.
+    fn hand_over(
+        &mut self,
+        alloc: Global,
+        place: usize,
+        at: usize,
+        repeated: bool,
+    ) -> Result<Outcome, AllocError>
+        requires node { (n : NodeSeen) × (slice_get self.old.nodes place ≡ Some n) × IsSome n.journal }
+        requires frame { (frames : List (List ℕ)) × (slice_get self.old.waiting place ≡ Some frames) × (at < length frames) }
+        ensures { HandServes F.machine F.reading repeated place at self.old result self.new }
+    {
+        make_room(&mut self.waiting, 1)?;
+        let now = self.now;
+        let bytes = self.waiting[place].get(at).unwrap();
+        let node = &mut self.nodes[place];
+        let reply = take_at(alloc, node, now, bytes)?;
+        let waits = waits_on(repeated, reply.outcome);
+        settle(&mut self.waiting, place, at, waits, reply.ack);
+        Ok(reply.outcome)
+    }
+
+    fn lose(&mut self, place: usize, at: usize) -> Result<Outcome, AllocError>
+        ensures { LoseServes place at self.old result self.new }
+    {
+        if place >= self.waiting.len() {
+            return Ok(Outcome::Refused { code: 2 });
+        }
+        match self.waiting[place].remove(at) {
+            Some(_) => Ok(Outcome::Lost),
+            None => Ok(Outcome::Refused { code: 7 }),
+        }
+    }
+
     fn boot(&mut self, alloc: Global, place: u8) -> Result<Outcome, AllocError>
         ensures serves { AtPlace place self.old result self.new (λ n r k. BootServes F.reading n r k) }
         ensures clock { BootClock F.reading place self.old self.new }
@@ -288,7 +435,7 @@ impl<D: Bay, F: FlowSet> Net<D, F> {
     }
 }
 
-/// What turns came to: none was made, as no flow can go on; some were; or the last met a full journal.
+/// What turns or deliveries came to: nothing was committed; something was; or the last met a full journal.
 #[derive(Clone, Copy, Debug, PartialEq, Eq)]
 pub enum Turning {
     Quiet,
@@ -313,7 +460,52 @@ fn turned(outcome: Outcome) -> Turning
     }
 }
 
-/// What turns came to of which none met a full journal.
+/// What one delivery came to: none waits, or the node is down; the journal is full; a frame was taken away, and nothing was committed; or
+/// a record was.
+#[derive(Clone, Copy, Debug, PartialEq, Eq)]
+pub enum Hearing {
+    Over,
+    Full,
+    Noted,
+    Took,
+}
+
+/// What one delivery came to.
+fn heard(outcome: Outcome) -> Hearing
+    ensures { result ≡ heard outcome }
+{
+    match outcome {
+        Outcome::Took { .. } => Hearing::Took,
+        Outcome::Refused { code } => {
+            if code == 9 {
+                Hearing::Full
+            } else {
+                Hearing::Over
+            }
+        }
+        _ => Hearing::Noted,
+    }
+}
+
+/// Whether what was done met a full journal.
+fn is_full(done: Turning) -> bool
+    ensures full { result ≡ true → done ≡ turning.Full }
+    ensures other { result ≡ false → done ≡ turning.Full → ⊥ }
+{
+    matches!(done, Turning::Full)
+}
+
+/// What turns and then deliveries came to; the turns met no full journal.
+fn joined(turns: Turning, deliveries: Turning) -> Turning
+    ensures { result ≡ joined turns deliveries }
+{
+    match deliveries {
+        Turning::Quiet => turns,
+        _ => deliveries,
+    }
+}
+
+/// What turns or deliveries came to of which none met a full journal.
 fn turning_of(moved: bool) -> Turning
     ensures moved { result ≡ turning.Moved → moved ≡ true }
     ensures quiet { result ≡ turning.Quiet → moved ≡ false }

@@ -1,14 +1,19 @@
 //! One call of one node, and its outcome.
 
-ghost use Rattle.std.specs.Prelude.{◌≡◌, ◌≤◌, ℕ, Some};
+ghost use Rattle.std.specs.Prelude.{◌≡◌, ◌≤◌, ℕ, Some, None, Ok};
+ghost use Rattle.std.specs.Option.{option_to_list};
 ghost use Rattle.node_core.specs.Seen.{IsBy};
-ghost use Rattle.network_core.specs.Answers.{StartServes, TurnServes, CutServes, BootServes, boot_outcome, said};
+ghost use Rattle.network_core.specs.Answers.{StartServes, TurnServes, SendServes, TakeServes, CutServes, BootServes, IsCounted, boot_outcome, replied, reached, said, take_outcome, take_sent};
+ghost use Rattle.network_core.specs.Serves.{waits_on};
 
 use super::Outcome;
 use flow_machine::FlowSet;
 use net_base::{ByteList, Moment};
-use node_core::{BootFault, CutFault, Node, StartFault, TurnFault, Turned};
+use node_core::{
+    BootFault, CutFault, Node, StartFault, TakeFault, Taken, TurnFault, Turned, UnackedFault,
+};
 use outside::Bay;
+use session_frames::{Outgoing, OutgoingList};
 use std::alloc::{AllocError, Global};
 
 /// Starts a flow at a node.
@@ -53,6 +58,95 @@ pub fn turn_at<D: Bay, F: FlowSet>(
         Err(TurnFault::Memory) => Err(AllocError),
         Err(TurnFault::Fault) => Ok(Outcome::Fault),
     }
+}
+
+/// The frames that a node has to send, none where it is down.
+pub fn post_at<D: Bay, F: FlowSet>(
+    alloc: Global,
+    node: &Node<D, F>,
+) -> Result<Option<OutgoingList>, AllocError>
+    ensures { SendServes F.reading node.now result }
+{
+    match node.unacked(alloc) {
+        Ok(frames) => Ok(Some(frames)),
+        Err(UnackedFault::NodeDown) => Ok(None),
+        Err(UnackedFault::Memory) => Err(AllocError),
+    }
+}
+
+/// What a frame came to at a node, and the acknowledgement that it sends, if there is one.
+#[derive(Debug, Drop)]
+pub struct Reply {
+    pub outcome: Outcome,
+    pub ack: Option<Outgoing>,
+}
+
+/// Hands a frame to a node.
+pub fn take_at<D: Bay, F: FlowSet>(
+    alloc: Global,
+    node: &mut Node<D, F>,
+    now: Moment,
+    bytes: &[u8],
+) -> Result<Reply, AllocError>
+    requires { IsBy F.reading node.old.journal now.0 }
+    ensures serves { TakeServes F.machine F.reading now.0 bytes.now node.old result node.new }
+    ensures by { IsBy F.reading node.new.journal now.0 }
+{
+    reply_of(node.take(alloc, now, bytes))
+}
+
+/// The outcome of a frame that was handed to a node. One that spells no frame, or is another's, is of no session; none that waits in a
+/// coherent world is such a one.
+fn reply_of(answer: Result<Taken, TakeFault>) -> Result<Reply, AllocError>
+    ensures outcome { reached result ≡ take_outcome answer }
+    ensures sent { replied result ≡ take_sent answer }
+    ensures counted { IsCounted answer }
+{
+    match answer {
+        Ok(taken) => Ok(reply_to(taken)),
+        Err(TakeFault::Memory) => Err(AllocError),
+        Err(TakeFault::NodeDown) => Ok(without_ack(Outcome::Refused { code: 3 })),
+        Err(TakeFault::Full) => Ok(without_ack(Outcome::Refused { code: 9 })),
+        Err(TakeFault::Fault) => Ok(without_ack(Outcome::Fault)),
+        Err(TakeFault::Garbled) => Ok(without_ack(Outcome::NoSession)),
+        Err(TakeFault::NotMine { .. }) => Ok(without_ack(Outcome::NoSession)),
+    }
+}
+
+/// The outcome of a frame that a node took.
+fn reply_to(taken: Taken) -> Reply
+    ensures outcome { Some result.outcome ≡ take_outcome (Ok taken) }
+    ensures sent { option_to_list result.ack ≡ take_sent (Ok taken) }
+    ensures counted { IsCounted (Ok taken) }
+{
+    match taken {
+        Taken::Acked => without_ack(Outcome::Acked),
+        Taken::NoSession => without_ack(Outcome::NoSession),
+        Taken::Early { expected } => without_ack(Outcome::Early { expected }),
+        Taken::Again { expected, ack } => Reply {
+            outcome: Outcome::Again { expected },
+            ack: Some(ack),
+        },
+        Taken::Took { upto, ack } => Reply {
+            outcome: Outcome::Took { upto },
+            ack: Some(ack),
+        },
+    }
+}
+
+/// An outcome by which nothing is sent.
+fn without_ack(outcome: Outcome) -> Reply
+    ensures outcome { result.outcome ≡ outcome }
+    ensures ack { result.ack ≡ None }
+{
+    Reply { outcome, ack: None }
+}
+
+/// Whether a frame that was handed over with this outcome waits on.
+pub fn waits_on(repeated: bool, outcome: Outcome) -> bool
+    ensures { result ≡ waits_on repeated (Some outcome) }
+{
+    repeated || matches!(outcome, Outcome::Refused { .. })
 }
 
 /// Cuts the power of a node's disk.

@@ -20,6 +20,26 @@ pub enum Step {
         node: u8,
         pick: Option<u32>,
     },
+    /// A node sends the messages of all its items that aren't acknowledged: each joins the frames that wait at its addressee, unless equal
+    /// bytes wait there.
+    Post {
+        node: u8,
+    },
+    /// The frame at this place, from 0, of those that wait at a node is taken away and handed to the node. At a full journal it stays.
+    Deliver {
+        node: u8,
+        at: u32,
+    },
+    /// A copy of that frame is handed to the node.
+    Repeat {
+        node: u8,
+        at: u32,
+    },
+    /// That frame is taken away.
+    Lose {
+        node: u8,
+        at: u32,
+    },
     /// A node's disk loses its power now, where `calls` is 0, or at the write or sync that comes as that number. The outcome, 0 to 3, says
     /// what is left of what was written since the last sync.
     Cut {
@@ -31,7 +51,8 @@ pub enum Step {
     Boot {
         node: u8,
     },
-    /// Rounds of turns at the nodes that are up, in the order of places, until no flow can go on.
+    /// Rounds, each of turns at the nodes that are up, then of their posts, then of deliveries, in the order of places, until one commits
+    /// nothing, or a journal is full.
     Drain,
 }
 
@@ -46,6 +67,20 @@ pub enum Outcome {
     Moved { flow: u32 },
     /// No flow, or not the picked one, can go on.
     Idle,
+    /// So many frames were new among those that wait where they go.
+    Posted { count: u64 },
+    /// The item is committed: so many of its session have arrived.
+    Took { upto: u32 },
+    /// The acknowledgement is noted.
+    Acked,
+    /// The item had arrived before; so many of its session have arrived.
+    Again { expected: u32 },
+    /// The frame is ahead of the node: of the item with this number, or of more than this number of items.
+    Early { expected: u32 },
+    /// The frame is of no session of the node with its sender.
+    NoSession,
+    /// The frame is taken away.
+    Lost,
     /// The power will go.
     Armed,
     /// The power went, and the node is down.
@@ -54,10 +89,10 @@ pub enum Outcome {
     Booted,
     /// The disk failed, and the node is down.
     Fault,
-    /// No flow can go on, or a node's journal is full.
+    /// A round committed nothing, or a journal is full.
     Drained { full: bool },
     /// Nothing changed but, with 13, the power: 1 the outcome of a cut is above 3, 2 there is no such node, 3 the node is down, 4 it is
-    /// up, 5 the class of a flow is unknown, 6 its arguments are refused, 8 the disk is a file, 9 the journal is full, 10 the moment
-    /// is past, 13 the boot found no journal of this node, or a damaged one.
+    /// up, 5 the class of a flow is unknown, 6 its arguments are refused, 7 no frame waits at that place, 8 the disk is a file, 9 the
+    /// journal is full, 10 the moment is past, 13 the boot found no journal of this node, or a damaged one.
     Refused { code: u8 },
 }

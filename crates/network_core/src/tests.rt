@@ -1,9 +1,10 @@
 use super::{BeginRefused, Net, Outcome, Step, coherent_is_faithful, drains_by_turns};
 use disk_mem::MemDisk;
-use flow_machine::Counter;
+use flow_machine::{Counter, FlowSet};
 use net_base::{ByteList, Moment, Party};
 use node_core::BootFault;
 use outside::Bay;
+use shipped_flows::ShippedFlow;
 use std::alloc::Global;
 use std::test::Fail;
 
@@ -14,8 +15,16 @@ enum Asked {
     // A flow that counts sleeps so many times.
     Count { node: u8, sleeps: u32 },
     Turn { node: u8, pick: Option<u32> },
+    // The ping flow: a session with this node, and one number.
+    Ping { to: u8 },
+    Post(u8),
+    Deliver { node: u8, at: u32 },
+    Repeat { node: u8, at: u32 },
+    Lose { node: u8, at: u32 },
     Cut { calls: u64, outcome: u8 },
+    CutAt { node: u8, calls: u64, outcome: u8 },
     Boot,
+    BootAt(u8),
     Drain,
 }
 
@@ -28,7 +37,26 @@ fn step_of(alloc: Global, asked: Asked) -> Result<Step, Fail> {
             class: 1,
             args: ByteList::from_vec(sleeps.to_be_bytes().to_vec(alloc)?),
         },
+        Asked::Ping { to } => Step::Start {
+            node: 0,
+            class: 2,
+            args: ByteList::from_slice(alloc, &[to, 0, 0, 0, 1])?,
+        },
         Asked::Turn { node, pick } => Step::Turn { node, pick },
+        Asked::Post(node) => Step::Post { node },
+        Asked::Deliver { node, at } => Step::Deliver { node, at },
+        Asked::Repeat { node, at } => Step::Repeat { node, at },
+        Asked::Lose { node, at } => Step::Lose { node, at },
+        Asked::CutAt {
+            node,
+            calls,
+            outcome,
+        } => Step::Cut {
+            node,
+            calls,
+            outcome,
+        },
+        Asked::BootAt(node) => Step::Boot { node },
         Asked::Cut { calls, outcome } => Step::Cut {
             node: 0,
             calls,
@@ -40,15 +68,19 @@ fn step_of(alloc: Global, asked: Asked) -> Result<Step, Fail> {
 }
 
 // What the network answers.
-fn answer(alloc: Global, net: &mut Net<MemDisk, Counter>, asked: Asked) -> Result<Outcome, Fail> {
+fn answer<F: FlowSet>(
+    alloc: Global,
+    net: &mut Net<MemDisk, F>,
+    asked: Asked,
+) -> Result<Outcome, Fail> {
     let step = step_of(alloc, asked)?;
     Ok(net.apply(alloc, &step)?)
 }
 
 // Asks in order, up to the first that is not answered as it must be.
-fn ask(
+fn ask<F: FlowSet>(
     alloc: Global,
-    net: &mut Net<MemDisk, Counter>,
+    net: &mut Net<MemDisk, F>,
     rows: &[(Asked, Outcome)],
 ) -> Result<(), Fail> {
     for &(asked, wanted) in rows {
@@ -59,10 +91,10 @@ fn ask(
     Ok(())
 }
 
-type Begun = Result<Net<MemDisk, Counter>, BeginRefused<MemDisk>>;
+type Begun<F> = Result<Net<MemDisk, F>, BeginRefused<MemDisk>>;
 
 // A network of one node over each disk.
-fn begin_over(alloc: Global, disks: Vec<MemDisk>) -> Result<Begun, Fail> {
+fn begin_over<F: FlowSet>(alloc: Global, disks: Vec<MemDisk>) -> Result<Begun<F>, Fail> {
     let nodes = disks.len();
     if nodes == 0 || nodes > 16 {
         return Err(Fail::new("another number of disks"));
@@ -71,7 +103,7 @@ fn begin_over(alloc: Global, disks: Vec<MemDisk>) -> Result<Begun, Fail> {
 }
 
 // A network over this number of fresh disks.
-fn begin(alloc: Global, nodes: usize) -> Result<Net<MemDisk, Counter>, Fail> {
+fn begin<F: FlowSet>(alloc: Global, nodes: usize) -> Result<Net<MemDisk, F>, Fail> {
     let mut disks = Vec::with_capacity(alloc, nodes)?;
     for _ in 0..nodes {
         disks.push(MemDisk::new(alloc))?;
@@ -100,7 +132,7 @@ fn a_node_runs(rt: HostRuntime) -> Result<(), Fail> {
     let alloc = rt.alloc();
     coherent_is_faithful::<Counter>();
     drains_by_turns::<Counter>();
-    let mut net = begin(alloc, 1)?;
+    let mut net = begin::<Counter>(alloc, 1)?;
     assert_eq!(rt; net.nodes().len(), 1);
     let rows = [
         (Asked::Clock(5), Outcome::Fine),
@@ -131,7 +163,7 @@ fn a_node_runs(rt: HostRuntime) -> Result<(), Fail> {
 #[test]
 fn a_node_is_cut(rt: HostRuntime) -> Result<(), Fail> {
     let alloc = rt.alloc();
-    let mut net = begin(alloc, 1)?;
+    let mut net = begin::<Counter>(alloc, 1)?;
     let rows = [
         // The power goes before the record stands, and after it.
         (cut(1, 0), Outcome::Armed),
@@ -152,7 +184,7 @@ fn a_node_is_cut(rt: HostRuntime) -> Result<(), Fail> {
 
 // The disk of a network whose node lost its power after a flow began at moment 5.
 fn cut_disk(alloc: Global) -> Result<Vec<MemDisk>, Fail> {
-    let mut net = begin(alloc, 1)?;
+    let mut net = begin::<Counter>(alloc, 1)?;
     let rows = [
         (Asked::Clock(5), Outcome::Fine),
         (count(0, 0), Outcome::Started { flow: 0 }),
@@ -165,7 +197,7 @@ fn cut_disk(alloc: Global) -> Result<Vec<MemDisk>, Fail> {
 #[test]
 fn a_network_begins_again_with_power(rt: HostRuntime) -> Result<(), Fail> {
     let alloc = rt.alloc();
-    let Err(refused) = begin_over(alloc, cut_disk(alloc)?)? else {
+    let Err(refused) = begin_over::<Counter>(alloc, cut_disk(alloc)?)? else {
         return Err(Fail::new("begun"));
     };
     assert_eq!(rt; refused.node, 0);
@@ -175,7 +207,7 @@ fn a_network_begins_again_with_power(rt: HostRuntime) -> Result<(), Fail> {
         return Err(Fail::new("the disk is gone"));
     };
     disk.restore_power();
-    let Ok(again) = begin_over(alloc, disks)? else {
+    let Ok(again) = begin_over::<Counter>(alloc, disks)? else {
         return Err(Fail::new("refused"));
     };
 
@@ -187,7 +219,7 @@ fn a_network_begins_again_with_power(rt: HostRuntime) -> Result<(), Fail> {
 #[test]
 fn steps_are_answered_in_order(rt: HostRuntime) -> Result<(), Fail> {
     let alloc = rt.alloc();
-    let mut net = begin(alloc, 1)?;
+    let mut net = begin::<Counter>(alloc, 1)?;
     let mut steps = Vec::with_capacity(alloc, 2)?;
     steps.push(Step::Drain)?;
     steps.push(Step::Boot { node: 0 })?;
@@ -205,7 +237,7 @@ fn steps_are_answered_in_order(rt: HostRuntime) -> Result<(), Fail> {
 #[test]
 fn a_drain_passes_over_a_node_that_is_down(rt: HostRuntime) -> Result<(), Fail> {
     let alloc = rt.alloc();
-    let mut net = begin(alloc, 2)?;
+    let mut net = begin::<Counter>(alloc, 2)?;
     let rows = [
         (count(0, 2), Outcome::Started { flow: 0 }),
         (count(1, 3), Outcome::Started { flow: 0 }),
@@ -223,6 +255,82 @@ fn a_drain_passes_over_a_node_that_is_down(rt: HostRuntime) -> Result<(), Fail> 
         (TURN, Outcome::Moved { flow: 0 }),
         (Asked::Drain, Outcome::Drained { full: false }),
         (TURN, Outcome::Idle),
+    ];
+    ask(alloc, &mut net, rows.as_slice())
+}
+
+#[test]
+fn nodes_without_frames(rt: HostRuntime) -> Result<(), Fail> {
+    let alloc = rt.alloc();
+    let mut net = begin::<Counter>(alloc, 1)?;
+    let rows = [
+        (Asked::Post(0), Outcome::Posted { count: 0 }),
+        (Asked::Post(1), Outcome::Refused { code: 2 }),
+        (
+            Asked::Deliver { node: 1, at: 0 },
+            Outcome::Refused { code: 2 },
+        ),
+        (
+            Asked::Deliver { node: 0, at: 0 },
+            Outcome::Refused { code: 7 },
+        ),
+        (Asked::Lose { node: 1, at: 0 }, Outcome::Refused { code: 2 }),
+        (cut(0, 0), Outcome::Down),
+        (Asked::Post(0), Outcome::Refused { code: 3 }),
+        (
+            Asked::Deliver { node: 0, at: 0 },
+            Outcome::Refused { code: 3 },
+        ),
+        (Asked::Lose { node: 0, at: 0 }, Outcome::Refused { code: 7 }),
+    ];
+    ask(alloc, &mut net, rows.as_slice())
+}
+
+#[test]
+fn a_frame_comes_twice_and_its_acknowledgement_is_lost(rt: HostRuntime) -> Result<(), Fail> {
+    let alloc = rt.alloc();
+    let mut net = begin::<ShippedFlow>(alloc, 2)?;
+    let rows = [
+        (Asked::Ping { to: 1 }, Outcome::Started { flow: 0 }),
+        (TURN, Outcome::Moved { flow: 0 }),
+        (Asked::Post(0), Outcome::Posted { count: 1 }),
+        (Asked::Post(0), Outcome::Posted { count: 0 }),
+        (Asked::Repeat { node: 1, at: 0 }, Outcome::Took { upto: 1 }),
+        (
+            Asked::Deliver { node: 1, at: 0 },
+            Outcome::Again { expected: 1 },
+        ),
+        (Asked::Lose { node: 0, at: 0 }, Outcome::Lost),
+        (Asked::Lose { node: 0, at: 0 }, Outcome::Refused { code: 7 }),
+        (Asked::Drain, Outcome::Drained { full: false }),
+        (TURN, Outcome::Idle),
+    ];
+    ask(alloc, &mut net, rows.as_slice())
+}
+
+#[test]
+fn a_frame_is_taken_again_after_a_cut(rt: HostRuntime) -> Result<(), Fail> {
+    let alloc = rt.alloc();
+    let mut net = begin::<ShippedFlow>(alloc, 2)?;
+    let rows = [
+        (Asked::Ping { to: 1 }, Outcome::Started { flow: 0 }),
+        (TURN, Outcome::Moved { flow: 0 }),
+        (Asked::Post(0), Outcome::Posted { count: 1 }),
+        (
+            Asked::CutAt {
+                node: 1,
+                calls: 2,
+                outcome: 1,
+            },
+            Outcome::Armed,
+        ),
+        (Asked::Deliver { node: 1, at: 0 }, Outcome::Fault),
+        (Asked::BootAt(1), Outcome::Booted),
+        (Asked::Drain, Outcome::Drained { full: false }),
+        (
+            Asked::Deliver { node: 1, at: 0 },
+            Outcome::Refused { code: 7 },
+        ),
     ];
     ask(alloc, &mut net, rows.as_slice())
 }

@@ -1,6 +1,7 @@
-use Rattle.std.proofs.Common.{arith}
-use Rattle.network_core.proofs.Places.{start_world, turn_world, cut_within, clock_world}
+use Rattle.std.proofs.Common.{arith, true, false}
+use Rattle.network_core.proofs.Places.{start_world, turn_world, cut_within, clock_world, lose_world}
 use Rattle.network_core.proofs.Booting.{boot_world}
+use Rattle.network_core.proofs.Delivering.{post_world, hand_world}
 use Rattle.network_core.proofs.Turning.{same_count, drained_world, short_world}
 use Rattle.network_core.specs.Answers.{StartServes, TurnServes, CutServes, BootServes}
 use Rattle.network_core.proofs.net.Net.apply.Goals as goal
@@ -38,3 +39,15 @@ returns-else-outcome-gt3-clause-count g c = same_count c.in-Cut.node c.args.self
 
 pub returns-in-Boot-clause-count : goal.returns-in-Boot-clause-count
 returns-in-Boot-clause-count g c = same_count c.in-Boot.node c.args.self.now c.boot.new.self c.boot.result (λ n r k. BootServes g.F.Spelt.reading n r k) c.boot.ensures.serves
+
+pub returns-in-Post-clause-serves : goal.returns-in-Post-clause-serves
+returns-in-Post-clause-serves g c = rw c.in-Post.is (post_world g.F.FlowSet.machine g.F.Spelt.reading c.in-Post.node c.args.self.now c.post.new.self c.post.result c.post.ensures)
+
+pub returns-in-Deliver-clause-serves : goal.returns-in-Deliver-clause-serves
+returns-in-Deliver-clause-serves g c = rw c.in-Deliver.is (hand_world g.F.FlowSet.machine g.F.Spelt.reading false c.in-Deliver.node c.in-Deliver.at c.args.self.now c.hand.new.self c.hand.result c.hand.ensures)
+
+pub returns-in-Repeat-clause-serves : goal.returns-in-Repeat-clause-serves
+returns-in-Repeat-clause-serves g c = rw c.in-Repeat.is (hand_world g.F.FlowSet.machine g.F.Spelt.reading true c.in-Repeat.node c.in-Repeat.at c.args.self.now c.hand-in-Repeat.new.self c.hand-in-Repeat.result c.hand-in-Repeat.ensures)
+
+pub returns-in-Lose-clause-serves : goal.returns-in-Lose-clause-serves
+returns-in-Lose-clause-serves g c = rw c.in-Lose.is (lose_world g.F.FlowSet.machine g.F.Spelt.reading c.in-Lose.node c.in-Lose.at c.args.self.now c.lose.new.self c.lose.result c.lose.ensures)

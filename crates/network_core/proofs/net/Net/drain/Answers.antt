@@ -1,9 +1,9 @@
 use Rattle.std.proofs.Common.{Some, None, Option, refl}
 use Rattle.network_core.specs.declared.steps.Outcome.{Outcome}
 use Rattle.network_core.specs.declared.steps.Outcome.TheVariants as outcome
-use Rattle.network_core.specs.Drains.{Drains, Round, RoundStops, IsDrained, DrainStops, Turns, Quiet}
+use Rattle.network_core.specs.Drains.{Drains, Round, RoundStops, IsDrained, DrainStops, Quiet, Turns}
 use Rattle.network_core.proofs.Draining.{SomeRounds, rounds_more, drain_stops, drain_ends, drains_short, turns_err, turns_full, turns_moved, turns_quiet}
-use Rattle.network_core.proofs.Turning.{drives_none, drives_then, drives_quiet}
+use Rattle.network_core.proofs.Driving.{drives_none, drives_map, drives_then, drives_quiet}
 use Rattle.network_core.proofs.net.Net.drain.Goals as goal
 
 pub rounds-init : goal.rounds-init
@@ -24,10 +24,11 @@ returns-in-Full g c =
 
 pub returns-in-Quiet : goal.returns-in-Quiet
 returns-in-Quiet g c =
-    drives_then g.F.FlowSet.machine g.F.Spelt.reading _ _ _ (λ e w v. SomeRounds e w v) (λ e w v. Turns c.round.result (Round e) (RoundStops e) w v × Quiet e v) (λ e w v. IsDrained e w v)
-    (λ e w u v a b. drain_ends e w u v a (turns_quiet (Round e) (RoundStops e) u v c.round.result _ c.in_ok-round.was c.in-Quiet.is b.0) b.1)
+    drives_then g.F.FlowSet.machine g.F.Spelt.reading _ _ _ (λ e w v. SomeRounds e w v) (λ e w v. Round e 0 w v × Quiet e v) (λ e w v. IsDrained e w v)
+    (λ e w u v a b. drain_ends e w u v a b.0 b.1)
     c.rounds.invariant
-    (drives_quiet g.F.FlowSet.machine g.F.Spelt.reading _ _ (λ e w v. Turns c.round.result (Round e) (RoundStops e) w v) c.round.ensures.drives (c.in_ok-round.ensures.quiet c.in-Quiet.is))
+    (drives_quiet g.F.FlowSet.machine g.F.Spelt.reading _ _
+    (drives_map g.F.FlowSet.machine g.F.Spelt.reading _ _ (λ e w v. Turns c.round.result (Round e) (RoundStops e) w v) (λ e w v. Round e 0 w v) (λ e w v h. turns_quiet (Round e) (RoundStops e) w v c.round.result _ c.in_ok-round.was c.in-Quiet.is h) c.round.ensures.drives))
 
 pub rounds-preserved : goal.rounds-preserved
 rounds-preserved g c =

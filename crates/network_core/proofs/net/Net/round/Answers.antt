@@ -1,87 +1,55 @@
-use Rattle.std.proofs.Common.{◌≡◌, ◌+◌, ◌≤◌, ◌<◌, Some, None, true, false, refl, arith, ap, sym, ◌∙◌, ℕ, length, Ok, Option}
-use Rattle.std.proofs.lemmas.Bool.{true≢false}
-use Rattle.network_core.specs.Worlds.{NetSeen}
+use Rattle.std.proofs.Common.{Some, None, Ok, sym, length, Option, subst}
+use Rattle.std.specs.contracts.alloc.AllocError.{the_row}
+use Rattle.network_core.specs.declared.net.Turning.{Turning}
 use Rattle.network_core.specs.declared.steps.Outcome.{Outcome}
 use Rattle.network_core.specs.declared.steps.Outcome.TheVariants as outcome
-use Rattle.network_core.specs.Drains.{TurnsAt, StopsAt, InOrder, Round, RoundStops, Turns, QuietAt, room}
-use Rattle.network_core.proofs.Draining.{Counts, order_still, order_more, round_stops, round_of, turns_made, turns_short, turns_err, turns_full, turns_moved, turns_quiet}
-use Rattle.network_core.proofs.Turning.{drives_none, drives_map, drives_then, drives_counted, quiet_past, up_to}
-use Rattle.network_core.proofs.net.Net.round.Goals.{in-Quiet, in-Moved}
-use Rattle.std.specs.contracts.alloc.AllocError.{the_row}
+use Rattle.network_core.specs.Drains.{DeliversAt, HandsStop, InOrder, Posts, Round, RoundStops, Turns, TurnsAt, TurnsStop}
+use Rattle.network_core.proofs.Draining.{turns_err, turns_full, turns_short, round_made, round_short_post, round_short_hand, round_stops_turns}
+use Rattle.network_core.proofs.Driving.{drives_map, drives_then}
+use Rattle.network_core.proofs.Turning.{PostedSo, posted_so, posts_err, posts_ok, turns_is}
 use Rattle.network_core.proofs.net.Net.round.Goals as goal
 
-pub places-init : goal.places-init
-places-init g c = record {
-  drives = drives_none g.F.FlowSet.machine g.F.Spelt.reading _ _ (λ e w v. InOrder (TurnsAt e) 0 0 w v) refl (λ e w. (refl, refl));
-  fell = λ e. cc;
-  count = refl;
-  within = omega arith;
-  quiet = λ e p lt. absurd (omega (arith, lt));
-}
+-- want of memory at a turn
+pub returns-in_err-turns-clause-drives : goal.returns-in_err-turns-clause-drives
+returns-in_err-turns-clause-drives g c =
+    drives_map g.F.FlowSet.machine g.F.Spelt.reading _ _ (λ e w v. Turns c.turns.result (InOrder (TurnsAt e) (length w.nodes)) (TurnsStop e) w v) (λ e w v. Turns c.from_residual.result (Round e) (RoundStops e) w v)
+    (λ e w v h. turns_short (Round e) (RoundStops e) w v c.from_residual.result c.from_residual.ensures.0 (round_stops_turns e None w v (turns_err (InOrder (TurnsAt e) (length w.nodes)) (TurnsStop e) w v c.turns.result _ c.in_err-turns.was h)))
+    c.turns.ensures.drives
 
--- the place is one of the network
-pub turns_at-requires : goal.turns_at-requires
-turns_at-requires g c = omega (arith, c.places.invariant.count, ap (λ (z : NetSeen). length z.nodes) c.self.view_is, c.self.inside.nodes.ok.0, c.len-count.ensures, c.places-test.true)
-
-pub returns-in_err-turns_at-clause-drives : goal.returns-in_err-turns_at-clause-drives
-returns-in_err-turns_at-clause-drives g c =
-    let p = c.places.place in
-    let before = c.places.invariant in
-    let lt : p < length c.places.self.nodes = omega (arith, c.places.invariant.count, ap (λ (z : NetSeen). length z.nodes) c.self.view_is, c.self.inside.nodes.ok.0, c.len-count.ensures, c.places-test.true) in
-    drives_then g.F.FlowSet.machine g.F.Spelt.reading _ _ _ (λ e w v. (length w.nodes ≡ length c.args.self.now.nodes) × Counts c.places.any_moved (InOrder (TurnsAt e) p) w v) (λ e w v. Turns c.turns_at.result (TurnsAt e p) (StopsAt e p) w v) (λ e w v. Turns c.from_residual.result (Round e) (RoundStops e) w v)
-    (λ e w u v a b. turns_short (Round e) (RoundStops e) w v c.from_residual.result c.from_residual.ensures.0 (round_stops e None p c.places.any_moved w u v (omega (arith, a.0, before.count, lt)) a.1 (turns_err (TurnsAt e p) (StopsAt e p) u v c.turns_at.result _ c.in_err-turns_at.was b)))
-    (drives_counted g.F.FlowSet.machine g.F.Spelt.reading _ _ (λ e w v. Counts c.places.any_moved (InOrder (TurnsAt e) p) w v) before.drives)
-    c.turns_at.ensures.drives
-
-pub returns-in-Full-clause-drives : goal.returns-in-Full-clause-drives
-returns-in-Full-clause-drives g c =
-    let p = c.places.place in
-    let before = c.places.invariant in
-    let lt : p < length c.places.self.nodes = omega (arith, c.places.invariant.count, ap (λ (z : NetSeen). length z.nodes) c.self.view_is, c.self.inside.nodes.ok.0, c.len-count.ensures, c.places-test.true) in
+-- a turn met a full journal
+pub returns-then-is_full-clause-drives : goal.returns-then-is_full-clause-drives
+returns-then-is_full-clause-drives g c =
     let full : Option Outcome = Some (outcome.Refused 9) in
-    drives_then g.F.FlowSet.machine g.F.Spelt.reading _ _ _ (λ e w v. (length w.nodes ≡ length c.args.self.now.nodes) × Counts c.places.any_moved (InOrder (TurnsAt e) p) w v) (λ e w v. Turns c.turns_at.result (TurnsAt e p) (StopsAt e p) w v) (λ e w v. RoundStops e full w v)
-    (λ e w u v a b. round_stops e full p c.places.any_moved w u v (omega (arith, a.0, before.count, lt)) a.1 (turns_full (TurnsAt e p) (StopsAt e p) u v c.turns_at.result _ c.in_ok-turns_at.was c.in-Full.is b))
-    (drives_counted g.F.FlowSet.machine g.F.Spelt.reading _ _ (λ e w v. Counts c.places.any_moved (InOrder (TurnsAt e) p) w v) before.drives)
-    c.turns_at.ensures.drives
+    drives_map g.F.FlowSet.machine g.F.Spelt.reading _ _ (λ e w v. Turns c.turns.result (InOrder (TurnsAt e) (length w.nodes)) (TurnsStop e) w v) (λ e w v. RoundStops e full w v)
+    (λ e w v h. round_stops_turns e full w v (turns_full (InOrder (TurnsAt e) (length w.nodes)) (TurnsStop e) w v c.turns.result _ c.in_ok-turns.was (c.is_full.ensures.full c.if-is_full.true) h))
+    c.turns.ensures.drives
 
-pub places-preserved : goal.places-preserved
-places-preserved g c =
-    let before = c.places.invariant in
-    let p = c.places.place in
-    let lt : p < length c.places.self.nodes = omega (arith, c.places.invariant.count, ap (λ (z : NetSeen). length z.nodes) c.self.view_is, c.self.inside.nodes.ok.0, c.len-count.ensures, c.places-test.true) in
-    let fell : c.match-branch-2.any_moved ≡ true → room c.turns_at.new.self < room c.args.self.now =
-    elim c.match-branch-2.branch [
-      | in-Quiet w ↦ λ e. omega (arith, before.fell (sym w.any_moved-is ∙ e), c.turns_at.ensures.drives.left)
-      | in-Moved w ↦ λ e. omega (arith, c.in_ok-turns_at.ensures.moved w.in-Moved.is, before.drives.left)
-    ] in
-    let quiet : c.match-branch-2.any_moved ≡ false → (p : ℕ) → p < c.places.place + 1 → QuietAt g.F.Spelt.reading c.turns_at.new.self p =
-    elim c.match-branch-2.branch [
-      | in-Quiet w ↦ λ e p lt. c.in_ok-turns_at.ensures.quiet w.in-Quiet.is p (up_to p c.places.place _ lt (before.quiet (sym w.any_moved-is ∙ e) p))
-      | in-Moved w ↦ λ e. absurd (true≢false (sym w.any_moved-is ∙ e))
-    ] in
-    record {
-      drives =
-          drives_then g.F.FlowSet.machine g.F.Spelt.reading _ _ _ (λ e w v. Counts c.places.any_moved (InOrder (TurnsAt e) p) w v) (λ e w v. Turns c.turns_at.result (TurnsAt e p) (StopsAt e p) w v) (λ e w v. Counts c.match-branch-2.any_moved (InOrder (TurnsAt e) (p + 1)) w v)
-          (λ e w u v a h. elim c.match-branch-2.branch [
-            | in-Quiet b ↦ order_still (TurnsAt e) p w u v c.places.any_moved c.match-branch-2.any_moved b.any_moved-is a (turns_quiet (TurnsAt e p) (StopsAt e p) u v c.turns_at.result _ c.in_ok-turns_at.was b.in-Quiet.is h)
-            | in-Moved b ↦ order_more (TurnsAt e) p w u v c.places.any_moved c.match-branch-2.any_moved b.any_moved-is a (turns_moved (TurnsAt e p) (StopsAt e p) u v c.turns_at.result _ c.in_ok-turns_at.was b.in-Moved.is h)
-          ])
-          before.drives c.turns_at.ensures.drives;
-      within = omega (arith, lt, before.count);
-      fell = fell;
-      count = c.turns_at.ensures.count ∙ before.count;
-      quiet = quiet;
-    }
+-- want of memory at a post
+pub returns-in_err-posts-clause-drives : goal.returns-in_err-posts-clause-drives
+returns-in_err-posts-clause-drives g c =
+    drives_then g.F.FlowSet.machine g.F.Spelt.reading _ _ _ (λ e w v. Turns c.turns.result (InOrder (TurnsAt e) (length w.nodes)) (TurnsStop e) w v) (λ e w v. Posts e w c.posts.result v) (λ e w v. Turns c.from_residual-in_err-posts.result (Round e) (RoundStops e) w v)
+    (λ e w u v a b. turns_short (Round e) (RoundStops e) w v c.from_residual-in_err-posts.result c.from_residual-in_err-posts.ensures.0
+    (round_short_post e the_row.Denot c.in_ok-turns.turns w u v (c.is_full.ensures.other c.if-is_full.false) (turns_is (InOrder (TurnsAt e) (length w.nodes)) (TurnsStop e) w u c.turns.result c.in_ok-turns.turns c.in_ok-turns.was a) (posts_err e u v c.posts.result _ c.in_err-posts.was b)))
+    c.turns.ensures.drives c.posts.ensures
+
+-- want of memory at a delivery
+pub returns-in_err-deliveries-clause-drives : goal.returns-in_err-deliveries-clause-drives
+returns-in_err-deliveries-clause-drives g c =
+    drives_then g.F.FlowSet.machine g.F.Spelt.reading _ _ _ (λ e w v. PostedSo e the_row.Denot c.in_ok-turns.turns w v) (λ e w v. Turns c.deliveries.result (InOrder (DeliversAt e) (length w.nodes)) (HandsStop e) w v) (λ e w v. Turns c.from_residual-in_err-deliveries.result (Round e) (RoundStops e) w v)
+    (λ e w t v a b. turns_short (Round e) (RoundStops e) w v c.from_residual-in_err-deliveries.result c.from_residual-in_err-deliveries.ensures.0
+    (round_short_hand e the_row.Denot c.in_ok-turns.turns w a.0 t v (c.is_full.ensures.other c.if-is_full.false) a.1 a.2 (turns_err (InOrder (DeliversAt e) (length t.nodes)) (HandsStop e) t v c.deliveries.result _ c.in_err-deliveries.was b)))
+    (drives_then g.F.FlowSet.machine g.F.Spelt.reading _ _ _ (λ e w v. Turns c.turns.result (InOrder (TurnsAt e) (length w.nodes)) (TurnsStop e) w v) (λ e w v. Posts e w c.posts.result v) (λ e w v. PostedSo e the_row.Denot c.in_ok-turns.turns w v)
+    (λ e w u v a b. posted_so e the_row.Denot c.in_ok-turns.turns w u v (turns_is (InOrder (TurnsAt e) (length w.nodes)) (TurnsStop e) w u c.turns.result c.in_ok-turns.turns c.in_ok-turns.was a) (posts_ok e u v c.posts.result _ c.in_ok-posts.was b))
+    c.turns.ensures.drives c.posts.ensures)
+    c.deliveries.ensures.drives
 
 pub returns-clause-drives : goal.returns-clause-drives
 returns-clause-drives g c =
-    let p = c.places.place in
-    let all : length c.args.self.now.nodes ≡ p = omega (arith, ap (λ (z : NetSeen). length z.nodes) c.self.view_is, c.self.inside.nodes.ok.0, c.len-count.ensures, c.places-test.false, c.places.invariant.within) in
-    drives_map g.F.FlowSet.machine g.F.Spelt.reading _ _ (λ e w v. (length w.nodes ≡ length c.args.self.now.nodes) × Counts c.places.any_moved (InOrder (TurnsAt e) p) w v) (λ e w v. Turns {E = the_row.Denot} (Ok c.turning_of.result) (Round e) (RoundStops e) w v)
-    (λ e w v a. turns_made the_row.Denot (Round e) (RoundStops e) w v c.places.any_moved c.turning_of.result c.turning_of.ensures.more c.turning_of.ensures.moved c.turning_of.ensures.quiet (round_of e p c.places.any_moved w v (a.0 ∙ all) a.1))
-    (drives_counted g.F.FlowSet.machine g.F.Spelt.reading _ _ (λ e w v. Counts c.places.any_moved (InOrder (TurnsAt e) p) w v) c.places.invariant.drives)
-
-pub returns-clause-quiet : goal.returns-clause-quiet
-returns-clause-quiet g c is p =
-    let all : length c.places.self.nodes ≤ c.places.place = omega (arith, c.places.invariant.count, ap (λ (z : NetSeen). length z.nodes) c.self.view_is, c.self.inside.nodes.ok.0, c.len-count.ensures, c.places-test.false) in
-    quiet_past g.F.Spelt.reading c.places.self c.places.place all (c.places.invariant.quiet (c.turning_of.ensures.quiet is)) p
+    drives_then g.F.FlowSet.machine g.F.Spelt.reading _ _ _ (λ e w v. PostedSo e the_row.Denot c.in_ok-turns.turns w v) (λ e w v. Turns c.deliveries.result (InOrder (DeliversAt e) (length w.nodes)) (HandsStop e) w v) (λ e w v. Turns {E = the_row.Denot} (Ok c.joined.result) (Round e) (RoundStops e) w v)
+    (λ e w t v a b.
+    subst (λ (k : Turning). Turns {E = the_row.Denot} (Ok k) (Round e) (RoundStops e) w v) (sym c.joined.ensures)
+    (round_made e the_row.Denot c.in_ok-turns.turns c.in_ok-deliveries.deliveries w a.0 t v (c.is_full.ensures.other c.if-is_full.false) a.1 a.2 (turns_is (InOrder (DeliversAt e) (length t.nodes)) (HandsStop e) t v c.deliveries.result c.in_ok-deliveries.deliveries c.in_ok-deliveries.was b)))
+    (drives_then g.F.FlowSet.machine g.F.Spelt.reading _ _ _ (λ e w v. Turns c.turns.result (InOrder (TurnsAt e) (length w.nodes)) (TurnsStop e) w v) (λ e w v. Posts e w c.posts.result v) (λ e w v. PostedSo e the_row.Denot c.in_ok-turns.turns w v)
+    (λ e w u v a b. posted_so e the_row.Denot c.in_ok-turns.turns w u v (turns_is (InOrder (TurnsAt e) (length w.nodes)) (TurnsStop e) w u c.turns.result c.in_ok-turns.turns c.in_ok-turns.was a) (posts_ok e u v c.posts.result _ c.in_ok-posts.was b))
+    c.turns.ensures.drives c.posts.ensures)
+    c.deliveries.ensures.drives

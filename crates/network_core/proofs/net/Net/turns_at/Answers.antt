@@ -3,8 +3,9 @@ use Rattle.network_core.specs.declared.steps.Outcome.{Outcome}
 use Rattle.network_core.specs.declared.steps.Outcome.TheVariants as outcome
 use Rattle.network_core.specs.Answers.{said}
 use Rattle.network_core.specs.Drains.{TurnAt, Moves, TurnsAt, StopsAt, Turns}
-use Rattle.network_core.proofs.Draining.{Counts, moves_more, stops_at, ends_at, turns_made, turns_short}
-use Rattle.network_core.proofs.Turning.{drives_none, drives_turn, drives_then, narrows, narrows_moved, quiet_turn, not_full, not_moved, was_full, was_moved, count_turn, quiet_is_no_full}
+use Rattle.network_core.proofs.Draining.{Counts, moves_more, stops_at, ends_at, turns_made, turns_short, not_full, not_moved, was_full, was_moved, quiet_is_no_full}
+use Rattle.network_core.proofs.Driving.{drives_none, drives_then}
+use Rattle.network_core.proofs.Turning.{drives_turn, narrows, narrows_moved, count_turn}
 use Rattle.std.specs.contracts.alloc.AllocError.{the_row}
 use Rattle.network_core.proofs.net.Net.turns_at.Goals as goal
 
@@ -12,7 +13,6 @@ pub turns-init : goal.turns-init
 turns-init g c = record {
   drives = drives_none g.F.FlowSet.machine g.F.Spelt.reading _ _ (λ e w v. Moves e c.args.place 0 w v) refl (λ e w. refl);
   fell = λ e. cc;
-  still = λ e. refl;
   count = refl;
 }
 
@@ -42,7 +42,6 @@ turns-preserved g c =
           c.turns.invariant.drives
           (drives_turn g.F.FlowSet.machine g.F.Spelt.reading p c.turns.self c.turn.new.self c.turn.result (Some o) (omega (arith, c.requires, c.turns.invariant.count)) c.turn.ensures.clock c.turn.ensures.serves (ap said c.in_ok-outcome.was));
       fell = λ e. omega (arith, c.turns.invariant.drives.left, less);
-      still = λ e. cc;
       count = count_turn g.F.FlowSet.machine g.F.Spelt.reading c.turns.self.now None p c.turns.self c.turn.new.self c.turn.result c.turn.ensures.serves ∙ c.turns.invariant.count;
     }
 
@@ -71,8 +70,3 @@ returns-in-Quiet-clause-moved g c is =
     let before = c.turns.invariant.fell (c.turning_of.ensures.moved is) in
     let less = narrows g.F.FlowSet.machine g.F.Spelt.reading c.turns.self.now c.args.place None c.turns.self c.turn.new.self c.turn.result c.turn.ensures.serves in
     omega (arith, before, less)
-
-pub returns-in-Quiet-clause-quiet : goal.returns-in-Quiet-clause-quiet
-returns-in-Quiet-clause-quiet g c is p before =
-    let same = c.turns.invariant.still (c.turning_of.ensures.quiet is) in
-    quiet_turn g.F.FlowSet.machine g.F.Spelt.reading c.args.place c.turns.self c.turn.new.self c.turn.result c.in_ok-outcome.outcome c.turn.ensures.clock c.turn.ensures.serves c.in_ok-outcome.was (not_moved _ (sym c.turned.ensures ∙ c.in-Quiet.is)) (not_full _ _ c.turned.ensures (quiet_is_no_full _ c.in-Quiet.is)) p (rw same before)

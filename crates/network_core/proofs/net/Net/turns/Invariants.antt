@@ -1,7 +1,7 @@
-use Rattle.std.proofs.Common.{◌≡◌, ◌≤◌, ◌<◌, ℕ, length, true, false}
-use Rattle.network_core.specs.Drains.{Drives, TurnsAt, InOrder, QuietAt, room}
+use Rattle.std.proofs.Common.{◌≡◌, ◌≤◌, ◌<◌, length, true}
+use Rattle.network_core.specs.Drains.{Drives, TurnsAt, InOrder, room}
 use Rattle.network_core.proofs.Draining.{Counts}
-use Rattle.network_core.proofs.net.Net.round.Given as goal
+use Rattle.network_core.proofs.net.Net.turns.Given as goal
 
 abbrev pub invariant-places : goal.invariant-places
 invariant-places g l = record {
@@ -9,5 +9,4 @@ invariant-places g l = record {
   fell : l.any_moved ≡ true → room l.self < room l.fn.self;
   count : length l.self.nodes ≡ length l.fn.self.nodes;
   within : l.place ≤ length l.fn.self.nodes;
-  quiet : l.any_moved ≡ false → (p : ℕ) → p < l.place → QuietAt g.F.Spelt.reading l.self p;
 }

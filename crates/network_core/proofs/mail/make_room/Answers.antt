@@ -1,0 +1,30 @@
+use Rattle.std.proofs.Common.{◌<◌, ◌≤◌, refl, ◌∙◌, arith, length}
+use Rattle.std.proofs.lemmas.Option.{slice_get_read}
+use Rattle.waiting_frames.specs.Waiting.{WaitingSeen}
+use Rattle.net_model.proofs.Faithful.{get_less}
+use Rattle.network_core.proofs.Mailing.{map_set_same}
+use Rattle.network_core.proofs.Placing.{all_from, set_length, upto_more}
+use Rattle.network_core.proofs.mail.make_room.Goals as goal
+
+pub returns-in_err-make_room-clause-frames : goal.returns-in_err-make_room-clause-frames
+returns-in_err-make_room-clause-frames c =
+    let items = c.nodes.waiting.items in
+    let inside : c.nodes.place < length items = omega (arith, c.nodes-test.true, c.len-place-end.ensures, c.args.waiting.now.ok.0, c.nodes.invariant.count) in
+    let at = slice_get_read items (length items) c.nodes.place c.index_mut.result.now refl inside c.index_mut.ensures.value in
+    map_set_same (λ (w : WaitingSeen). w.frames) items c.nodes.place c.index_mut.result.now c.make_room.new.self at c.make_room.ensures.frames ∙ c.nodes.invariant.frames
+
+pub nodes-preserved : goal.nodes-preserved
+nodes-preserved c =
+    let items = c.nodes.waiting.items in
+    let inside : c.nodes.place < length items = omega (arith, c.nodes-test.true, c.len-place-end.ensures, c.args.waiting.now.ok.0, c.nodes.invariant.count) in
+    let at = slice_get_read items (length items) c.nodes.place c.index_mut.result.now refl inside c.index_mut.ensures.value in
+    record {
+      frames = map_set_same (λ (w : WaitingSeen). w.frames) items c.nodes.place c.index_mut.result.now c.make_room.new.self at c.make_room.ensures.frames ∙ c.nodes.invariant.frames;
+      count = set_length items c.nodes.place c.make_room.new.self ∙ c.nodes.invariant.count;
+      room = upto_more (λ (w : WaitingSeen). c.args.more ≤ w.room) items c.nodes.place c.make_room.new.self c.nodes.invariant.room c.in_ok-make_room.ensures.room;
+    }
+
+pub returns-clause-room : goal.returns-clause-room
+returns-clause-room c =
+    all_from (λ (w : WaitingSeen). c.args.more ≤ w.room) c.nodes.waiting.items
+    (λ q w at. c.nodes.invariant.room q w (omega (arith, get_less c.nodes.waiting.items q w at, c.nodes-test.false, c.len-place-end.ensures, c.args.waiting.now.ok.0, c.nodes.invariant.count)) at)
