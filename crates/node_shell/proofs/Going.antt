@@ -5,7 +5,7 @@ use Rattle.outside.proofs.Pieces.{Keeps-same}
 use Rattle.net_base.specs.declared.names.Identity.{Identity}
 use Rattle.flow_machine.specs.Machine.{Machine}
 use Rattle.net_model.specs.Environment.{Environment, environment}
-use Rattle.node_core.specs.Journals.{Reads}
+use Rattle.node_tables.specs.Journals.{Reads}
 use Rattle.network_core.specs.Worlds.{World, NetSeen, KeepsWorld}
 use Rattle.shell_words.specs.Script.{without_cr, whole_lines, last_line, is_quit}
 use Rattle.shell_words.proofs.Splitting.{last_one}

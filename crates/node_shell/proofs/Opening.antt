@@ -1,10 +1,9 @@
 -- A whole run: the nodes open and the script is played, or one does not open.
-use Rattle.std.proofs.Common.{◌≡◌, ◌⊎◌, inl, inr, ⊎_elim, ℕ, zero, suc, ◌*◌, List, [], ◌∷◌, ◌++◌, length, map, Option, Some, refl, sym, ◌∙◌, ap, subst, arith, append_assoc}
-use Rattle.std.specs.Prelude.{codes, decimal, take, drop, slice_set, true, None, ◌<◌, ◌≤◌}
+use Rattle.std.proofs.Common.{◌≡◌, ◌⊎◌, inl, inr, ⊎_elim, ℕ, zero, suc, List, [], ◌∷◌, ◌++◌, length, map, Option, Some, refl, sym, ◌∙◌, ap, subst, arith, append_assoc}
+use Rattle.std.specs.Prelude.{codes, decimal, take, drop, None, ◌<◌, ◌≤◌}
 use Rattle.std.specs.List.{slice_get}
 use Rattle.std.proofs.lemmas.Option.{slice_get_within}
 use Rattle.outside.specs.Disk.{DiskView}
-use Rattle.outside.specs.Faults.{Rose}
 use Rattle.disk_journal.specs.Journal.{journal_of, placed, refusal}
 use Rattle.disk_journal.specs.declared.fault.OpenFault.{OpenFault}
 use Rattle.disk_journal.specs.declared.fault.OpenFault.TheVariants as open_fault
@@ -12,21 +11,19 @@ use Rattle.net_base.specs.declared.names.Identity.{Identity}
 use Rattle.net_base.specs.declared.values.Party.{Party}
 use Rattle.flow_machine.specs.Machine.{Machine}
 use Rattle.net_model.specs.Environment.{Environment, environment}
-use Rattle.node_core.specs.Journals.{Reads}
+use Rattle.node_tables.specs.Journals.{Reads}
 use Rattle.node_core.specs.Disks.{roomless}
-use Rattle.node_core.specs.Fits.{misfit}
+use Rattle.node_tables.specs.Fits.{misfit}
 use Rattle.node_core.specs.Seen.{NodeSeen, BootsAs, boot_of, Refuses as SeenRefuses, Unopened, Unfit, Unbooted}
 use Rattle.node_core.specs.declared.faults.BootFault.{BootFault}
 use Rattle.node_core.specs.declared.faults.BootFault.TheVariants as boot
 use Rattle.network_core.specs.Worlds.{World, NetSeen, Shows, Coherent}
-use Rattle.network_core.specs.Begins.{member, node_over, nodes_over, no_boot, Begun, BeginsWorld, IsRefused, BootsUpTo}
-use Rattle.network_core.proofs.Beginning.{over_length}
+use Rattle.network_core.specs.Begins.{member, node_over, nodes_over, no_boot, BeginsWorld, IsRefused, BootsUpTo}
 use Rattle.network_core.proofs.Faithful.{get_beside}
 use Rattle.node_shell.specs.declared.statuses.Status.{Status}
 use Rattle.node_shell.specs.declared.statuses.Status.TheVariants as status
 use Rattle.node_shell.specs.Story.{ScriptRun, IsScriptStatus, InSome}
-use Rattle.node_shell.specs.Pairs.{first_disks}
-use Rattle.node_shell.specs.Runs.{over, number_of_status, Plays, Refuses, RunsAs, journal_line, PlaysOrRefuses, RefusedWith, IsOpeningStatus, Fails, OneFails, HasCause, MisfitsAt, IsUnready, IsToldWhy, KeepsOwn, KeepOwn, IsPlayedStatus, IsPlayedNumber, StaysBut, AllStay, IsRunStatus, MadeReady}
+use Rattle.node_shell.specs.Runs.{over, number_of_status, Plays, Refuses, RunsAs, journal_line, PlaysOrRefuses, RefusedWith, IsOpeningStatus, Fails, OneFails, HasCause, MisfitsAt, IsUnready, IsToldWhy, KeepsOwn, KeepOwn, IsPlayedStatus, IsPlayedNumber, AllStay, IsRunStatus, MadeReady}
 use Rattle.node_shell.proofs.Readying.{fails_since}
 use Rattle.node_shell.proofs.Resting.{over_at, counted, made_same, made_then, made_fewer, same_fewer, made_journals, same_journals, stands, rests, made_coherent, made_counted, counted_shows, refused_rests, down_fewer}
 
@@ -48,7 +45,7 @@ refuses_cause f id (open_fault.Damaged at) d b r = λ tells. inl (r tells)
 
 -- and so have records that do not fit
 unfit_cause : {F : Type 0} (f : Reads F) (id : Identity) (why : BootFault) (d b : DiskView) → Unfit f id (roomless d) why (roomless b) → HasCause f id d why b
-unfit_cause f id (boot.Damaged at) d b u = λ tells. inr (u.1.format tells, subst (λ l. misfit f l ≡ Some at) (u.1.told tells) u.2)
+unfit_cause f id (boot.Damaged at) d b u = λ tells. inr (u.1.format tells, subst (λ l. misfit f id.nodes id.party l ≡ Some at) (u.1.told tells) u.2)
 unfit_cause f id boot.Memory d b u = tt
 unfit_cause f id boot.Fault d b u = absurd u
 unfit_cause f id boot.NotAJournal d b u = absurd u
@@ -62,7 +59,7 @@ boot_cause f id why d b u =
 -- a making ready before changes nothing of what is kept
 pub own_since : {F : Type 0} (f : Reads F) (id : Identity) (d k : DiskView) → k ≡ record d { faults = k.faults } → KeepsOwn f id k → KeepsOwn f id d
 own_since f id d k same own = λ tells.
-    subst (λ (x : DiskView). (refusal id x.state.kept ≡ None) × (misfit f (placed 16 (journal_of x.state.kept)) ≡ None)) same (own (ap (λ (x : DiskView). x.tells) same ∙ tells))
+    subst (λ (x : DiskView). (refusal id x.state.kept ≡ None) × (misfit f id.nodes id.party (placed 16 (journal_of x.state.kept)) ≡ None)) same (own (ap (λ (x : DiskView). x.tells) same ∙ tells))
 
 -- nodes that came up over disks opened their own journals
 pub boots_own : {F : Type 0} (f : Reads F) (nodes : ℕ) (notary : Party) (ds : List DiskView) (now : ℕ) (new : List NodeSeen) → length ds ≡ nodes → BootsUpTo f nodes now (nodes_over nodes notary 0 ds) new → KeepOwn f nodes notary ds
@@ -71,7 +68,8 @@ boots_own f nodes notary ds now new count r p d at =
     let k = get_beside (nodes_over nodes notary 0 ds) new p (node_over nodes notary p d) (sym r.count) n in
     let within = slice_get_within ds p d at in
     let b = r.done p (node_over nodes notary p d) k.0 (omega (arith, within, count)) n k.1 in
-    λ tells. (b.3.opens.format tells, subst (λ l. misfit f l ≡ None) (b.3.opens.told tells) b.3.fits)
+    let id = member nodes notary p in
+    λ tells. (b.4.opens.format tells, subst (λ l. misfit f id.nodes id.party l ≡ None) (b.4.opens.told tells) b.4.fits)
 
 pub all_own_since : {F : Type 0} (f : Reads F) (nodes : ℕ) (notary : Party) (ds ks : List DiskView) → AllStay ds ks → KeepOwn f nodes notary ks → KeepOwn f nodes notary ds
 all_own_since f nodes notary ds ks stay own p d at =
@@ -201,7 +199,7 @@ module _ {F : Type 0} (m : Machine F) (f : Reads F) (nodes : ℕ) (notary : Part
   stopped_cause ds bs node why q d b at there =
       let one : q.0 ≡ d = cc in
       let two : q.1 ≡ b = cc in
-      subst (λ u. HasCause f (member nodes notary node) u why b) one (subst (HasCause f (member nodes notary node) q.0 why) two (boot_cause f (member nodes notary node) why q.0 q.1 q.4.2))
+      subst (λ u. HasCause f (member nodes notary node) u why b) one (subst (HasCause f (member nodes notary node) q.0 why) two (boot_cause f (member nodes notary node) why q.0 q.1 q.4.3))
 
   pub told_why : (ds bs : List DiskView) (node : ℕ) (why : BootFault) (written0 written1 : Option (List ℕ)) (s : Status) → 0 < nodes → length ds ≡ nodes → IsRefused m f nodes notary ds node why bs
       → RefusedWith node why written0 written1 s → IsToldWhy f nodes notary ds bs written0 written1 s
@@ -221,7 +219,7 @@ module _ {F : Type 0} (m : Machine F) (f : Reads F) (nodes : ℕ) (notary : Part
       (λ (p : (why ≡ boot.Memory) × (node ≡ 0) × (bs ≡ ds)). absurd (no_memory (subst (λ y. RefusedWith node y written0 written1 status.DiskFault) p.0 so).0))
       (λ (q : Stopped ds node why bs).
       let within = slice_get_within ds node q.0 q.2 in
-      record { place = node; own = omega (arith, within, count); before = q.0; after = q.1; at = q.2; now = q.3; fails = told_of_fault f (member nodes notary node) why q.0 q.1 node written0 written1 (boot_cause f (member nodes notary node) why q.0 q.1 q.4.2) so })
+      record { place = node; own = omega (arith, within, count); before = q.0; after = q.1; at = q.2; now = q.3; fails = told_of_fault f (member nodes notary node) why q.0 q.1 node written0 written1 (boot_cause f (member nodes notary node) why q.0 q.1 q.4.3) so })
       r.refused
 
   pub refused : (ds bs : List DiskView) (w : World) (node : ℕ) (why : BootFault) (left written0 written1 : Option (List ℕ)) (s : Status) → 0 < nodes → length ds ≡ nodes

@@ -1,14 +1,13 @@
 -- Disks that are made ready, one after the other.
-use Rattle.std.proofs.Common.{◌≡◌, ⊎_elim, ℕ, zero, suc, ◌*◌, List, [], ◌∷◌, length, map, drop, Some, refl, sym, ◌∙◌, ap, subst, arith, slice_set}
-use Rattle.std.specs.Prelude.{true, ◌<◌, ◌≤◌}
+use Rattle.std.proofs.Common.{◌≡◌, ⊎_elim, ℕ, zero, suc, ◌*◌, List, [], ◌∷◌, length, map, Some, refl, sym, ◌∙◌, ap, subst, arith, slice_set}
+use Rattle.std.specs.Prelude.{◌<◌, ◌≤◌}
 use Rattle.std.specs.List.{slice_get}
 use Rattle.outside.specs.Disk.{DiskView}
 use Rattle.outside.specs.Faults.{Rose}
 use Rattle.network_core.proofs.Faithful.{get_beside}
-use Rattle.network_core.proofs.Places.{set_length, get_set}
 use Rattle.node_shell.specs.Pairs.{first_disks}
 use Rattle.node_shell.specs.Runs.{Fails, OneFails, StaysBut, AllStay}
-use Rattle.node_shell.proofs.Weaving.{first_at, first_count, map_set, in_map}
+use Rattle.node_shell.proofs.Weaving.{first_at, first_count, map_set, set_count, at_set, in_map}
 
 -- ---- counts of faults
 
@@ -53,14 +52,14 @@ pub stay_more : {X : Type 0} (f : X → DiskView) (all cur : List X) (i : ℕ) (
 stay_more f all cur i x y stay at stays =
     let here : slice_get (map f cur) i ≡ Some (f x) = in_map f cur i x at in
     record {
-      count = ap length (map_set f cur i y) ∙ set_length (map f cur) i (f y) ∙ stay.count;
+      count = ap length (map_set f cur i y) ∙ set_count (map f cur) i (f y) ∙ stay.count;
       each = λ p d e old new.
           ⊎_elim
           (λ (s : (p ≡ i) × (e ≡ f y)).
           let there : slice_get (map f cur) p ≡ Some (f x) = subst (λ q. slice_get (map f cur) q ≡ Some (f x)) (sym s.0) here in
           subst (StaysBut d) (sym s.1) (stays_then d (f x) (f y) (stay.each p d (f x) old there) stays))
           (λ (same : slice_get (map f cur) p ≡ Some e). stay.each p d e old same)
-          (get_set (map f cur) i (f y) p e (subst (λ l. slice_get l p ≡ Some e) (map_set f cur i y) new));
+          (at_set (map f cur) i (f y) p e (subst (λ l. slice_get l p ≡ Some e) (map_set f cur i y) new));
     }
 
 -- or it failed

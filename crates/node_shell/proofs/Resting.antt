@@ -1,18 +1,17 @@
 -- How the disks of a network rest, and what a making ready changes of a world.
 use Rattle.std.proofs.Common.{◌≡◌, ℕ, zero, suc, ◌+◌, List, [], ◌∷◌, length, map, Some, true, false, refl, sym, ◌∙◌, ap, subst, arith}
 use Rattle.std.specs.Prelude.{◌≤◌}
-use Rattle.std.specs.List.{slice_get}
+use Rattle.std.specs.List.{slice_get, AllByRecursion}
 use Rattle.outside.specs.Disk.{DiskView, IsImage}
 use Rattle.net_base.specs.declared.values.Party.{Party}
 use Rattle.flow_machine.specs.Machine.{Machine}
 use Rattle.disk_journal.specs.Journal.{journal_of}
 use Rattle.net_model.specs.Environment.{Environment, environment}
-use Rattle.net_model.proofs.Cut.{environment_is_narrow}
-use Rattle.node_core.specs.Journals.{Reads}
+use Rattle.node_tables.specs.Journals.{Reads, state_of}
 use Rattle.node_core.specs.Disks.{roomless}
 use Rattle.node_core.specs.Seen.{NodeSeen}
 use Rattle.node_core.specs.declared.faults.BootFault.{BootFault}
-use Rattle.network_core.specs.Worlds.{World, NodeWorld, NetSeen, MaySpell, NodeShows, Shows, NodeCoherent, Coherent}
+use Rattle.network_core.specs.Worlds.{World, NodeWorld, NetSeen, MaySpell, NodeShows, Shows, Choice, states_of, WaitsAt, AreArrived, NodeCoherent, Coherent}
 use Rattle.network_core.specs.Begins.{member, node_over, nodes_over, net_over, StayDown}
 use Rattle.network_core.proofs.Beginning.{over_length}
 use Rattle.network_core.proofs.Faithful.{coherent_is_faithful, get_beside}
@@ -30,6 +29,13 @@ of_map f (x ∷ xs) (suc p) y h = of_map f xs p y h
 map_again : {X Y Z : Type 0} (g : Y → Z) (f : X → Y) (h : X → Z) (xs : List X) → ((x : X) → g (f x) ≡ h x) → map g (map f xs) ≡ map h xs
 map_again g f h [] same = refl
 map_again g f h (x ∷ xs) same = rw (same x) (ap (λ l. h x ∷ l) (map_again g f h xs same))
+
+-- the same for each item of two lists of one length
+same_for_each : {X Y Z : Type 0} (z : Z) (xs : List X) (ys : List Y) → length xs ≡ length ys → map (λ (x : X). z) xs ≡ map (λ (y : Y). z) ys
+same_for_each z [] [] n = refl
+same_for_each z [] (y ∷ ys) n = absurd (omega (arith, n))
+same_for_each z (x ∷ xs) [] n = absurd (omega (arith, n))
+same_for_each z (x ∷ xs) (y ∷ ys) n = ap (λ l. z ∷ l) (same_for_each z xs ys (omega (arith, n)))
 
 -- ---- nodes over disks
 
@@ -60,7 +66,14 @@ over_from nodes notary ds p n at =
 -- ---- down
 
 abbrev pub down : NodeWorld → NodeWorld
-down x = record x { up = false }
+down x = record x { up = false; acked = []; waiting = [] }
+
+never_up : (xs : List NodeWorld) (p : ℕ) (x : NodeWorld) → slice_get (map down xs) p ≡ Some x → x.up ≡ true → ⊥
+never_up xs p x at up = let o = of_map down xs p x at in let no : false ≡ true = ap (λ (y : NodeWorld). y.up) o.2 ∙ up in cc
+
+-- a choice of the journals of nodes that were taken down is one of the nodes' before
+down_choice : (w : World) (lists : List (List (List ℕ))) → Choice (all_down w) lists → Choice w lists
+down_choice w lists choice = record { count = choice.count ∙ map_count down w.nodes; each = λ p x l at here. choice.each p (down x) l (in_map down w.nodes p x at) here }
 
 abbrev pub faulty : ℕ → NodeWorld → NodeWorld
 faulty n x = record x { faults = n }
@@ -91,6 +104,11 @@ counted_at (c ∷ ds) (x ∷ xs) zero d y at there =
     (x, refl, ap (λ (z : DiskView). faulty z.faults x) disk ∙ node)
 counted_at (c ∷ ds) (x ∷ xs) (suc p) d y at there = counted_at ds xs p d y at there
 
+counted_waiting : (ds : List DiskView) (xs : List NodeWorld) → map (λ (x : NodeWorld). x.waiting) (with_counts ds xs) ≡ map (λ (x : NodeWorld). x.waiting) xs
+counted_waiting [] xs = refl
+counted_waiting (d ∷ ds) [] = refl
+counted_waiting (d ∷ ds) (x ∷ xs) = ap (λ l. x.waiting ∷ l) (counted_waiting ds xs)
+
 -- ---- worlds made ready
 
 pub made_same : (w : World) → MadeReady w w
@@ -111,6 +129,15 @@ pub made_fewer : (w v u : World) → MadeReady w v → LeavesFewer v u → Leave
 made_fewer w v u made fewer p x y l at there may =
     let mid = get_beside w.nodes v.nodes p x (sym made.count) at in
     subst (λ (k : NodeWorld). MaySpell k l) (made.each p x mid.0 at mid.1).0 (fewer p mid.0 y l mid.1 there may)
+
+-- a choice of the journals of a world that was made ready is one of the world's before
+made_choice : (w v : World) (lists : List (List (List ℕ))) → MadeReady w v → Choice v lists → Choice w lists
+made_choice w v lists made choice = record {
+  count = choice.count ∙ made.count;
+  each = λ p x l at here.
+      let y = get_beside w.nodes v.nodes p x (sym made.count) at in
+      subst (λ (k : NodeWorld). MaySpell k l) (made.each p x y.0 at y.1).0 (choice.each p y.0 l y.1 here);
+}
 
 pub same_fewer : (w : World) → LeavesFewer w w
 same_fewer w p x y l at there may = let same : y ≡ x = cc in subst (λ (k : NodeWorld). MaySpell k l) same may
@@ -137,6 +164,7 @@ module _ {F : Type 0} (m : Machine F) (f : Reads F) (nodes : ℕ) (notary : Part
     counts = s.counts ∙ ap (λ (v : DiskView). v.faults) same;
     calm_is = s.calm_is ∙ ap (λ (v : DiskView). v.calm) same;
     file_is = s.file_is ∙ ap (λ (v : DiskView). v.of_file) same;
+    acked_is = refl;
   }
 
   each_rests : (ns : List NodeSeen) (xs : List NodeWorld) (ds : List DiskView) → map (λ (n : NodeSeen). n.disk) ns ≡ map roomless ds
@@ -155,30 +183,59 @@ module _ {F : Type 0} (m : Machine F) (f : Reads F) (nodes : ℕ) (notary : Part
         let o = of_map down w.nodes p x at in
         let before = c.each p o.0 o.1 in
         subst (NodeCoherent e p w.now) o.2 (record { every = before.every; one = λ (up : false ≡ true). absurd cc });
+    numbers = λ p x at up. absurd (never_up w.nodes p x at up);
+    agrees = λ lists choice. record {
+      matched = (c.agrees lists (down_choice w lists choice)).matched;
+      waits = λ p x at. let o = of_map down w.nodes p x at in subst (λ (y : NodeWorld). AllByRecursion (WaitsAt (states_of e lists) p) y.waiting) o.2 tt;
+      arrived = λ p x at up. absurd (never_up w.nodes p x at up);
+    };
   }
 
   -- disks that show a coherent world rest in it
   pub stands : (w : World) (ds : List DiskView) → Shows e (over e w.now ds) w → Coherent e w → Rests e ds w
-  stands w ds shows coherent = record { shows = shows; coherent = coherent; faithful = λ lists choice. coherent_is_faithful e (environment_is_narrow m f (member nodes notary 0)) w lists coherent choice }
+  stands w ds shows coherent = record { shows = shows; coherent = coherent; faithful = λ lists choice. coherent_is_faithful e w lists coherent choice }
 
   -- the disks that come out of a network rest in the world that the network showed
   pub rests : (net : NetSeen) (w : World) (ds : List DiskView) → Shows e net w → Coherent e w → map (λ (n : NodeSeen). n.disk) net.nodes ≡ map roomless ds → Rests e ds (all_down w)
-  rests net w ds shows coherent disks = stands (all_down w) ds
+  rests net w ds shows coherent disks =
+      let count : length w.nodes ≡ length ds = shows.count ∙ sym (map_count (λ (n : NodeSeen). n.disk) net.nodes) ∙ ap length disks ∙ map_count roomless ds in
+      stands (all_down w) ds
       (record {
-        count = map_count down w.nodes ∙ shows.count ∙ sym (map_count (λ (n : NodeSeen). n.disk) net.nodes) ∙ ap length disks ∙ map_count roomless ds ∙ sym (over_length nodes notary 0 ds);
+        count = map_count down w.nodes ∙ count ∙ sym (over_length nodes notary 0 ds);
         each = each_rests net.nodes w.nodes ds disks shows.each;
+        waiting = map_again (λ (x : NodeWorld). x.waiting) down (λ (x : NodeWorld). []) w.nodes (λ x. refl) ∙ same_for_each [] w.nodes ds count;
         clock = refl;
       })
       (down_coherent w coherent)
+
+  -- the node at a place before the making ready, and that one which is up then was up
+  made_from : (w v : World) → MadeReady w v → (p : ℕ) (y : NodeWorld) → slice_get v.nodes p ≡ Some y → (x : NodeWorld) × (slice_get w.nodes p ≡ Some x) × (y ≡ record x { faults = y.faults }) × (y.up ≡ true → x.up ≡ true)
+  made_from w v made p y at =
+      let x = get_beside v.nodes w.nodes p y made.count at in
+      let same = (made.each p x.0 y x.1 at).0 in
+      (x.0, x.1, same, λ up. sym (ap (λ (k : NodeWorld). k.up) same) ∙ up)
 
   pub made_coherent : (w v : World) → MadeReady w v → Coherent e w → Coherent e v
   made_coherent w v made c = record {
     count = made.count ∙ c.count;
     each = λ p y at.
-        let o = get_beside v.nodes w.nodes p y made.count at in
+        let o = made_from w v made p y at in
         let before = c.each p o.0 o.1 in
-        subst (λ (t : ℕ). NodeCoherent e p t y) (sym made.clock)
-        (subst (NodeCoherent e p w.now) (sym (made.each p o.0 y o.1 at).0) (record { every = before.every; one = before.one }));
+        subst (λ (t : ℕ). NodeCoherent e p t y) (sym made.clock) (subst (NodeCoherent e p w.now) (sym o.2) (record { every = before.every; one = before.one }));
+    numbers = λ p y at up.
+        let o = made_from w v made p y at in
+        subst (λ (k : NodeWorld). length k.acked ≡ length (state_of e.frame_at k.journal).sessions) (sym o.2) (c.numbers p o.0 o.1 (o.3 up));
+    agrees = λ lists choice.
+        let before = c.agrees lists (made_choice w v lists made choice) in
+        record {
+          matched = before.matched;
+          waits = λ p y at.
+              let o = made_from w v made p y at in
+              subst (λ (k : NodeWorld). AllByRecursion (WaitsAt (states_of e lists) p) k.waiting) (sym o.2) (before.waits p o.0 o.1);
+          arrived = λ p y at up.
+              let o = made_from w v made p y at in
+              subst (λ (k : NodeWorld). AreArrived (states_of e lists) (state_of e.frame_at k.journal).sessions k.acked) (sym o.2) (before.arrived p o.0 o.1 (o.3 up));
+        };
   }
 
   module _ (w : World) (ds es : List DiskView) (stay : AllStay ds es) (shows : Shows e (over e w.now ds) w) where
@@ -206,14 +263,14 @@ module _ {F : Type 0} (m : Machine F) (f : Reads F) (nodes : ℕ) (notary : Part
         let old = get_beside es ds p under.0 stay.count under.1 in
         let stays = stay.each p old.0 under.0 old.1 under.1 in
         let s = shows.each p (node_over nodes notary p old.0) found.0 (over_at nodes notary ds p old.0 old.1) found.1 in
-        let t : NodeShows e p (node_over nodes notary p (record old.0 { faults = under.0.faults })) (faulty under.0.faults found.0) = record { identity_is = refl; tells = s.tells; images = s.images; kept = s.kept; journal = s.journal; counts = refl; calm_is = s.calm_is; file_is = s.file_is } in
+        let t : NodeShows e p (node_over nodes notary p (record old.0 { faults = under.0.faults })) (faulty under.0.faults found.0) = record { identity_is = refl; tells = s.tells; images = s.images; kept = s.kept; journal = s.journal; counts = refl; calm_is = s.calm_is; file_is = s.file_is; acked_is = s.acked_is } in
         subst (NodeShows e p k) found.2
         (subst (λ (z : NodeSeen). NodeShows e p z (faulty under.0.faults found.0)) (sym under.2)
         (subst (λ (v : DiskView). NodeShows e p (node_over nodes notary p v) (faulty under.0.faults found.0)) (sym stays.0) t))
 
     -- the disks as they are then show that world
     pub counted_shows : Shows e (over e w.now es) (counted es w)
-    counted_shows = record { count = counted_count es w.nodes ∙ shows.count ∙ over_length nodes notary 0 ds ∙ sym stay.count ∙ sym (over_length nodes notary 0 es); each = each_counted; clock = refl }
+    counted_shows = record { count = counted_count es w.nodes ∙ shows.count ∙ over_length nodes notary 0 ds ∙ sym stay.count ∙ sym (over_length nodes notary 0 es); each = each_counted; waiting = counted_waiting es w.nodes ∙ shows.waiting ∙ same_for_each [] ds es (sym stay.count); clock = refl }
 
   -- a refused opening leaves disks that rest on journals that they may have left before
   pub refused_rests : (w v : World) (ds : List DiskView) → Shows e (net_over nodes notary w.now ds) v → Coherent e v → Rests e ds v

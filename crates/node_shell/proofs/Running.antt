@@ -5,7 +5,7 @@ use Rattle.std.specs.List.{slice_get}
 use Rattle.outside.specs.Disk.{DiskView}
 use Rattle.node_shell.specs.Pairs.{first_disks, woven}
 use Rattle.node_shell.specs.Runs.{StaysBut, OneFails, AllStay}
-use Rattle.node_shell.proofs.Weaving.{map_count, woven_count, firsts, seconds, behind, all_count}
+use Rattle.node_shell.proofs.Weaving.{map_count, woven_count, firsts, seconds, behind}
 use Rattle.node_shell.proofs.Readying.{first_stay, first_fails}
 
 -- the disks were made ready, the first ones of the nodes were taken out, and others, as many, were put back

@@ -7,11 +7,10 @@ use Rattle.std.proofs.lemmas.Option.{same_Some}
 use Rattle.net_base.specs.declared.causes.Cause.{Cause}
 use Rattle.flow_machine.specs.declared.flows.FlowState.{FlowState}
 use Rattle.net_model.specs.Environment.{Environment}
-use Rattle.net_model.specs.Cut.{IsNarrow}
 use Rattle.net_model.specs.Runs.{merged, network_of}
 use Rattle.net_model.specs.State.{NodeState}
 use Rattle.net_model.specs.Print.{printed, print_of, of_flows, of_flow, of_history, node_text, flow_text_at, flow_line, flow_text, flows_text, history_text}
-use Rattle.node_core.specs.Journals.{Reads, causes_of, state_of}
+use Rattle.node_tables.specs.Journals.{Reads, causes_of, state_of}
 use Rattle.node_core.specs.Seen.{NodeSeen}
 use Rattle.network_core.specs.Worlds.{World, NodeWorld, NetSeen, NodeShows, Shows, ShowsJournal, Coherent, Choice}
 use Rattle.network_core.proofs.Faithful.{get_beside, coherent_is_faithful}
@@ -79,7 +78,7 @@ module _ {F : Type 0} (e : Environment F) (net : NetSeen) (w : World) (shows : S
 
 -- ---- what is printed of a coherent world
 
-module _ {F : Type 0} (e : Environment F) (narrow : IsNarrow e) (w : World) (coherent : Coherent e w) where
+module _ {F : Type 0} (e : Environment F) (w : World) (coherent : Coherent e w) where
   abbrev kept_lists : List (List (List ℕ))
   kept_lists = map (λ x. x.journal) w.nodes
 
@@ -91,7 +90,7 @@ module _ {F : Type 0} (e : Environment F) (narrow : IsNarrow e) (w : World) (coh
 
   pub net_is : network_of e (causes_in e w) ≡ Some (map (λ x. state_of e.frame_at x.journal) w.nodes)
   net_is =
-      let run = (coherent_is_faithful e narrow w kept_lists coherent kept).1 in
+      let run = (coherent_is_faithful e w kept_lists coherent kept).1 in
       let causes = map_both (causes_of e.frame_at) (λ (x : NodeWorld). x.journal) w.nodes in
       let states = map_both (state_of e.frame_at) (λ (x : NodeWorld). x.journal) w.nodes in
       subst (λ l. network_of e l ≡ Some (map (λ (x : NodeWorld). state_of e.frame_at x.journal) w.nodes)) causes (run ∙ ap Some states)
@@ -214,11 +213,11 @@ module _ {F : Type 0} (e : Environment F) (net : NetSeen) (w : World) (shows : S
   pub flow_down : (f : ℕ) → n.journal ≡ None → IsRefused 3 reply → AtNode w p reply (AsksFlow e w p f reply)
   flow_down f down is = at_down e net w shows p reply (AsksFlow e w p f reply) n at down is
 
-  module _ (narrow : IsNarrow e) (coherent : Coherent e w) (bodies : List (List ℕ)) (up : n.journal ≡ Some bodies) where
+  module _ (coherent : Coherent e w) (bodies : List (List ℕ)) (up : n.journal ≡ Some bodies) where
     pub flows_up : reply_text reply ≡ flows_text (state_of e.frame_at bodies).flows → AtNode w p reply (λ x. reply_text reply ≡ printed e (causes_in e w) (of_flows p))
     flows_up is =
         at_up e net w shows p reply (λ x. reply_text reply ≡ printed e (causes_in e w) (of_flows p)) n bodies at up
-        (λ x here j. is ∙ ap (λ b. flows_text (state_of e.frame_at b).flows) (sym j) ∙ sym (flows_printed e narrow w coherent p x here))
+        (λ x here j. is ∙ ap (λ b. flows_text (state_of e.frame_at b).flows) (sym j) ∙ sym (flows_printed e w coherent p x here))
 
     pub flow_none : (f : ℕ) → slice_get (state_of e.frame_at bodies).flows f ≡ None → IsRefused 11 reply → AtNode w p reply (AsksFlow e w p f reply)
     flow_none f none is =
@@ -228,7 +227,7 @@ module _ {F : Type 0} (e : Environment F) (net : NetSeen) (w : World) (shows : S
     pub flow_some : (f : ℕ) (flow : FlowState F) → slice_get (state_of e.frame_at bodies).flows f ≡ Some flow → reply_text reply ≡ flow_line f flow ++ 10 ∷ [] → AtNode w p reply (AsksFlow e w p f reply)
     flow_some f flow some is =
         at_up e net w shows p reply (AsksFlow e w p f reply) n bodies at up
-        (λ x here j. inr ((flow, ap (λ b. slice_get (state_of e.frame_at b).flows f) j ∙ some), is ∙ ap (λ o. flow_text f o) (sym some) ∙ ap (λ b. flow_text f (slice_get (state_of e.frame_at b).flows f)) (sym j) ∙ sym (flow_printed e narrow w coherent p f x here)))
+        (λ x here j. inr ((flow, ap (λ b. slice_get (state_of e.frame_at b).flows f) j ∙ some), is ∙ ap (λ o. flow_text f o) (sym some) ∙ ap (λ b. flow_text f (slice_get (state_of e.frame_at b).flows f)) (sym j) ∙ sym (flow_printed e w coherent p f x here)))
 
 -- the same, of a list that another is
 pub found_at : {X : Type 0} (ys xs : List X) (p : ℕ) (d x : X) → xs ≡ ys → nat_lt p (length xs) ≡ true → x ≡ slice_index_or xs p d → slice_get ys p ≡ Some x

@@ -1,5 +1,5 @@
 -- The first disks of the nodes among all disks.
-use Rattle.std.proofs.Common.{◌≡◌, ℕ, zero, suc, ◌+◌, ◌*◌, ◌<◌, ◌≤◌, List, [], ◌∷◌, ◌++◌, length, map, take, drop, Some, refl, sym, ◌∙◌, ap, subst, arith}
+use Rattle.std.proofs.Common.{◌≡◌, ◌⊎◌, inl, inr, ⊎_elim, ℕ, zero, suc, ◌+◌, ◌*◌, ◌<◌, ◌≤◌, List, [], ◌∷◌, ◌++◌, length, map, take, drop, Some, refl, sym, ◌∙◌, ap, arith}
 use Rattle.std.specs.Prelude.{slice_index_or, slice_set}
 use Rattle.std.specs.List.{slice_get, insert, remove}
 use Rattle.node_shell.specs.Pairs.{every_other, first_disks, woven}
@@ -70,17 +70,8 @@ take_at (suc n) [] p x at = cc
 take_at (suc n) (y ∷ l) zero x at = (omega arith, at)
 take_at (suc n) (y ∷ l) (suc p) x at = let rest = take_at n l p x at in (omega (arith, rest.0), rest.1)
 
-at_take : {X : Type 0} (n : ℕ) (l : List X) (p : ℕ) (x : X) → p < n → slice_get l p ≡ Some x → slice_get (take n l) p ≡ Some x
-at_take zero l p x within at = absurd (omega (arith, within))
-at_take (suc n) [] p x within at = cc
-at_take (suc n) (y ∷ l) zero x within at = at
-at_take (suc n) (y ∷ l) (suc p) x within at = at_take n l p x (omega (arith, within)) at
-
 pub first_at : {X : Type 0} (n : ℕ) (l : List X) (p : ℕ) (x : X) → slice_get (first_disks n l) p ≡ Some x → (p < n) × (slice_get l (2 * p) ≡ Some x)
 first_at n l p x at = let found = take_at n (every_other l) p x at in (found.0, sym (every_other_at l p) ∙ found.1)
-
-pub at_first : {X : Type 0} (n : ℕ) (l : List X) (p : ℕ) (x : X) → p < n → slice_get l (2 * p) ≡ Some x → slice_get (first_disks n l) p ≡ Some x
-at_first n l p x within at = at_take n (every_other l) p x within (every_other_at l p ∙ at)
 
 every_other_count : {X : Type 0} (a b : List X) → length a ≡ length b → length (every_other a) ≡ length (every_other b)
 every_other_count [] [] same = refl
@@ -151,6 +142,19 @@ map_set f [] i y = refl
 map_set f (x ∷ l) zero y = refl
 map_set f (x ∷ l) (suc i) y = ap (λ r. f x ∷ r) (map_set f l i y)
 
+pub set_count : {X : Type 0} (l : List X) (i : ℕ) (y : X) → length (slice_set l i y) ≡ length l
+set_count [] i y = refl
+set_count (x ∷ l) zero y = refl
+set_count (x ∷ l) (suc i) y = ap suc (set_count l i y)
+
+-- what stands at a place once one was set: that, or what stood there
+pub at_set : {X : Type 0} (l : List X) (i : ℕ) (y : X) (p : ℕ) (x : X) → slice_get (slice_set l i y) p ≡ Some x → ((p ≡ i) × (x ≡ y)) ⊎ (slice_get l p ≡ Some x)
+at_set [] i y p x h = cc
+at_set (z ∷ l) zero y zero x h = let e : x ≡ y = cc in inl (refl, e)
+at_set (z ∷ l) zero y (suc p) x h = inr h
+at_set (z ∷ l) (suc i) y zero x h = inr h
+at_set (z ∷ l) (suc i) y (suc p) x h = ⊎_elim (λ (s : (p ≡ i) × (x ≡ y)). inl (ap suc s.0, s.1)) (λ s. inr s) (at_set l i y p x h)
+
 pub behind_set : {X : Type 0} (l : List X) (i n : ℕ) (y : X) → i < n → drop n (slice_set l i y) ≡ drop n l
 behind_set [] i n y within = refl
 behind_set (x ∷ l) i zero y within = absurd (omega (arith, within))
@@ -174,6 +178,3 @@ module _ {X Y : Type 0} (f : X → Y) (own rest all : List X) (n : ℕ) (whole :
 
   pub behind : drop (2 * n) all ≡ drop n rest
   behind = ap (drop (2 * n)) (sym whole) ∙ ap (λ k. drop (2 * k) (woven own rest)) (sym count) ∙ behind_woven own rest (omega (arith, count, few)) ∙ ap (λ k. drop k rest) count
-
-  pub all_count : length all ≡ n + length rest
-  all_count = ap length (sym whole) ∙ woven_count own rest ∙ ap (λ k. k + length rest) count

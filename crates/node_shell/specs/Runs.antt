@@ -11,8 +11,8 @@ use Rattle.disk_journal.specs.declared.fault.OpenFault.TheVariants as open_fault
 use Rattle.net_model.specs.Environment.{Environment, environment, party}
 use Rattle.net_model.specs.Runs.{IsFaithful, network_of}
 use Rattle.flow_machine.specs.Machine.{Machine}
-use Rattle.node_core.specs.Fits.{misfit}
-use Rattle.node_core.specs.Journals.{Reads, records_of, state_of, causes_of}
+use Rattle.node_tables.specs.Fits.{misfit}
+use Rattle.node_tables.specs.Journals.{Reads, records_of, state_of, causes_of}
 use Rattle.node_core.specs.declared.faults.BootFault.{BootFault}
 use Rattle.node_core.specs.declared.faults.BootFault.TheVariants as boot
 use Rattle.network_core.specs.Worlds.{World, NodeWorld, NetSeen, MaySpell, Shows, Coherent, Choice}
@@ -40,9 +40,9 @@ environment_for m frame_at n = environment m frame_at (member n.nodes (party n.n
 abbrev pub over : {F : Type 0} → Environment F → ℕ → List DiskView → NetSeen
 over e now disks = net_over e.nodes e.notary now disks
 
--- a world whose nodes are all down
+-- a world whose nodes are all down, and in which no frame waits
 abbrev pub all_down : World → World
-all_down w = record w { nodes = map (λ (x : NodeWorld). record x { up = false }) w.nodes }
+all_down w = record w { nodes = map (λ (x : NodeWorld). record x { up = false; acked = []; waiting = [] }) w.nodes }
 
 -- nothing but the disks' counts of faults has changed, and they have not fallen
 pub record MadeReady (w v : World) : Type 0 where
@@ -58,7 +58,7 @@ pub record Rests {F : Type 0} (e : Environment F) (disks : List DiskView) (w : W
 
 -- where a disk tells its content, no opening of this node refuses it: it keeps no begun journal, or a sound one of the node's own whose records fit
 abbrev pub KeepsOwn : {F : Type 0} → Reads F → Identity → DiskView → Type 0
-KeepsOwn frame_at id disk = disk.tells ≡ true → (refusal id disk.state.kept ≡ None) × (misfit frame_at (placed 16 (journal_of disk.state.kept)) ≡ None)
+KeepsOwn frame_at id disk = disk.tells ≡ true → (refusal id disk.state.kept ≡ None) × (misfit frame_at id.nodes id.party (placed 16 (journal_of disk.state.kept)) ≡ None)
 
 -- no opening of one of these nodes refuses its disk
 abbrev pub KeepOwn : {F : Type 0} → Reads F → ℕ → Party → List DiskView → Type 0
@@ -128,7 +128,7 @@ pub record OneFails (count : ℕ) (old new : List DiskView) : Type 0 where
 
 -- these bytes are those of a journal of this node whose records do not fit, the first of them at that place
 abbrev pub MisfitsAt : {F : Type 0} → Reads F → Identity → List ℕ → ℕ → Type 0
-MisfitsAt frame_at id bytes at = (refusal id bytes ≡ None) × (misfit frame_at (placed 16 (journal_of bytes)) ≡ Some at)
+MisfitsAt frame_at id bytes at = (refusal id bytes ≡ None) × (misfit frame_at id.nodes id.party (placed 16 (journal_of bytes)) ≡ Some at)
 
 -- why the first opening of a node over a disk was refused: the disk failed; or memory ran out; or it keeps no sound journal of the node's, or
 -- one whose records do not fit

@@ -8,7 +8,7 @@ use Rattle.net_base.specs.declared.names.Identity.{Identity}
 use Rattle.flow_machine.specs.Machine.{Machine}
 use Rattle.net_model.specs.Environment.{Environment, environment}
 use Rattle.net_model.specs.Print.{printed, of_flows, of_flow, of_history}
-use Rattle.node_core.specs.Journals.{Reads, causes_of, state_of}
+use Rattle.node_tables.specs.Journals.{Reads, causes_of, state_of}
 use Rattle.node_core.specs.Seen.{NodeSeen}
 use Rattle.network_core.specs.declared.steps.Outcome.{Outcome}
 use Rattle.network_core.specs.declared.steps.Outcome.TheVariants as outcome
@@ -33,6 +33,7 @@ name_of code =
     else if code == 4 then codes "NodeUp"
     else if code == 5 then codes "UnknownClass"
     else if code == 6 then codes "BadArgs"
+    else if code == 7 then codes "NoFrame"
     else if code == 8 then codes "NoFuse"
     else if code == 9 then codes "Full"
     else if code == 10 then codes "Backwards"
@@ -45,6 +46,13 @@ outcome_text outcome.Fine = codes "ok\n"
 outcome_text (outcome.Started flow) = codes "flow " ++ decimal flow ++ 10 ∷ []
 outcome_text (outcome.Moved flow) = codes "moved " ++ decimal flow ++ 10 ∷ []
 outcome_text outcome.Idle = codes "idle\n"
+outcome_text (outcome.Posted count) = codes "posted " ++ decimal count ++ 10 ∷ []
+outcome_text (outcome.Took upto) = codes "took\n"
+outcome_text outcome.Acked = codes "acked\n"
+outcome_text (outcome.Again expected) = codes "again " ++ decimal expected ++ 10 ∷ []
+outcome_text (outcome.Early expected) = codes "early " ++ decimal expected ++ 10 ∷ []
+outcome_text outcome.NoSession = codes "nosession\n"
+outcome_text outcome.Lost = codes "lost\n"
 outcome_text outcome.Armed = codes "armed\n"
 outcome_text outcome.Down = codes "down\n"
 outcome_text outcome.Booted = codes "booted\n"
@@ -77,6 +85,10 @@ place_of n = min n 255
 abbrev pub flow_of : ℕ → ℕ
 flow_of n = min n (2 ^ 32 - 1)
 
+-- a place of a waiting frame, where it is too great the greatest that names one: no list of frames is so long
+abbrev pub frame_of : ℕ → ℕ
+frame_of n = min n (2 ^ 32 - 1)
+
 -- a class and arguments, where no argument names a recorded transaction: none is recorded yet
 abbrev pub unmarked : Bool → Result (ℕ × List ℕ) WordFault → Result (ℕ × List ℕ) WordFault
 unmarked false words = words
@@ -97,6 +109,10 @@ abbrev pub step_of : {F : Type 0} → Environment F → Command → List (List �
 step_of e (command.Clock to) words = Some (step.Clock (record { 0 = to }))
 step_of e (command.Start node) words = start_step (place_of node) (started_by e words)
 step_of e (command.Turn node pick) words = Some (step.Turn (place_of node) (option_map flow_of pick))
+step_of e (command.Post node) words = Some (step.Post (place_of node))
+step_of e (command.Deliver node at) words = Some (step.Deliver (place_of node) (frame_of at))
+step_of e (command.Repeat node at) words = Some (step.Repeat (place_of node) (frame_of at))
+step_of e (command.Lose node at) words = Some (step.Lose (place_of node) (frame_of at))
 step_of e (command.Cut node calls kind) words = Some (step.Cut (place_of node) calls kind)
 step_of e (command.Boot node) words = Some (step.Boot (place_of node))
 step_of e command.Drain words = Some step.Drain
@@ -155,6 +171,10 @@ Answers e w command.Quit words reply = reply ≡ Quit
 Answers e w command.Unknown words reply = IsRefused 1 reply
 Answers e w (command.Clock to) words reply = ⊥
 Answers e w (command.Turn node pick) words reply = ⊥
+Answers e w (command.Post node) words reply = ⊥
+Answers e w (command.Deliver node at) words reply = ⊥
+Answers e w (command.Repeat node at) words reply = ⊥
+Answers e w (command.Lose node at) words reply = ⊥
 Answers e w (command.Cut node calls kind) words reply = ⊥
 Answers e w (command.Boot node) words reply = ⊥
 Answers e w command.Drain words reply = ⊥
@@ -223,6 +243,10 @@ is_quit_command command.Quit = true
 is_quit_command (command.Clock to) = false
 is_quit_command (command.Start node) = false
 is_quit_command (command.Turn node pick) = false
+is_quit_command (command.Post node) = false
+is_quit_command (command.Deliver node at) = false
+is_quit_command (command.Repeat node at) = false
+is_quit_command (command.Lose node at) = false
 is_quit_command (command.Cut node calls kind) = false
 is_quit_command (command.Boot node) = false
 is_quit_command command.Drain = false

@@ -6,7 +6,7 @@ ghost use Rattle.shell_words.specs.Script.{command_of, is_quit, has_mark};
 ghost use Rattle.shell_words.specs.declared.commands.Command.TheVariants as command;
 ghost use Rattle.flow_machine.specs.Flows.{GivesWords};
 ghost use Rattle.net_model.specs.Print.{printed, of_flows};
-ghost use Rattle.node_shell.specs.Serve.{Comes, LineComes, StepComes, InWorld, AtNode, AsksFlow, AsksHistory, IsRefused, causes_in, causes_up, unmarked, place_of, flow_of, is_end, is_quit_command, reply_text};
+ghost use Rattle.node_shell.specs.Serve.{Comes, LineComes, StepComes, InWorld, AtNode, AsksFlow, AsksHistory, IsRefused, causes_in, causes_up, unmarked, place_of, flow_of, frame_of, is_end, is_quit_command, reply_text};
 
 use super::replies::Reply;
 use flow_machine::{FlowSet, WordFault};
@@ -30,6 +30,13 @@ fn flow_of(flow: u64) -> u32
     ensures { result ≡ flow_of flow }
 {
     flow.min(u32::MAX as u64) as u32
+}
+
+/// The place of a waiting frame; one that is too great is none's.
+fn frame_of(place: u64) -> u32
+    ensures { result ≡ frame_of place }
+{
+    place.min(u32::MAX as u64) as u32
 }
 
 /// The pick of a turn.
@@ -202,6 +209,31 @@ fn serve<B: Bay, F: FlowSet>(
             };
             make(alloc, net, &step)
         }
+        Command::Post { node } => {
+            let node = place_of(node);
+            make(alloc, net, &Step::Post { node })
+        }
+        Command::Deliver { node, place } => {
+            let step = Step::Deliver {
+                node: place_of(node),
+                at: frame_of(place),
+            };
+            make(alloc, net, &step)
+        }
+        Command::Repeat { node, place } => {
+            let step = Step::Repeat {
+                node: place_of(node),
+                at: frame_of(place),
+            };
+            make(alloc, net, &step)
+        }
+        Command::Lose { node, place } => {
+            let step = Step::Lose {
+                node: place_of(node),
+                at: frame_of(place),
+            };
+            make(alloc, net, &step)
+        }
         Command::Cut {
             node,
             calls,
@@ -234,8 +266,8 @@ fn serve<B: Bay, F: FlowSet>(
 ///
 /// # Errors
 ///
-/// `AllocError` for want of memory. Nothing has changed then, but that a drain keeps the turns that it made, and that a node which was
-/// to be booted has its power back.
+/// `AllocError` for want of memory. Nothing has changed then, but that a drain keeps the turns, posts and deliveries that it made, and
+/// that a node which was to be booted has its power back.
 pub fn reply_to<B: Bay, F: FlowSet>(
     alloc: Global,
     net: &mut Net<B, F>,

@@ -1,7 +1,8 @@
 use super::{Ended, run};
 use disk_mem::MemDisk;
-use flow_machine::Counter;
+use flow_machine::{Counter, FlowSet};
 use outside::{Bay, Disk, MemSink, MemSource};
+use shipped_flows::ShippedFlow;
 use std::alloc::{AllocError, Global};
 use std::test::Fail;
 
@@ -52,7 +53,7 @@ fn disks_with(alloc: Global, place: usize, disk: MemDisk) -> Result<Vec<MemDisk>
 }
 
 // Runs a script over so many nodes on these disks; the reads and writes with these numbers fail.
-fn run_nodes(
+fn run_nodes<F: FlowSet>(
     alloc: Global,
     nodes: &str,
     disks: Vec<MemDisk>,
@@ -67,7 +68,7 @@ fn run_nodes(
     let mut source = MemSource::new(bytes, failing_reads);
     let mut sink = MemSink::new(alloc, 1000, failing_writes)?;
     let words = nodes_words(alloc, nodes)?;
-    let ended = run::<_, _, _, Counter>(alloc, words.as_slice(), &mut source, &mut sink, disks);
+    let ended = run::<_, _, _, F>(alloc, words.as_slice(), &mut source, &mut sink, disks);
     Ok((ended, sink))
 }
 
@@ -79,7 +80,7 @@ fn run_on(
     failing_reads: Vec<u64>,
     failing_writes: Vec<u64>,
 ) -> Result<(Ended<MemDisk>, MemSink), Fail> {
-    run_nodes(alloc, "1", disks, script, failing_reads, failing_writes)
+    run_nodes::<Counter>(alloc, "1", disks, script, failing_reads, failing_writes)
 }
 
 // Runs a script over one node on these disks.
@@ -277,9 +278,80 @@ fn several_nodes_have_their_answers(rt: HostRuntime) -> Result<(), Fail> {
     for (nodes, script, answers) in rows {
         let disks = disks_from(alloc, MemDisk::new(alloc))?;
         let none = Vec::new(alloc);
-        let (ended, sink) = run_nodes(alloc, nodes, disks, script, none, Vec::new(alloc))?;
+        let (ended, sink) = run_nodes::<Counter>(
+            alloc,
+            nodes,
+            disks,
+            script,
+            none,
+            Vec::new(alloc),
+        )?;
         assert_eq!(rt; ended.status, 0);
         assert_eq!(rt; ended.disks.len(), 32);
+        assert_eq!(rt; sink.bytes(), answers.as_bytes());
+    }
+    Ok(())
+}
+
+// The counting flow talks to no other node, so that no frame waits anywhere.
+#[test]
+fn commands_of_frames_have_their_answers(rt: HostRuntime) -> Result<(), Fail> {
+    let alloc = rt.alloc();
+    let rows = [
+        (
+            "post 0\ndeliver 0 0\nrepeat 1 0\nlose 1 0\nrepeat 9 0\npost 2\ndeliver 2 0\nlose 256 0\nlose 0 4294967296\n",
+            "posted 0\n! 7 NoFrame\n! 7 NoFrame\n! 7 NoFrame\n! 2 UnknownNode\n! 2 UnknownNode\n! 2 UnknownNode\n! 2 UnknownNode\n! 7 NoFrame\n",
+        ),
+        (
+            "deliver 0\npost\nrepeat 0 x\nlose 0 0 0\n",
+            "! 1 Syntax\n! 1 Syntax\n! 1 Syntax\n! 1 Syntax\n",
+        ),
+        (
+            "cut 1 0 0\npost 1\ndeliver 1 0\nrepeat 1 0\nlose 1 0\n",
+            "down\n! 3 NodeDown\n! 3 NodeDown\n! 3 NodeDown\n! 7 NoFrame\n",
+        ),
+    ];
+    for (script, answers) in rows {
+        let disks = disks_from(alloc, MemDisk::new(alloc))?;
+        let none = Vec::new(alloc);
+        let (ended, sink) = run_nodes::<Counter>(alloc, "2", disks, script, none, Vec::new(alloc))?;
+        assert_eq!(rt; ended.status, 0);
+        assert_eq!(rt; sink.bytes(), answers.as_bytes());
+    }
+    Ok(())
+}
+
+// Node 0 pings node 1 once. A frame is lost, is posted twice, of which one waits, and arrives twice; an acknowledgement is lost; the power
+// of node 1 goes once the gate of its first record was written.
+#[test]
+fn nodes_that_talk_have_their_answers(rt: HostRuntime) -> Result<(), Fail> {
+    let alloc = rt.alloc();
+    let rows = [
+        (
+            "start 0 ping 1 1\nturn 0\npost 0\nlose 1 0\npost 0\npost 0\nrepeat 1 0\ndeliver 1 0\ndeliver 0 0\ndeliver 0 0\npost 0\ndrain\nflow 0 0\nflow 1 0\n",
+            "flow 0\nmoved 0\nposted 1\nlost\nposted 1\nposted 0\ntook\nagain 1\nacked\n! 7 NoFrame\nposted 0\ndrained\nflow 0 class 2 steps 3 ended number 1\nflow 0 class 2 steps 4 ended unit\n",
+        ),
+        (
+            "start 0 ping 1 1\nturn 0\npost 0\nrepeat 1 0\ndeliver 1 0\nlose 0 0\nlose 0 0\ndrain\nflows 1\n",
+            "flow 0\nmoved 0\nposted 1\ntook\nagain 1\nlost\n! 7 NoFrame\ndrained\nflow 0 class 2 steps 4 ended unit\n",
+        ),
+        (
+            "start 0 ping 1 1\nturn 0\npost 0\ncut 1 4 1\ndeliver 1 0\nflows 1\nboot 1\nflows 1\ndrain\nflows 1\n",
+            "flow 0\nmoved 0\nposted 1\narmed\nfault\n! 3 NodeDown\nbooted\nflow 0 class 2 steps 0 waits receive\ndrained\nflow 0 class 2 steps 4 ended unit\n",
+        ),
+    ];
+    for (script, answers) in rows {
+        let disks = disks_from(alloc, MemDisk::new(alloc))?;
+        let none = Vec::new(alloc);
+        let (ended, sink) = run_nodes::<ShippedFlow>(
+            alloc,
+            "2",
+            disks,
+            script,
+            none,
+            Vec::new(alloc),
+        )?;
+        assert_eq!(rt; ended.status, 0);
         assert_eq!(rt; sink.bytes(), answers.as_bytes());
     }
     Ok(())
@@ -311,7 +383,14 @@ fn the_first_node_that_does_not_open_ends_the_run(rt: HostRuntime) -> Result<(),
     ];
     let disks = disks_with(alloc, 2, disk_of(alloc, &header)?)?;
     let none = Vec::new(alloc);
-    let (mut ended, sink) = run_nodes(alloc, "4", disks, "flows 0\n", none, Vec::new(alloc))?;
+    let (mut ended, sink) = run_nodes::<Counter>(
+        alloc,
+        "4",
+        disks,
+        "flows 0\n",
+        none,
+        Vec::new(alloc),
+    )?;
     assert_eq!(rt; ended.status, 8);
     assert_eq!(rt; sink.bytes(), b"! journal 1 wrong\n".as_slice());
     assert_eq!(rt; length_at(&mut ended.disks, 0), Some(17));
@@ -322,7 +401,14 @@ fn the_first_node_that_does_not_open_ends_the_run(rt: HostRuntime) -> Result<(),
     // In its own network it opens.
     let none = Vec::new(alloc);
     let script = "turn 1\nturn 2\n";
-    let (mut again, sink) = run_nodes(alloc, "3", ended.disks, script, none, Vec::new(alloc))?;
+    let (mut again, sink) = run_nodes::<Counter>(
+        alloc,
+        "3",
+        ended.disks,
+        script,
+        none,
+        Vec::new(alloc),
+    )?;
     assert_eq!(rt; again.status, 8);
     assert_eq!(rt; sink.bytes(), b"! journal 0 wrong\n".as_slice());
     assert_eq!(rt; length_at(&mut again.disks, 4), Some(0));

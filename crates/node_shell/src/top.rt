@@ -110,10 +110,10 @@ fn run_network<S: Source, K: Sink, B: Bay, F: FlowSet>(
 /// Runs a script over a network of 1 to 16 nodes, line by line, and writes the answers.
 ///
 /// The words are `--nodes n`, with 1 to 16, and `--notary n`, with 0 to 15 and below the number of nodes, each at most once and in any
-/// order; without them there are two nodes, and node 0 is the notary. Of the 32 disks node `n` has disks `2n` and `2n + 1`, which are made ready in memory as `node-n.a` and
-/// `node-n.b`; its journal is on the first. All disks are made ready in order, and then the nodes are opened in order. A script has at
-/// most 16,777,216 bytes. Each line of it is a command, which has one answer line or, a query, several; a blank line, one that begins
-/// with `#` and `quit` have none.
+/// order; without them there are two nodes, and node 0 is the notary. Of the 32 disks node `n` has disks `2n` and `2n + 1`, which are made
+/// ready in memory as `node-n.a` and `node-n.b`; its journal is on the first. All disks are made ready in order, and then the nodes are
+/// opened in order. A script has at most 16,777,216 bytes. Each line of it is a command, which has one answer line or, a query, several; a
+/// blank line, one that begins with `#` and `quit` have none. The frames that wait when it ends are not kept.
 pub fn run<S: Source, K: Sink, B: Bay, F: FlowSet>(
     alloc: Global,
     words: &[String],

@@ -1,5 +1,4 @@
 use Rattle.std.proofs.Common.{rules, ◌≡◌, ◌+◌, suc, ◌++◌, ◌∷◌, [], length, arith, ap, ◌∙◌}
-use Rattle.std.specs.List.{remove}
 use Rattle.node_shell.proofs.Weaving.{is_left, one_taken, last_more}
 use Rattle.node_shell.proofs.disks.take_first.Goals as goal
 

@@ -1,6 +1,6 @@
 use Rattle.std.proofs.Common.{◌≡◌, ◌++◌, ◌∷◌, [], length, ap, refl, ◌∙◌, arith, add-one}
 use Rattle.std.proofs.lemmas.Option.{slice_get_read}
-use Rattle.node_core.specs.Journals.{causes_of}
+use Rattle.node_tables.specs.Journals.{causes_of}
 use Rattle.node_shell.proofs.Shown.{causes_step}
 use Rattle.node_shell.proofs.serving.all_causes.Goals as goal
 

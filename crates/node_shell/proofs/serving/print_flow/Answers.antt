@@ -1,7 +1,6 @@
 use Rattle.std.proofs.Common.{ap, ◌∙◌, sym}
 use Rattle.std.specs.List.{slice_get}
 use Rattle.net_model.specs.Environment.{environment}
-use Rattle.net_model.proofs.Cut.{environment_is_narrow}
 use Rattle.node_shell.specs.declared.replies.Reply.TheVariants.{Printed}
 use Rattle.node_shell.proofs.Shown.{found_at, flow_down, flow_none, flow_some}
 use Rattle.node_shell.proofs.serving.print_flow.Goals as goal
@@ -20,7 +19,7 @@ returns-in-None-2-clause-asks g c = λ id w shows coherent.
     let at = found_at net.nodes c.nodes.result.now c.args.place _ c.in-Some.node.now c.nodes.ensures.nodes (sym c.in-Some.ensures.lookup.0) c.in-Some.ensures.lookup.1 in
     let up = c.in-Some-flows.ensures in
     let none = rw c.in-None-2.is at c.in_ok-flow_text-in-Some-flows.ensures in
-    flow_none e net w shows c.args.place c.refused-in-None-2.result c.in-Some.node.now at (environment_is_narrow g.F.FlowSet.machine g.F.Spelt.reading id) coherent up.0 up.1 c.args.flow
+    flow_none e net w shows c.args.place c.refused-in-None-2.result c.in-Some.node.now at coherent up.0 up.1 c.args.flow
     (sym (ap (λ l. slice_get l c.args.flow) up.2) ∙ none) c.refused-in-None-2.ensures
 
 pub returns-in-Some-2-clause-asks : goal.returns-in-Some-2-clause-asks
@@ -30,5 +29,5 @@ returns-in-Some-2-clause-asks g c = λ id w shows coherent.
     let at = found_at net.nodes c.nodes.result.now c.args.place _ c.in-Some.node.now c.nodes.ensures.nodes (sym c.in-Some.ensures.lookup.0) c.in-Some.ensures.lookup.1 in
     let up = c.in-Some-flows.ensures in
     let some = rw c.in-Some-2.is at c.in_ok-flow_text-in-Some-flows.ensures in
-    flow_some e net w shows c.args.place (Printed c.in-Some-2.line) c.in-Some.node.now at (environment_is_narrow g.F.FlowSet.machine g.F.Spelt.reading id) coherent up.0 up.1 c.args.flow some.0
+    flow_some e net w shows c.args.place (Printed c.in-Some-2.line) c.in-Some.node.now at coherent up.0 up.1 c.args.flow some.0
     (sym (ap (λ l. slice_get l c.args.flow) up.2) ∙ some.1) some.2

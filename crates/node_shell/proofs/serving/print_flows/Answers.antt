@@ -1,7 +1,6 @@
 use Rattle.std.proofs.Common.{ap, ◌∙◌, sym}
 use Rattle.net_model.specs.Environment.{environment}
 use Rattle.net_model.specs.Print.{flows_text}
-use Rattle.net_model.proofs.Cut.{environment_is_narrow}
 use Rattle.node_shell.specs.declared.replies.Reply.TheVariants.{Printed}
 use Rattle.node_shell.proofs.Shown.{found_at, flows_down, flows_up}
 use Rattle.node_shell.proofs.serving.print_flows.Goals as goal
@@ -19,5 +18,5 @@ returns-in_ok-flows_text-in-Some-flows-clause-asks g c = λ id w shows coherent.
     let net = c.args.net.now in
     let at = found_at net.nodes c.nodes.result.now c.args.place _ c.in-Some.node.now c.nodes.ensures.nodes (sym c.in-Some.ensures.lookup.0) c.in-Some.ensures.lookup.1 in
     let up = c.in-Some-flows.ensures in
-    flows_up e net w shows c.args.place (Printed c.in_ok-flows_text-in-Some-flows.field-0) c.in-Some.node.now at (environment_is_narrow g.F.FlowSet.machine g.F.Spelt.reading id) coherent up.0 up.1
+    flows_up e net w shows c.args.place (Printed c.in_ok-flows_text-in-Some-flows.field-0) c.in-Some.node.now at coherent up.0 up.1
     (c.in_ok-flows_text-in-Some-flows.ensures ∙ ap (λ l. flows_text l) up.2)

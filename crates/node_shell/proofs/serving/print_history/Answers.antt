@@ -2,7 +2,6 @@ use Rattle.std.proofs.Common.{inl, inr, length, sym, ◌∙◌, ap, arith}
 use Rattle.net_model.specs.Runs.{merged}
 use Rattle.net_model.specs.Print.{history_text}
 use Rattle.net_model.specs.Environment.{environment}
-use Rattle.net_model.proofs.Cut.{environment_is_narrow}
 use Rattle.node_shell.specs.Serve.{causes_up}
 use Rattle.node_shell.proofs.Shown.{all_up, one_down, up_count, shows_each, history_printed}
 use Rattle.node_shell.proofs.serving.print_history.Goals as goal
@@ -25,4 +24,4 @@ returns-in_ok-history_text-in-Some-clause-asks g c = λ id w shows coherent.
     let lists = c.in-Some.lists.items in
     let some = rw c.in-Some.is at c.in_ok-all_causes.ensures in
     let up = all_up g.F.Spelt.reading c.args.net.now.nodes w.nodes lists shows.count (shows_each e c.args.net.now w shows) (sym (ap (λ l. causes_up g.F.Spelt.reading l) c.nodes.ensures.nodes) ∙ sym some) in
-    inr (up.1, c.in_ok-history_text-in-Some.ensures ∙ ap (λ l. history_text (merged l)) (c.as_slice.ensures.value ∙ up.0) ∙ sym (history_printed e (environment_is_narrow g.F.FlowSet.machine g.F.Spelt.reading id) w coherent))
+    inr (up.1, c.in_ok-history_text-in-Some.ensures ∙ ap (λ l. history_text (merged l)) (c.as_slice.ensures.value ∙ up.0) ∙ sym (history_printed e w coherent))

@@ -1,7 +1,7 @@
 use Rattle.std.proofs.Common.{refl, map, string_bytes, option_map}
 use Rattle.network_core.specs.declared.steps.Step.TheVariants as step
 use Rattle.shell_words.specs.declared.commands.Command.TheVariants as command
-use Rattle.node_shell.specs.Serve.{place_of, flow_of}
+use Rattle.node_shell.specs.Serve.{place_of, flow_of, frame_of}
 use Rattle.node_shell.proofs.Asked.{made, answered, asked_as}
 use Rattle.node_shell.proofs.serving.serve.Goals as goal
 
@@ -28,6 +28,46 @@ returns-in-Turn-clause-serves g c =
     asked_as m f c.args.net.now c.make-in-Turn.new.net asked ws c.make-in-Turn.result c.in-Turn.ensures
     (made m f c.args.net.now c.make-in-Turn.new.net asked ws (step.Turn (place_of c.in-Turn.node) (option_map flow_of c.in-Turn.pick)) c.make-in-Turn.result (λ id. refl)
     (rw (c.place_of.ensures, c.pick_of.ensures) at c.make-in-Turn.ensures.serves))
+
+pub returns-in-Post-clause-serves : goal.returns-in-Post-clause-serves
+returns-in-Post-clause-serves g c =
+    let m = g.F.FlowSet.machine in
+    let f = g.F.Spelt.reading in
+    let ws = map (λ s. string_bytes s) c.args.words.now in
+    let asked = command.Post c.in-Post.node in
+    asked_as m f c.args.net.now c.make-in-Post.new.net asked ws c.make-in-Post.result c.in-Post.ensures
+    (made m f c.args.net.now c.make-in-Post.new.net asked ws (step.Post (place_of c.in-Post.node)) c.make-in-Post.result (λ id. refl)
+    (rw c.place_of-node.ensures at c.make-in-Post.ensures.serves))
+
+pub returns-in-Deliver-clause-serves : goal.returns-in-Deliver-clause-serves
+returns-in-Deliver-clause-serves g c =
+    let m = g.F.FlowSet.machine in
+    let f = g.F.Spelt.reading in
+    let ws = map (λ s. string_bytes s) c.args.words.now in
+    let asked = command.Deliver c.in-Deliver.node c.in-Deliver.place in
+    asked_as m f c.args.net.now c.make-in-Deliver.new.net asked ws c.make-in-Deliver.result c.in-Deliver.ensures
+    (made m f c.args.net.now c.make-in-Deliver.new.net asked ws (step.Deliver (place_of c.in-Deliver.node) (frame_of c.in-Deliver.place)) c.make-in-Deliver.result (λ id. refl)
+    (rw (c.place_of-in-Deliver.ensures, c.frame_of.ensures) at c.make-in-Deliver.ensures.serves))
+
+pub returns-in-Repeat-clause-serves : goal.returns-in-Repeat-clause-serves
+returns-in-Repeat-clause-serves g c =
+    let m = g.F.FlowSet.machine in
+    let f = g.F.Spelt.reading in
+    let ws = map (λ s. string_bytes s) c.args.words.now in
+    let asked = command.Repeat c.in-Repeat.node c.in-Repeat.place in
+    asked_as m f c.args.net.now c.make-in-Repeat.new.net asked ws c.make-in-Repeat.result c.in-Repeat.ensures
+    (made m f c.args.net.now c.make-in-Repeat.new.net asked ws (step.Repeat (place_of c.in-Repeat.node) (frame_of c.in-Repeat.place)) c.make-in-Repeat.result (λ id. refl)
+    (rw (c.place_of-in-Repeat.ensures, c.frame_of-in-Repeat.ensures) at c.make-in-Repeat.ensures.serves))
+
+pub returns-in-Lose-clause-serves : goal.returns-in-Lose-clause-serves
+returns-in-Lose-clause-serves g c =
+    let m = g.F.FlowSet.machine in
+    let f = g.F.Spelt.reading in
+    let ws = map (λ s. string_bytes s) c.args.words.now in
+    let asked = command.Lose c.in-Lose.node c.in-Lose.place in
+    asked_as m f c.args.net.now c.make-in-Lose.new.net asked ws c.make-in-Lose.result c.in-Lose.ensures
+    (made m f c.args.net.now c.make-in-Lose.new.net asked ws (step.Lose (place_of c.in-Lose.node) (frame_of c.in-Lose.place)) c.make-in-Lose.result (λ id. refl)
+    (rw (c.place_of-in-Lose.ensures, c.frame_of-in-Lose.ensures) at c.make-in-Lose.ensures.serves))
 
 pub returns-in-Cut-clause-serves : goal.returns-in-Cut-clause-serves
 returns-in-Cut-clause-serves g c =

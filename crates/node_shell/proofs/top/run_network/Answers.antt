@@ -1,8 +1,8 @@
-use Rattle.std.proofs.Common.{rules, ◌≡◌, ◌+◌, length, map, refl, Err, sym, ◌∙◌, ap, subst, arith}
+use Rattle.std.proofs.Common.{◌≡◌, ◌+◌, length, map, refl, sym, ◌∙◌, ap, subst, arith}
 use Rattle.net_model.specs.Environment.{party}
 use Rattle.node_shell.specs.declared.statuses.Status.TheVariants as status
 use Rattle.node_shell.specs.Pairs.{first_disks, woven}
-use Rattle.node_shell.specs.Runs.{AllStay, OneFails, IsPlayedNumber}
+use Rattle.node_shell.specs.Runs.{AllStay, IsPlayedNumber}
 use Rattle.node_shell.proofs.Weaving.{woven_count}
 use Rattle.node_shell.proofs.Readying.{stay_same, first_stay}
 use Rattle.node_shell.proofs.Running.{Handed, back_enough, last, last_count, last_behind, last_second, own_stay, one_failed}
