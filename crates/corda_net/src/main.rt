@@ -8,8 +8,8 @@ ghost use Rattle.std.specs.Prelude.{◌≡◌, IfOk, length};
 mod streams;
 
 use disk_mem::MemDisk;
-use flow_machine::Counter;
 use node_shell::run;
+use shipped_flows::ShippedFlow;
 use std::alloc::{AllocError, Global};
 use std::io::BufReader;
 use std::process::ExitCode;
@@ -62,6 +62,6 @@ fn main(rt: HostRuntime) -> ExitCode {
     };
     let mut source = StdSource::new(reader);
     let mut sink = StdSink::new(io::writer(&rt));
-    let ended = run::<_, _, _, Counter>(alloc, words.as_slice(), &mut source, &mut sink, disks);
+    let ended = run::<_, _, _, ShippedFlow>(alloc, words.as_slice(), &mut source, &mut sink, disks);
     ExitCode::from(ended.status)
 }
