@@ -72,7 +72,7 @@ fn part(waiting: &mut Vec<Waiting>, place: usize, at: usize, waits: bool)
     ensures room { (more : ℕ) → AllByRecursion (λ w. more ≤ w.room) waiting.old.items → AllByRecursion (λ w. more ≤ w.room) waiting.new.items }
 {
     if !waits {
-        let _ = waiting[place].remove(at);
+        waiting[place].discard(at);
     }
 }
 

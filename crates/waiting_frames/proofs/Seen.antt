@@ -1,11 +1,30 @@
 -- Lists of bytes by what contracts see of them.
-use Rattle.std.proofs.Common.{◌≡◌, ℕ, suc, Bool, true, false, not, ◌||◌, List, [], ◌∷◌, ◌++◌, refl, sym, ◌∙◌, ap, map, take, drop, remove}
+use Rattle.std.proofs.Common.{◌≡◌, ℕ, zero, suc, ◌+◌, arith, Bool, true, false, not, ◌||◌, List, [], ◌∷◌, ◌++◌, refl, sym, ◌∙◌, ap, map, take, drop, remove, slice_get, subst, ◌&&◌}
 use Rattle.std.specs.Prelude.{bytes_eq, if◌then◌else◌}
 use Rattle.std.specs.List.{list_any, IsDistinct, AllByRecursion}
 use Rattle.std.proofs.lemmas.Bool.{and_from}
 use Rattle.std.proofs.lemmas.List.{map-append, take-map, drop-map}
 use Rattle.indexmap.specs.IndexSet.{insert_key}
 use Rattle.waiting_frames.specs.Waiting.{is_waiting, joined, waits_once}
+
+-- one frame fewer
+pub dropped_next : {V : Type 0} (n : ℕ) (ks : List V) → drop (n + 1) ks ≡ remove (drop n ks) 0
+dropped_next n ks = let next : n + 1 ≡ suc n = omega arith in ap (λ k. drop k ks) next ∙ by n ks
+  where
+    by : {V : Type 0} (n : ℕ) (ks : List V) → drop (suc n) ks ≡ remove (drop n ks) 0
+    by zero [] = refl
+    by zero (k ∷ ks) = refl
+    by (suc n) [] = refl
+    by (suc n) (k ∷ ks) = by n ks
+
+-- the frame at a place of those that wait
+pub get_behind : {V : Type 0} (n i : ℕ) (ks : List V) → slice_get (drop n ks) i ≡ slice_get ks (n + i)
+get_behind {V} n i ks = let sum : i + n ≡ n + i = omega arith in by n ks ∙ ap (slice_get ks) sum
+  where
+    by : (n : ℕ) (ks : List V) → slice_get (drop n ks) i ≡ slice_get ks (i + n)
+    by zero ks = let sum : i ≡ i + 0 = omega arith in ap (slice_get ks) sum
+    by (suc n) [] = refl
+    by (suc n) (k ∷ ks) = let sum : suc (i + n) ≡ i + suc n = omega arith in by n ks ∙ ap (slice_get (k ∷ ks)) sum
 
 module _ {V : Type 0} (items : V → List ℕ) where
   -- equal bytes are found exactly where they wait
@@ -39,3 +58,17 @@ module _ {V : Type 0} (items : V → List ℕ) where
   removed_is ks i =
       map-append items (take i ks) (drop (suc i) ks)
       ∙ (λ j. sym (take-map items i ks) j ++ sym (drop-map items (suc i) ks) j)
+
+  -- of which no two are equal either
+  pub once_fewer : (n : ℕ) (ks : List V) → waits_once (map items (drop n ks)) ≡ true → waits_once (map items (drop (n + 1) ks)) ≡ true
+  once_fewer n ks once = let next : suc n ≡ n + 1 = omega arith in subst (λ k. waits_once (map items (drop k ks)) ≡ true) next (by n ks once)
+    where
+      rest : (first others : Bool) → (first && others) ≡ true → others ≡ true
+      rest true others h = h
+      rest false others h = cc
+
+      by : (n : ℕ) (ks : List V) → waits_once (map items (drop n ks)) ≡ true → waits_once (map items (drop (suc n) ks)) ≡ true
+      by zero [] h = h
+      by zero (k ∷ ks) h = rest _ _ h
+      by (suc n) [] h = h
+      by (suc n) (k ∷ ks) h = by n ks h

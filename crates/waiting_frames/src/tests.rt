@@ -67,23 +67,49 @@ fn a_frame_taken_out_of_the_middle_joins_last(rt: HostRuntime) -> Result<(), Fai
     Ok(())
 }
 
-/// Takes the first three frames out, where there are three.
-fn take_three(waiting: &mut Waiting) {
-    if waiting.len() >= 3 {
-        waiting.remove_front(3);
-    }
+/// Discards the first frame three times.
+fn discard_three(waiting: &mut Waiting) {
+    waiting.discard(0);
+    waiting.discard(0);
+    waiting.discard(0);
 }
 
 #[test]
-fn the_front_is_taken_out_at_once(rt: HostRuntime) -> Result<(), Fail> {
+fn frames_are_discarded_at_the_front(rt: HostRuntime) -> Result<(), Fail> {
     let alloc = rt.alloc();
     let mut waiting = Waiting::new(alloc);
     join_all(alloc, &mut waiting, [&[1], &[2, 2], &[3], &[], &[5]])?;
-    take_three(&mut waiting);
+    discard_three(&mut waiting);
     assert!(rt; holds(&waiting, &[&[], &[5]]));
     let again = join_all(alloc, &mut waiting, [&[5], &[3], &[1], &[], &[2, 2]])?;
     assert_eq!(rt; again, [false, true, true, false, true]);
     assert!(rt; holds(&waiting, &[&[], &[5], &[3], &[1], &[2, 2]]));
+    Ok(())
+}
+
+#[test]
+fn a_frame_is_discarded_behind_the_first(rt: HostRuntime) -> Result<(), Fail> {
+    let alloc = rt.alloc();
+    let mut waiting = Waiting::new(alloc);
+    join_all(alloc, &mut waiting, [&[1], &[2, 2], &[3], &[], &[5]])?;
+    waiting.discard(0);
+    waiting.discard(1);
+    waiting.discard(7);
+    assert!(rt; holds(&waiting, &[&[2, 2], &[], &[5]]));
+    Ok(())
+}
+
+#[test]
+fn none_is_discarded_where_none_waits(rt: HostRuntime) -> Result<(), Fail> {
+    let alloc = rt.alloc();
+    let mut waiting = Waiting::new(alloc);
+    discard_three(&mut waiting);
+    assert!(rt; holds(&waiting, &[]));
+    assert!(rt; join(alloc, &mut waiting, &[1])?);
+    discard_three(&mut waiting);
+    assert!(rt; holds(&waiting, &[]));
+    assert!(rt; join(alloc, &mut waiting, &[1])?);
+    assert!(rt; holds(&waiting, &[&[1]]));
     Ok(())
 }
 

@@ -1,6 +1,7 @@
 //! The list of waiting frames.
 
 ghost use Rattle.std.specs.Prelude.{◌≡◌, ◌<◌, ◌≤◌, ◌+◌, [], true, not, length, drop, remove, slice_get, option_map, OnOk};
+ghost use Rattle.indexmap.specs.IndexSet.{spare};
 ghost use Rattle.waiting_frames.specs.Waiting.{is_waiting, joined, waits_once};
 
 use indexmap::IndexSet;
@@ -12,19 +13,21 @@ use std::marker::Model;
 /// many more there is room. No two of them are equal.
 #[derive(Drop)]
 pub struct Waiting {
+    // Before those that wait stand so many that were discarded.
     frames: IndexSet<Vec<u8>>,
+    gone: usize,
 }
 
 impl Model for Waiting {
-    ghost use Rattle.std.specs.Prelude.{◌≡◌, true, map};
+    ghost use Rattle.std.specs.Prelude.{◌≡◌, ◌≤◌, true, map, drop, length};
     ghost use Rattle.indexmap.specs.IndexSet.{spare};
     ghost use Rattle.waiting_frames.specs.Waiting.{WaitingSeen, waits_once};
 
     ghost Value = { WaitingSeen };
 
-    ghost view = { λ w. record { frames = map (λ f. f.items) w.frames.keys; room = spare w.frames } };
+    ghost view = { λ w. record { frames = map (λ f. f.items) (drop w.gone w.frames.keys); room = spare w.frames } };
 
-    ghost invariant = { λ w. waits_once (map (λ f. f.items) w.frames.keys) ≡ true };
+    ghost invariant = { λ w. (w.gone ≤ length w.frames.keys) × (waits_once (map (λ f. f.items) (drop w.gone w.frames.keys)) ≡ true) };
 }
 
 impl Waiting {
@@ -34,6 +37,7 @@ impl Waiting {
     {
         Waiting {
             frames: IndexSet::new(alloc),
+            gone: 0,
         }
     }
 
@@ -51,14 +55,17 @@ impl Waiting {
     pub fn len(&self) -> usize
         ensures { result ≡ length self.now.frames }
     {
-        self.frames.len()
+        self.frames.len() - self.gone
     }
 
     /// The frame at a place, counted from 0.
     pub fn get(&self, place: usize) -> Option<&[u8]>
         ensures { option_map (λ f. f.now) result ≡ slice_get self.now.frames place }
     {
-        match self.frames.get_index(place) {
+        if place >= self.frames.len() - self.gone {
+            return None;
+        }
+        match self.frames.get_index(self.gone + place) {
             Some(frame) => Some(frame.as_slice()),
             None => None,
         }
@@ -72,6 +79,7 @@ impl Waiting {
         ensures added { result ≡ not (is_waiting frame self.old.frames) }
         ensures room { self.old.room ≤ self.new.room + 1 }
     {
+        compact(&mut self.frames, &mut self.gone);
         self.frames.insert(frame.into_vec()).unwrap()
     }
 
@@ -82,20 +90,24 @@ impl Waiting {
         ensures frames { self.new.frames ≡ remove self.old.frames place }
         ensures room { self.old.room ≤ self.new.room }
     {
+        compact(&mut self.frames, &mut self.gone);
         match self.frames.shift_remove_index(place) {
             Some(frame) => Some(ByteList::from_vec(frame)),
             None => None,
         }
     }
 
-    /// Takes the first `count` frames out, at once: the number of steps grows with that of the frames, and not with `count`
-    /// times that.
-    pub fn remove_front(&mut self, count: usize)
-        requires { count ≤ length self.old.frames }
-        ensures frames { self.new.frames ≡ drop count self.old.frames }
+    /// Discards the frame at a place, counted from 0, if there is one; the others keep their order. The first one takes one step:
+    /// its memory is given back when the next frame joins. For any other the number of steps is at most that of the frames.
+    pub fn discard(&mut self, place: usize)
+        ensures frames { self.new.frames ≡ remove self.old.frames place }
         ensures room { self.old.room ≤ self.new.room }
     {
-        drop(self.frames.drain(..count));
+        if place > 0 {
+            let _ = self.remove(place);
+        } else if self.gone < self.frames.len() {
+            self.gone += 1;
+        }
     }
 
     /// The law of waiting frames, which takes no work: no two of them are equal.
@@ -103,5 +115,18 @@ impl Waiting {
         ensures { waits_once self.now.frames ≡ true }
     {
         let _ = &self.frames;
+    }
+}
+
+/// Takes the first frames out, so many as were discarded, at once.
+fn compact(frames: &mut IndexSet<Vec<u8>>, gone: &mut usize)
+    requires { gone.old ≤ length frames.old.keys }
+    ensures frames { frames.new.keys ≡ drop gone.old frames.old.keys }
+    ensures gone { gone.new ≡ 0 }
+    ensures room { spare frames.old ≤ spare frames.new }
+{
+    if *gone > 0 {
+        drop(frames.drain(..*gone));
+        *gone = 0;
     }
 }

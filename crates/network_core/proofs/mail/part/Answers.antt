@@ -12,4 +12,4 @@ returns-then-not-waits-clause-parted c w there =
     let at = slice_get_read items (length items) c.args.place c.index_mut.result.now refl inside c.index_mut.ensures.value in
     let same = same_Some _ _ (sym at ∙ there) in
     rw c.if-not-waits.true
-    (parts_at (λ (z : WaitingSeen). z.frames) items c.args.place c.args.at w c.remove.new.self there (c.remove.ensures.frames ∙ removed_is c.index_mut.result.now.frames c.args.at ∙ ap (λ (z : WaitingSeen). without c.args.at z.frames) same))
+    (parts_at (λ (z : WaitingSeen). z.frames) items c.args.place c.args.at w c.discard.new.self there (c.discard.ensures.frames ∙ removed_is c.index_mut.result.now.frames c.args.at ∙ ap (λ (z : WaitingSeen). without c.args.at z.frames) same))
