@@ -1,5 +1,5 @@
 -- Which frames wait once one joined.
-use Rattle.std.proofs.Common.{◌≡◌, ◌⊎◌, inl, inr, ℕ, zero, suc, Bool, true, false, ◌||◌, List, [], ◌∷◌, ◌++◌, Some, refl, sym, ap, true≢false, length, drop, remove, slice_get}
+use Rattle.std.proofs.Common.{◌≡◌, ◌⊎◌, inl, inr, ℕ, zero, suc, Bool, true, false, ◌||◌, List, [], ◌∷◌, ◌++◌, Some, refl, sym, ap, true≢false, length, remove, slice_get}
 use Rattle.std.specs.Prelude.{bytes_eq, if◌then◌else◌}
 use Rattle.std.specs.Cmp.Lexicographic.{bytes_decides}
 use Rattle.std.proofs.lemmas.Option.{none-some, same_Some}
@@ -69,10 +69,3 @@ removed_from [] (suc place) i f h = absurd (none-some f h)
 removed_from (g ∷ gs) zero i f h = (suc i, h)
 removed_from (g ∷ gs) (suc place) zero f h = (0, h)
 removed_from (g ∷ gs) (suc place) (suc i) f h = let p = removed_from gs place i f h in (suc p.0, p.1)
-
--- and each of those that stay once the first ones are taken out
-pub dropped_from : (frames : List (List ℕ)) (count i : ℕ) (f : List ℕ)
-    → slice_get (drop count frames) i ≡ Some f → (k : ℕ) × (slice_get frames k ≡ Some f)
-dropped_from frames zero i f h = (i, h)
-dropped_from [] (suc count) i f h = absurd (none-some f h)
-dropped_from (g ∷ gs) (suc count) i f h = let p = dropped_from gs count i f h in (suc p.0, p.1)
