@@ -1,5 +1,6 @@
 pub mod Lists
 pub mod Limits
 pub mod Picks
+pub mod Firsts
 pub mod Performs
 pub mod Commits

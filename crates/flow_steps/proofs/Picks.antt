@@ -91,7 +91,7 @@ enabling_own sessions f now (act.Receive key) e h = move_own f (waits_for (owned
 enabling_own sessions f now (act.ReceiveBy key until) e h = either_own f (waits_for (owned f key sessions)) (nat_le until now) e h
 enabling_own sessions f now _ e h = some_own f (event.Move f) e (own_move f) h
 
-built_own : {F : Type 0} (sessions : List Session) (f now : ℕ) (a : Act F) (b : Bool) (e : Event) → cond b (enabling sessions f now a) None ≡ Some e → IsOwn f e
+pub built_own : {F : Type 0} (sessions : List Session) (f now : ℕ) (a : Act F) (b : Bool) (e : Event) → cond b (enabling sessions f now a) None ≡ Some e → IsOwn f e
 built_own sessions f now a true e h = enabling_own sessions f now a e h
 built_own sessions f now a false e h = cc
 

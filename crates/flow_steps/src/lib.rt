@@ -9,7 +9,7 @@ mod ready;
 mod resuming;
 
 pub use accepting::{answer_init, arrive_item};
-pub use picking::pick_event;
+pub use picking::{flow_in, pick_event};
 pub use ready::{Ready, advance, begin};
 
 #[cfg(test)]

@@ -1,12 +1,14 @@
 //! By which event a node goes on.
 
-ghost use Rattle.std.specs.Prelude.{◌≡◌, ℕ};
+ghost use Rattle.std.specs.Prelude.{◌≡◌, ◌<◌, ◌≤◌, ℕ, None, IfSome, length, slice_index_or};
 ghost use Rattle.net_base.specs.declared.names.Identity.{Identity as Id};
 ghost use Rattle.flow_machine.specs.declared.flows.FlowState.TheVariants.{Live};
+ghost use Rattle.checkpoints.specs.Tables.{IsRising, live_numbers};
 ghost use Rattle.net_model.specs.Environment.{environment, is_act_built};
 ghost use Rattle.net_model.specs.Enabled.{picked};
 ghost use Rattle.net_model.specs.Sound.{AreNumbered};
 ghost use Rattle.flow_steps.specs.Going.{event_at, event_there, first_of, flow_in};
+ghost use Rattle.flow_steps.specs.Idle.{IdleBelow};
 
 use checkpoints::{FlowView, Flows};
 use flow_machine::{Act, Checkpoint, FlowSet};
@@ -70,25 +72,52 @@ fn first_event<F: Drop>(
     None
 }
 
-/// The event by which the picked flow goes on, or the one with the least number that can; `None` exactly where there is none. It
-/// looks at live flows alone.
+/// At which of these ascending numbers those begin that are not below `number`.
+fn place_of(numbers: &[u32], number: u32) -> usize
+    requires { IsRising numbers.now }
+    ensures bound { result ≤ length numbers.now }
+    ensures below { (k : ℕ) → k < result → slice_index_or numbers.now k 0 < number }
+{
+    numbers.partition_point(|n| *n < number)
+}
+
+/// The event by which the first flow goes on that can, where no flow below `idle` can. It looks at live flows alone, and at none of those.
+fn first_from<F: Drop>(
+    flows: &Flows<F>,
+    sessions: &Sessions,
+    now: Moment,
+    idle: u32,
+) -> Option<Event>
+    requires { IdleBelow sessions.now.list now.0 flows.now.flows idle }
+    ensures { result ≡ first_of sessions.now.list now.0 flows.now.flows (live_numbers flows.now.flows) }
+{
+    let numbers = flows.live();
+    let place = place_of(numbers, idle);
+    first_event(flows, sessions, now, &numbers[place..])
+}
+
+/// The event by which the picked flow goes on, or the one with the least number that can; `None` exactly where there is none. No flow
+/// below `idle` can go on: only live flows from there on are looked at, and those before the one that goes on are idle as well.
 pub fn pick_event<F: FlowSet>(
     flows: &Flows<F>,
     sessions: &Sessions,
     now: Moment,
     pick: Option<u32>,
+    idle: u32,
 ) -> Option<Event>
     requires numbered { AreNumbered 0 flows.now.flows }
-    ensures { (id : Id) → result ≡ picked (environment F.machine F.reading id) sessions.now.list now.0 pick flows.now.flows }
+    requires idle { IdleBelow sessions.now.list now.0 flows.now.flows idle }
+    ensures event { (id : Id) → result ≡ picked (environment F.machine F.reading id) sessions.now.list now.0 pick flows.now.flows }
+    ensures idle { pick ≡ None → IfSome result (λ e. IdleBelow sessions.now.list now.0 flows.now.flows (flow_in e)) }
 {
     match pick {
         Some(number) => event_of(flows, sessions, now, number),
-        None => first_event(flows, sessions, now, flows.live()),
+        None => first_from(flows, sessions, now, idle),
     }
 }
 
-/// The number of the flow that an event changes.
-pub(crate) fn flow_in(event: &Event) -> u32
+/// The number of the flow that an event changes; 0 where it accepts an item.
+pub fn flow_in(event: &Event) -> u32
     ensures { result ≡ flow_in event.now }
 {
     match event {

@@ -68,7 +68,7 @@ fn goes_on(alloc: Global, waiting: Act<Counter>) -> Result<Option<Ready<Counter>
 {
     let flows = waiting_on(alloc, waiting)?;
     let sessions = Sessions::new(alloc, IDENTITY.party);
-    let Some(event) = pick_event(&flows, &sessions, NOW, None) else {
+    let Some(event) = pick_event(&flows, &sessions, NOW, None, 0) else {
         return Ok(None);
     };
     Ok(Some(advance(alloc, &IDENTITY, &flows, &sessions, NOW, event)?))

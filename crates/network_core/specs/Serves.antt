@@ -19,7 +19,8 @@ use Rattle.net_model.specs.Environment.{Environment, identity, party}
 use Rattle.net_model.specs.Steps.{place, stamp_in}
 use Rattle.node_tables.specs.Journals.{state_of}
 use Rattle.node_core.specs.Journals.{is_full}
-use Rattle.node_core.specs.Seen.{Pends, flow_count, picked_at, flow_in, acks_over}
+use Rattle.flow_steps.specs.Going.{flow_in}
+use Rattle.node_core.specs.Seen.{Pends, flow_count, picked_at, acks_over}
 use Rattle.node_core.specs.Takes.{accepting, ack_to, unacked_at}
 use Rattle.network_core.specs.declared.steps.Outcome.{Outcome}
 use Rattle.network_core.specs.declared.steps.Outcome.TheVariants as outcome

@@ -1,5 +1,5 @@
 -- What is ready fits, and its record is the one that pends.
-use Rattle.std.proofs.Common.{◌≡◌, ℕ, ◌+◌, ◌-◌, ◌<◌, ◌≤◌, ◌^◌, ◌||◌, max, List, [], ◌∷◌, ◌++◌, length, Option, Some, Result, Ok, Err, true, false, refl, sym, ◌∙◌, ap, subst, arith, nat_lt, nat_le}
+use Rattle.std.proofs.Common.{◌≡◌, ℕ, ◌+◌, ◌-◌, ◌<◌, ◌≤◌, ◌^◌, ◌||◌, max, min, List, [], ◌∷◌, ◌++◌, length, Option, Some, Result, Ok, Err, true, false, refl, sym, ◌∙◌, ap, subst, arith, nat_lt, nat_le}
 use Rattle.std.proofs.lemmas.Bool.{or_parts, leb-false}
 use Rattle.outside.specs.Disk.{IsImage}
 use Rattle.outside.proofs.Moments.{clean_image}
@@ -17,6 +17,10 @@ use Rattle.net_model.proofs.Fitting.{steps_fit}
 use Rattle.flow_records.specs.Records.{record_of}
 use Rattle.flow_records.specs.Steps.{effect_by}
 use Rattle.flow_steps.specs.declared.ready.Ready.{Ready}
+use Rattle.flow_steps.specs.Going.{flow_in}
+use Rattle.flow_steps.specs.Idle.{IdleBelow}
+use Rattle.flow_steps.proofs.Picks.{Built}
+use Rattle.flow_steps.proofs.Idles.{idle_after}
 use Rattle.flow_steps.specs.Ready.{IsReady}
 use Rattle.node_tables.specs.Journals.{Reads, state_of}
 use Rattle.node_tables.specs.Fits.{fits, apply_read}
@@ -102,6 +106,13 @@ module _ {F : Type 0} (w : Environment F) (id : Identity) (now : ℕ) (within : 
       let there : state_of w.frame_at (bodies ++ body ∷ []) ≡ apply_effect state cause effect = state_push w.frame_at bodies body ∙ ap (λ o. apply_read state o) reads in
       record { effect = effect; reads = reads; step = step ∙ ap (λ x. Some (x, effect)) (sym there) }
 
+  -- the flows before its flow that were idle still are
+  still_idle : Built w → IsSoundState id.party.0 state → (at below : ℕ) → IdleBelow state.sessions at state.flows below → (body : List ℕ) → record_of w.frame_at body ≡ Some (record { cause = cause; effect = effect })
+      → IdleBelow (state_of w.frame_at (bodies ++ body ∷ [])).sessions at (state_of w.frame_at (bodies ++ body ∷ [])).flows (min below (flow_in ready.event))
+  still_idle built sound at below idle body reads =
+      let there : state_of w.frame_at (bodies ++ body ∷ []) ≡ apply_effect state cause effect = state_push w.frame_at bodies body ∙ ap (λ o. apply_read state o) reads in
+      subst (λ (s : NodeState F). IdleBelow s.sessions at s.flows (min below (flow_in ready.event))) (sym there) (idle_after w built id.party.0 now at state cause (body_in item) effect below sound.numbered is.effect idle)
+
   module _ (n : ℕ) (same : n ≡ max state.stamp (stamp_in item) + 1) (old new : JournalView) (more : List (List ℕ)) (acked after : List ℕ) (of : old.of ≡ id) where
     said_of : (result : Result (List ℕ) CommitFault) → LogsAs w.frame_at (record_at n now ready) bodies old result new → LogsAs w.frame_at (record { cause = cause; effect = effect }) bodies old result new
     said_of result said = subst (λ (k : ℕ). LogsAs w.frame_at (record_at k now ready) bodies old result new) same said
@@ -130,6 +141,12 @@ module _ {F : Type 0} (w : Environment F) (id : Identity) (now : ℕ) (within : 
         let said : LogsAs w.frame_at (record { cause = cause; effect = effect }) bodies old (Ok body) new = said_of (Ok body) logged in
         let at = pends_moment w id.party.0 now bodies ready.event item body (ready_pends body said.0) in
         subst (λ (b : List (List ℕ)). (state_of w.frame_at b).moment ≤ now) (sym longer) (omega (arith, at))
+
+    pub committed_idle : Built w → IsSoundState id.party.0 state → (at below : ℕ) → IdleBelow state.sessions at state.flows below → (body : List ℕ) → LogsAs w.frame_at (record_at n now ready) bodies old (Ok body) new → more ≡ bodies ++ body ∷ []
+        → IdleBelow (state_of w.frame_at more).sessions at (state_of w.frame_at more).flows (min below (flow_in ready.event))
+    committed_idle built sound at below idle body logged longer =
+        let said : LogsAs w.frame_at (record { cause = cause; effect = effect }) bodies old (Ok body) new = said_of (Ok body) logged in
+        subst (λ (b : List (List ℕ)). IdleBelow (state_of w.frame_at b).sessions at (state_of w.frame_at b).flows (min below (flow_in ready.event))) (sym longer) (still_idle built sound at below idle body said.0)
 
     failed : (fault : CommitFault) → more ≡ bodies → after ≡ acked → LogsAs w.frame_at (record { cause = cause; effect = effect }) bodies old (Err fault) new
         → CommitsAs w id now ready.event item {T = Unit {0}} (record { journal = old; bodies = bodies; acked = acked }) (Err fault) (record { journal = new; bodies = more; acked = after })

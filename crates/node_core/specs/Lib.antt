@@ -1,5 +1,6 @@
 pub mod Journals
 pub mod Disks
+pub mod Idle
 pub mod Seen
 pub mod Takes
 pub mod States

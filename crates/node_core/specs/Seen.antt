@@ -17,6 +17,7 @@ use Rattle.disk_journal.specs.Journal.{JournalView, IsReady, WasSpelt, journal_o
 use Rattle.disk_journal.specs.declared.fault.OpenFault.{OpenFault}
 use Rattle.disk_journal.specs.declared.fault.OpenFault.TheVariants as open_fault
 use Rattle.flow_records.specs.Records.{record_of}
+use Rattle.flow_steps.specs.Going.{flow_in}
 use Rattle.node_tables.specs.declared.boot.RebuildFault.{RebuildFault}
 use Rattle.node_tables.specs.declared.boot.RebuildFault.TheVariants as rebuild_fault
 use Rattle.node_tables.specs.Fits.{misfit}
@@ -151,14 +152,6 @@ StartsAs w now class args bodies old (Err start_fault.Fault) new = Faults w now 
 -- the event by which a node with this journal goes on
 abbrev pub picked_at : {F : Type 0} → Environment F → ℕ → Option ℕ → List (List ℕ) → Option Event
 picked_at w now pick bodies = picked w (state_of w.frame_at bodies).sessions now pick (state_of w.frame_at bodies).flows
-
--- the number of the flow that an event lets go on, 0 where it is that of an item
-abbrev pub flow_in : Event → ℕ
-flow_in (event.Start f class args) = f
-flow_in (event.Move f) = f
-flow_in (event.Lapse f) = f
-flow_in (event.Answer key) = 0
-flow_in (event.Arrive key direction number) = 0
 
 -- what a turn answers at a node that is up
 abbrev pub TurnsAs : {F : Type 0} → Environment F → ℕ → Option ℕ → List (List ℕ) → NodeSeen → Result Turned TurnFault → NodeSeen → Type 0

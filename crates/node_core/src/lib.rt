@@ -5,6 +5,7 @@
 #![tactic(auto)]
 
 mod faults;
+mod idle;
 mod node;
 mod taking;
 mod up;

@@ -4,7 +4,7 @@ ghost use Rattle.std.specs.Prelude.{◌≡◌, ◌↔◌, ◌<◌, ◌≤◌, �
 ghost use Rattle.net_model.specs.Environment.{environment};
 ghost use Rattle.node_tables.specs.Journals.{state_of, causes_of};
 ghost use Rattle.node_core.specs.Disks.{roomless, CutsNow};
-ghost use Rattle.node_core.specs.Seen.{StartAnswers, TurnAnswers, CutAnswers, BootsAs, IsBy, IsMember, flow_in};
+ghost use Rattle.node_core.specs.Seen.{StartAnswers, TurnAnswers, CutAnswers, BootsAs, IsBy, IsMember};
 ghost use Rattle.node_core.specs.States.{disk_in, journal_in, is_fault, IsDown};
 ghost use Rattle.node_core.specs.Takes.{TakeAnswers, SendAnswers};
 
@@ -13,6 +13,7 @@ use super::up::{Up, let_go};
 use super::{BootFault, CutFault, StartFault, TakeFault, Taken, TurnFault, Turned, UnackedFault};
 use checkpoints::Flows;
 use flow_machine::FlowSet;
+use flow_steps::flow_in;
 use net_base::{ByteList, Cause, Event, Identity, Moment, Spelt};
 use outside::{Bay, Disk};
 use session_frames::OutgoingList;
@@ -227,14 +228,14 @@ impl<D: Disk, F: FlowSet> Node<D, F> {
         let State::Up { up } = &mut self.state else {
             return Err(TurnFault::NodeDown);
         };
-        let Some(event) = up.pick(now, pick) else {
+        let Some(picked) = up.pick(now, pick) else {
             return Ok(Turned::Idle);
         };
         if up.is_full(0) {
             return Err(TurnFault::Full);
         }
-        let flow = flow_in(&event);
-        match up.go_on(alloc, &self.identity, now, event) {
+        let flow = flow_in(&picked.event);
+        match up.go_on(alloc, &self.identity, now, picked) {
             Ok(()) => Ok(Turned::Moved { flow }),
             Err(CommitFault::Full) => unreachable!(),
             Err(CommitFault::Memory) => Err(TurnFault::Memory),
@@ -309,16 +310,6 @@ impl<D: Bay, F: Spelt + Drop> Node<D, F> {
             State::Down { disk } => disk.restore_power(),
             _ => unreachable!(),
         }
-    }
-}
-
-/// The number of the flow that an event lets go on, 0 where it is that of an item.
-fn flow_in(event: &Event) -> u32
-    ensures { result ≡ flow_in event.now }
-{
-    match event {
-        Event::Start { flow, .. } | Event::Move { flow } | Event::Lapse { flow } => *flow,
-        Event::Answer { .. } | Event::Arrive { .. } => 0,
     }
 }
 

@@ -1,6 +1,6 @@
 //! A node that is up: its journal, and the tables that its records make.
 
-ghost use Rattle.std.specs.Prelude.{◌≡◌, ◌++◌, ◌∷◌, [], ◌<◌, ◌≤◌, ◌^◌, ◌+◌, ◌-◌, map, true, false, OnOk, OnErr, IfOk, IfErr, length, List, ℕ, Some, None, Option};
+ghost use Rattle.std.specs.Prelude.{◌≡◌, ◌++◌, ◌∷◌, [], ◌<◌, ◌≤◌, ◌^◌, ◌+◌, ◌-◌, map, true, false, OnOk, OnErr, IfOk, IfErr, length, List, ℕ, Some, None, Option, IfSome, option_map};
 ghost use Rattle.net_base.specs.Names.{IsIdentity};
 ghost use Rattle.net_base.specs.declared.names.Identity.{Identity as OfIdentity};
 ghost use Rattle.disk_journal.specs.Journal.{is_full_at};
@@ -21,14 +21,16 @@ ghost use Rattle.node_core.specs.Journals.{is_full};
 ghost use Rattle.node_core.specs.Disks.{roomless};
 ghost use Rattle.node_core.specs.Seen.{CommitsAs, LogsAs, Tied, Booted, Unbooted, boot_by, boot_of, picked_at};
 ghost use Rattle.node_core.specs.Takes.{accepting, unacked_at};
+ghost use Rattle.node_core.specs.Idle.{AreIdle};
 
 use super::BootFault;
 use super::faults::CommitFault;
+use super::idle::{Idle, Picked};
 use checkpoints::Flows;
 use disk_journal::{AppendFault, Journal, OpenFault};
 use flow_machine::{FlowSet, MakeFault};
 use flow_records::{Step, spell_step};
-use flow_steps::{Ready, advance, answer_init, arrive_item, begin, pick_event};
+use flow_steps::{Ready, advance, answer_init, arrive_item, begin, flow_in, pick_event};
 use net_base::{ByteList, Cause, Event, Identity, Key, Moment, Spelt, Unlimited};
 use node_tables::{RebuildFault, Tables, rebuild};
 use outside::{Bay, Disk, NoFuse};
@@ -45,17 +47,21 @@ const LAST_STAMP: u64 = 9_223_372_036_854_775_807;
 pub struct Up<D: Disk, F: Spelt + Drop> {
     journal: Journal<D>,
     tables: Tables<F>,
+    // the flows that a turn need not look at
+    idle: Idle,
 }
 
 impl<D: Disk, F: Spelt + Drop> Model for Up<D, F> {
     ghost use Rattle.std.specs.Prelude.{◌≡◌};
+    ghost use Rattle.node_tables.specs.Journals.{state_of};
     ghost use Rattle.node_core.specs.Seen.{UpSeen};
+    ghost use Rattle.node_core.specs.Idle.{AreIdle};
 
     ghost Value = { UpSeen };
 
     ghost view = { λ u. record { journal = u.journal; bodies = u.tables.bodies; acked = u.tables.acked } };
 
-    ghost invariant = { λ u. (u.tables.party ≡ u.journal.of.party) × (u.tables.nodes ≡ u.journal.of.nodes) };
+    ghost invariant = { λ u. (u.tables.party ≡ u.journal.of.party) × (u.tables.nodes ≡ u.journal.of.nodes) × AreIdle (state_of F.reading u.tables.bodies) u.idle };
 }
 
 /// A boot was refused; the disk comes back.
@@ -110,7 +116,11 @@ impl<D: Disk, F: Spelt + Drop> Up<D, F> {
             }
         };
         match rebuild(alloc, identity.party, identity.nodes, list) {
-            Ok(tables) => Ok(Up { journal, tables }),
+            Ok(tables) => Ok(Up {
+                journal,
+                tables,
+                idle: Idle::NONE,
+            }),
             Err(why) => Err(BootRefused {
                 disk: journal.into_disk(),
                 why: rebuild_fault(why),
@@ -163,7 +173,7 @@ impl<D: Disk, F: Spelt + Drop> Up<D, F> {
     pub fn into_disk(self) -> D
         ensures { D.seen result ≡ self.journal.disk }
     {
-        let Up { journal, tables: _ } = self;
+        let Up { journal, .. } = self;
         journal.into_disk()
     }
 
@@ -190,12 +200,23 @@ impl<D: Disk, F: Spelt + Drop> Up<D, F> {
 }
 
 impl<D: Disk, F: FlowSet> Up<D, F> {
-    /// The event by which the picked flow goes on, or the first that can.
-    pub fn pick(&self, now: Moment, pick: Option<u32>) -> Option<Event>
-        ensures { (id : OfIdentity) → result ≡ picked_at (environment F.machine F.reading id) now.0 pick self.now.bodies }
+    /// The event by which the picked flow goes on, or the first that can, and the flows that were seen to be idle.
+    pub fn pick(&self, now: Moment, pick: Option<u32>) -> Option<Picked>
+        ensures event { (id : OfIdentity) → option_map (λ p. p.event) result ≡ picked_at (environment F.machine F.reading id) now.0 pick self.now.bodies }
+        ensures idle { IfSome result (λ p. AreIdle (state_of F.reading self.now.bodies) p.idle) }
     {
         self.tables.kept();
-        pick_event(self.tables.flows(), self.tables.sessions(), now, pick)
+        let flows = self.tables.flows();
+        let sessions = self.tables.sessions();
+        let event = pick_event(flows, sessions, now, pick, self.idle.below_at(now))?;
+        let idle = match pick {
+            Some(_) => self.idle,
+            None => Idle {
+                at: now,
+                below: flow_in(&event),
+            },
+        };
+        Some(Picked { event, idle })
     }
 
     /// What a flow that goes on by this event, which was picked, is about to commit.
@@ -229,16 +250,19 @@ impl<D: Disk, F: FlowSet> Up<D, F> {
         alloc: Global,
         identity: &Identity,
         now: Moment,
-        event: Event,
+        picked: Picked,
     ) -> Result<(), CommitFault>
         requires identity { IsIdentity identity.now }
         requires tied { Tied identity.now self.old.journal self.old.bodies }
         requires by { (state_of F.reading self.old.bodies).moment ≤ now.0 }
         requires room { is_full F.reading 0 self.old.bodies ≡ false }
-        requires picked { (pick : Option ℕ) × (picked_at (environment F.machine F.reading identity.now) now.0 pick self.old.bodies ≡ Some event) }
-        ensures commits { CommitsAs (environment F.machine F.reading identity.now) identity.now now.0 event None self.old result self.new }
+        requires picked { (pick : Option ℕ) × (picked_at (environment F.machine F.reading identity.now) now.0 pick self.old.bodies ≡ Some picked.event) }
+        requires idle { AreIdle (state_of F.reading self.old.bodies) picked.idle }
+        ensures commits { CommitsAs (environment F.machine F.reading identity.now) identity.now now.0 picked.event None self.old result self.new }
         ensures by { (state_of F.reading self.new.bodies).moment ≤ now.0 }
     {
+        let Picked { event, idle } = picked;
+        self.idle = idle;
         let ready = self.advance(alloc, identity, now, event)?;
         self.commit_alone(alloc, identity, now, ready)
     }
@@ -346,6 +370,7 @@ impl<D: Disk, F: FlowSet> Up<D, F> {
         } = ready;
         self.tables.kept();
         now.known();
+        let idle = self.idle.after(&event);
         let step = Step {
             cause: Cause {
                 stamp: self.tables.stamp().max(stamp) + 1,
@@ -358,6 +383,7 @@ impl<D: Disk, F: FlowSet> Up<D, F> {
         match log(alloc, &mut self.journal, &mut self.tables, &step) {
             Ok(body) => {
                 self.tables.add(body, step);
+                self.idle = idle;
                 Ok(())
             }
             Err(fault) => {
