@@ -1,8 +1,8 @@
 -- What the first event tells of the flows before it.
-use Rattle.std.proofs.Common.{◌≡◌, ℕ, zero, suc, ◌+◌, ◌<◌, ◌≤◌, List, [], ◌∷◌, length, drop, get_or, slice_get, Option, Some, None, Bool, true, false, refl, sym, ◌∙◌, ap, subst, arith}
+use Rattle.std.proofs.Common.{◌≡◌, ℕ, zero, suc, ◌+◌, ◌<◌, ◌≤◌, List, [], ◌∷◌, length, take, drop, ◌-◌, slice_get, Option, Some, None, refl, sym, ◌∙◌, ap, arith}
 use Rattle.std.specs.Prelude.{slice_index_or, IfSome}
 use Rattle.std.specs.Option.{option_or, option_and_then}
-use Rattle.std.proofs.lemmas.List.{get_or_default}
+use Rattle.std.proofs.lemmas.List.{get_or_default, length-drop}
 use Rattle.std.specs.List.Sorted.{IsNonDecreasingBy}
 use Rattle.net_base.specs.declared.causes.Event.{Event}
 use Rattle.session_wire.specs.Sessions.{Session}
@@ -12,13 +12,21 @@ use Rattle.checkpoints.specs.Tables.{IsRising}
 use Rattle.net_model.specs.Enabled.{enabled_event, first_event}
 use Rattle.net_model.specs.Environment.{Environment}
 use Rattle.net_model.specs.Sound.{IsNumbered, AreNumbered}
-use Rattle.flow_steps.specs.Going.{event_at, event_there, first_of, flow_in}
+use Rattle.flow_steps.specs.Going.{event_at, first_of, flow_in}
 use Rattle.flow_steps.specs.Idle.{IdleBelow}
 use Rattle.flow_steps.proofs.Picks.{Built, built_own, same_event}
 
 -- numbers that rise do so whatever is read past their end
 pub rising_by : (xs : List ℕ) → IsRising xs → IsNonDecreasingBy (λ (n : ℕ). n) xs
 rising_by xs up i j d le lt = omega (arith, up i j le lt, get_or_default xs i d 0 (omega (arith, le, lt)), get_or_default xs j d 0 lt)
+
+whole : (xs : List ℕ) → take (length xs) xs ≡ xs
+whole [] = refl
+whole (x ∷ xs) = ap (λ (ys : List ℕ). x ∷ ys) (whole xs)
+
+-- the numbers behind a place
+pub behind_place : (n : ℕ) (xs : List ℕ) → take (length xs - n) (drop n xs) ≡ drop n xs
+behind_place n xs = ap (λ (k : ℕ). take k (drop n xs)) (sym (length-drop n xs)) ∙ whole (drop n xs)
 
 -- flows that cannot go on may be passed over
 pub passed_over : {F : Type 0} (sessions : List Session) (now : ℕ) (all : List (FlowState F)) (idle place : ℕ) (numbers : List ℕ) → ((k : ℕ) → k < place → slice_index_or numbers k 0 < idle) → place ≤ length numbers
@@ -38,12 +46,14 @@ module _ {F : Type 0} (w : Environment F) (built : Built w) (sessions : List Ses
 
   none_before : (n : ℕ) (flows : List (FlowState F)) (e : Event) (k : ℕ) → AreNumbered n flows → first_event w sessions now flows ≡ Some e → n + k < flow_in e → option_and_then (event_at sessions now) (slice_get flows k) ≡ None
   none_before n [] e k own h l = cc
-  none_before n (x ∷ xs) e k own h l = by (enabled_event w sessions now x) refl h k l
+  none_before n (x ∷ xs) e k own h l = by (enabled_event w sessions now x) refl h k l (λ rest j m. none_before (n + 1) xs e j own.1 rest m)
     where
-      by : (o : Option Event) → enabled_event w sessions now x ≡ o → option_or o (first_event w sessions now xs) ≡ Some e → (k : ℕ) → n + k < flow_in e → option_and_then (event_at sessions now) (slice_get (x ∷ xs) k) ≡ None
-      by (Some d) is here k l = absurd (omega (arith, l, event_own n x e own.0 (is ∙ here)))
-      by None is here zero l = sym (same_event w built sessions now x) ∙ is
-      by None is here (suc k) l = none_before (n + 1) xs e k own.1 here (omega (arith, l))
+      by : (o : Option Event) → enabled_event w sessions now x ≡ o → option_or o (first_event w sessions now xs) ≡ Some e → (k : ℕ) → n + k < flow_in e
+          → (first_event w sessions now xs ≡ Some e → (j : ℕ) → n + 1 + j < flow_in e → option_and_then (event_at sessions now) (slice_get xs j) ≡ None)
+          → option_and_then (event_at sessions now) (slice_get (x ∷ xs) k) ≡ None
+      by (Some d) is here k l later = absurd (omega (arith, l, event_own n x e own.0 (is ∙ here)))
+      by None is here zero l later = sym (same_event w built sessions now x) ∙ is
+      by None is here (suc k) l later = later here k (omega (arith, l))
 
   -- before the flow of the first event none can go on
   pub idle_before : (flows : List (FlowState F)) (o : Option Event) → AreNumbered 0 flows → first_event w sessions now flows ≡ o → IfSome o (λ e. IdleBelow sessions now flows (flow_in e))

@@ -2,5 +2,6 @@ pub mod Lists
 pub mod Limits
 pub mod Picks
 pub mod Firsts
+pub mod Idles
 pub mod Performs
 pub mod Commits

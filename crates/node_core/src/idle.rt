@@ -14,6 +14,7 @@ pub struct Idle {
 }
 
 /// The event by which a flow goes on that was picked, and the flows that were seen to be idle.
+#[derive(Drop)]
 pub struct Picked {
     pub event: Event,
     pub idle: Idle,

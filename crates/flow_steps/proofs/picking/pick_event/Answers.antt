@@ -1,4 +1,4 @@
-use Rattle.std.proofs.Common.{◌≡◌, slice_get, refl, sym, ◌∙◌}
+use Rattle.std.proofs.Common.{slice_get, refl, sym, ◌∙◌}
 use Rattle.net_base.specs.declared.names.Identity.{Identity}
 use Rattle.net_model.specs.Environment.{environment}
 use Rattle.flow_steps.proofs.Picks.{first_live, event_picked}
