@@ -1,4 +1,5 @@
-use Rattle.std.proofs.Common.{◌≡◌, ◌+◌, ◌≤◌, Err, false, subst}
+use Rattle.std.proofs.Common.{◌≡◌, ◌+◌, ◌≤◌, Err, false, refl, sym, ◌∙◌, ap, subst}
+use Rattle.net_base.specs.declared.names.Identity.{Identity}
 use Rattle.net_model.specs.Environment.{environment}
 use Rattle.net_model.specs.Fits.{IsSound}
 use Rattle.net_model.specs.Steps.{body_in}
@@ -6,7 +7,7 @@ use Rattle.flow_steps.specs.Ready.{IsReady}
 use Rattle.node_tables.specs.Journals.{state_of}
 use Rattle.node_core.specs.Journals.{is_full}
 use Rattle.node_core.specs.Seen.{Tied, UpSeen, CommitsAs}
-use Rattle.node_core.proofs.Commits.{ready_fits, committed, committed_by, not_committed, under_item, stamp_same}
+use Rattle.node_core.proofs.Commits.{ready_fits, committed, committed_by, committed_idle, not_committed, under_item, stamp_same}
 use Rattle.node_core.proofs.up.Up.commit.Goals as goal
 
 pub add-requires-clause-fits : goal.add-requires-clause-fits
@@ -23,6 +24,24 @@ add-requires-clause-fits g c =
     let same = stamp_same f bodies r.0 c.args.stamp c.stamp.result c.max.result r.1 c.stamp.ensures.same c.max.ensures in
     let fit = ready_fits w id c.args.now.0 g.F.Spelt.within bodies r.0 c.args.ready r.2 (under_item f bodies r.0 c.args.stamp r.1 room) by (c.max.result + 1) same sound in
     rw (c.log.ensures.bodies, c.log.ensures.nodes, c.log.ensures.party, c.self.invariant.0, c.self.invariant.1, tied.of) fit
+
+pub invariant_of-self : goal.invariant_of-self
+invariant_of-self g c =
+    let id = c.args.identity.now in
+    let f = g.F.Spelt.reading in
+    let w = environment g.F.FlowSet.machine f id in
+    let bodies = c.self.inside.tables.bodies in
+    let tied : Tied id c.self.inside.journal bodies = rw (← c.self.view_is) at c.requires.tied in
+    let by : (state_of f bodies).moment ≤ c.args.now.0 = rw (← c.self.view_is) at c.requires.by in
+    let room : is_full f c.args.stamp bodies ≡ false = rw (← c.self.view_is) at c.requires.room in
+    let r = rw (← c.self.view_is) at c.requires.ready in
+    let sound : IsSound id.party.0 (state_of f bodies) = rw (c.self.invariant.0, tied.of) at c.kept.ensures.sound in
+    let same = stamp_same f bodies r.0 c.args.stamp c.stamp.result c.max.result r.1 c.stamp.ensures.same c.max.ensures in
+    let idle = committed_idle w id c.args.now.0 g.F.Spelt.within bodies r.0 c.args.ready r.2 (under_item f bodies r.0 c.args.stamp r.1 room) by (c.max.result + 1) same c.self.inside.journal c.log.new.journal c.add.new.self.bodies c.self.inside.tables.acked c.add.new.self.acked tied.of refl sound c.self.inside.idle.at.0 c.self.inside.idle.below c.self.invariant.2 c.in-Ok.body c.in-Ok.ensures.logs (rw c.log.ensures.bodies at c.add.ensures.bodies) in (
+      c.add.ensures.party ∙ c.log.ensures.party ∙ c.self.invariant.0 ∙ ap (λ (i : Identity). i.party) (sym c.log.ensures.of),
+      c.add.ensures.nodes ∙ c.log.ensures.nodes ∙ c.self.invariant.1 ∙ ap (λ (i : Identity). i.nodes) (sym c.log.ensures.of),
+      rw (c.after-idle.ensures.at, c.after-idle.ensures.below) idle,
+    )
 
 pub returns-in-Ok-clause-commits : goal.returns-in-Ok-clause-commits
 returns-in-Ok-clause-commits g c = λ item at ready.
