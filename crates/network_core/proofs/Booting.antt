@@ -241,6 +241,9 @@ by_later : {F : Type 0} (f : Reads F) (journal : Option (List (List ℕ))) (now 
 by_later f None now later le by = tt
 by_later f (Some b) now later le by = omega (arith, le, by)
 
+pub all_later : {F : Type 0} (f : Reads F) (ns : List NodeSeen) (now later : ℕ) → now ≤ later → AllByRecursion (λ n. IsBy f n.journal now) ns → AllByRecursion (λ n. IsBy f n.journal later) ns
+all_later f ns now later le all = AllByRecursion-weaken (λ n. IsBy f n.journal now) (λ n. IsBy f n.journal later) ns (λ n by. by_later f n.journal now later le by) all
+
 by_last : {F : Type 0} (f : Reads F) (journal : Option (List (List ℕ))) (last later : ℕ) → MatchOption journal (last ≡ 0) (λ b. last ≡ (state_of f b).moment) → last ≤ later → IsBy f journal later
 by_last f None last later is le = tt
 by_last f (Some b) last later is le = omega (arith, is, le)

@@ -19,6 +19,9 @@ pub mod QuietingSteps
 pub mod QuietingRounds
 pub mod QuietingRuns
 pub mod Quieting
+pub mod Lengthening
+pub mod Reaching
+pub mod Standing
 pub mod Emptying
 pub mod Draining
 pub mod Driving

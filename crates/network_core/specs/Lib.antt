@@ -4,3 +4,4 @@ pub mod Serves
 pub mod Drains
 pub mod Served
 pub mod Begins
+pub mod Acknowledged

@@ -1,3 +1,4 @@
+ghost use Rattle.network_core.specs.Acknowledged.{AcknowledgedStandsOnce};
 ghost use Rattle.network_core.specs.Drains.{DrainsByTurns};
 ghost use Rattle.network_core.specs.Worlds.{CoherentIsFaithful};
 
@@ -11,4 +12,11 @@ pub fn coherent_is_faithful<F>()
 /// ran out of memory, and else the last one alone did.
 pub fn drains_by_turns<F>()
     ensures { DrainsByTurns F }
+{}
+
+/// The law that what a node that is up has in its journal stands once in the merged journals of every world that steps lead to from there,
+/// whichever journals power cuts leave of that one: what it answered and what it acknowledged to others is among these, so none of it is
+/// lost, and none of it is there twice.
+pub fn acknowledged_stands_once<F>()
+    ensures { AcknowledgedStandsOnce F }
 {}

@@ -14,7 +14,7 @@ mod serving;
 mod steps;
 
 pub use begin::BeginRefused;
-pub use laws::{coherent_is_faithful, drains_by_turns};
+pub use laws::{acknowledged_stands_once, coherent_is_faithful, drains_by_turns};
 pub use net::Net;
 pub use steps::{Outcome, Step};
 

@@ -1,4 +1,7 @@
-use super::{BeginRefused, Net, Outcome, Step, coherent_is_faithful, drains_by_turns};
+use super::{
+    BeginRefused, Net, Outcome, Step, acknowledged_stands_once, coherent_is_faithful,
+    drains_by_turns,
+};
 use disk_mem::MemDisk;
 use flow_machine::{Counter, FlowSet};
 use net_base::{ByteList, Moment, Party};
@@ -130,6 +133,7 @@ fn cut(calls: u64, outcome: u8) -> Asked {
 #[test]
 fn a_node_runs(rt: HostRuntime) -> Result<(), Fail> {
     let alloc = rt.alloc();
+    acknowledged_stands_once::<Counter>();
     coherent_is_faithful::<Counter>();
     drains_by_turns::<Counter>();
     let mut net = begin::<Counter>(alloc, 1)?;

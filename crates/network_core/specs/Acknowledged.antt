@@ -1,0 +1,40 @@
+-- What nodes have acknowledged, and that it outlives whatever comes.
+use Rattle.std.specs.Prelude.{◌≡◌, ℕ, List, ◌∷◌, ◌++◌, map, slice_get, Option, Some, true}
+use Rattle.std.specs.List.{AllByRecursion}
+use Rattle.net_base.specs.declared.causes.Cause.{Cause}
+use Rattle.net_model.specs.Environment.{Environment}
+use Rattle.net_model.specs.Runs.{merged}
+use Rattle.node_tables.specs.Journals.{causes_of}
+use Rattle.network_core.specs.declared.steps.Outcome.{Outcome}
+use Rattle.network_core.specs.declared.steps.Step.{Step}
+use Rattle.network_core.specs.Worlds.{World, NodeWorld, Choice, Coherent}
+use Rattle.network_core.specs.Served.{Serve}
+use Rattle.network_core.specs.Drains.{DoesAt}
+
+-- worlds that steps lead to, and turns, posts and deliveries, also such for which memory ran out
+pub data Reaches {F : Type 0} (e : Environment F) : World → World → Type 0 where
+  here : {w v : World} → v ≡ w → Reaches e w v
+  by_step : {w u v : World} (s : Step) (o : Option Outcome) → Reaches e w u → Serve e s u o v → Reaches e w v
+  by_part : {w u v : World} (p : ℕ) (o : Option Outcome) → Reaches e w u → DoesAt e p u o v → Reaches e w v
+
+-- A node that is up has this cause in its journal. What it answered, and what it acknowledged to others, is among these.
+pub record Acknowledged {F : Type 0} (e : Environment F) (w : World) (p : ℕ) (cause : Cause) : Type 0 where
+  pub node : NodeWorld
+  pub there : slice_get w.nodes p ≡ Some node
+  pub up : node.up ≡ true
+  pub place : ℕ
+  pub at : slice_get (causes_of e.frame_at node.journal) place ≡ Some cause
+
+-- an element stands once in a list: what is before it and what is behind it is other
+pub record StandsOnce {X : Type 0} (x : X) (xs : List X) : Type 0 where
+  pub before : List X
+  pub behind : List X
+  pub all : xs ≡ before ++ x ∷ behind
+  pub first : AllByRecursion (λ y. y ≡ x → ⊥) before
+  pub last : AllByRecursion (λ y. y ≡ x → ⊥) behind
+
+-- what is acknowledged in a coherent world stands once in the merged journals of each world that it leads to, whichever journals power cuts
+-- leave of that one
+abbrev pub AcknowledgedStandsOnce : (F : Type 0) → Type 0
+AcknowledgedStandsOnce F = (e : Environment F) (w v : World) → Coherent e w → Reaches e w v → (lists : List (List (List ℕ))) → Choice v lists → (p : ℕ) (cause : Cause) → Acknowledged e w p cause
+    → StandsOnce (p, cause) (merged (map (causes_of e.frame_at) lists))
