@@ -20,11 +20,14 @@ use Rattle.node_core.specs.declared.faults.BootFault.TheVariants as boot
 use Rattle.network_core.specs.Worlds.{World, NetSeen, Shows, Coherent}
 use Rattle.network_core.specs.Begins.{member, node_over, nodes_over, no_boot, BeginsWorld, IsRefused, BootsUpTo}
 use Rattle.network_core.proofs.Faithful.{get_beside}
+use Rattle.network_core.proofs.Reaching.{reaches_coherent}
+use Rattle.network_core.proofs.Standing.{acknowledged_stands_once}
 use Rattle.node_shell.specs.declared.statuses.Status.{Status}
 use Rattle.node_shell.specs.declared.statuses.Status.TheVariants as status
 use Rattle.node_shell.specs.Story.{ScriptRun, IsScriptStatus, InSome}
 use Rattle.node_shell.specs.Runs.{over, number_of_status, Plays, Refuses, RunsAs, journal_line, PlaysOrRefuses, RefusedWith, IsOpeningStatus, Fails, OneFails, HasCause, MisfitsAt, IsUnready, IsToldWhy, KeepsOwn, KeepOwn, IsPlayedStatus, IsPlayedNumber, AllStay, IsRunStatus, MadeReady}
 use Rattle.node_shell.proofs.Readying.{fails_since}
+use Rattle.node_shell.proofs.Reached.{script_reaches}
 use Rattle.node_shell.proofs.Resting.{over_at, counted, made_same, made_then, made_fewer, same_fewer, made_journals, same_journals, stands, rests, made_coherent, made_counted, counted_shows, refused_rests, down_fewer}
 
 no_memory : status.DiskFault ≡ status.NoMemory → ⊥
@@ -179,6 +182,7 @@ module _ {F : Type 0} (m : Machine F) (f : Reads F) (nodes : ℕ) (notary : Part
   played ds bs w begun ended left0 left1 written0 written1 count s script own begins ran disks shows coherent =
       let start = begins w.now w shows coherent in
       let end = ran (member nodes notary 0) start.0 start.1 start.2 in
+      let reaches = script_reaches e start.0 left0 left1 written0 written1 count end.world s end.holds in
       inl (record {
         is_script = script;
         own = own;
@@ -189,6 +193,8 @@ module _ {F : Type 0} (m : Machine F) (f : Reads F) (nodes : ℕ) (notary : Part
         last = end.world;
         script = end.holds;
         rests = rests m f nodes notary ended end.world bs end.shows end.coherent disks;
+        reaches = reaches;
+        acknowledged = λ u v to on. acknowledged_stands_once e u v (reaches_coherent e start.0 u start.2 to) on;
       })
 
   -- the boot that was refused
@@ -265,6 +271,8 @@ module _ {F : Type 0} (m : Machine F) (f : Reads F) (nodes : ℕ) (notary : Part
     last = p.last;
     script = p.script;
     rests = p.rests;
+    reaches = p.reaches;
+    acknowledged = p.acknowledged;
   }
 
   refuses_with : (w v : World) (ds ks bs : List DiskView) (left0 left1 written0 written1 : Option (List ℕ)) (count : ℕ) (s : Status) → MadeReady w v → AllStay ds ks

@@ -3,13 +3,14 @@ use Rattle.std.specs.Prelude.{◌≡◌, ◌⊎◌, ℕ, ◌<◌, ◌≤◌, Lis
 use Rattle.std.specs.Io.KnownBytes.{Appends}
 use Rattle.outside.specs.Disk.{DiskView}
 use Rattle.outside.specs.Faults.{Rose}
+use Rattle.net_base.specs.declared.causes.Cause.{Cause}
 use Rattle.net_base.specs.declared.names.Identity.{Identity}
 use Rattle.net_base.specs.declared.values.Party.{Party}
 use Rattle.shell_words.specs.declared.program.NetworkWords.{NetworkWords}
 use Rattle.disk_journal.specs.Journal.{journal_of, placed, refusal}
 use Rattle.disk_journal.specs.declared.fault.OpenFault.TheVariants as open_fault
 use Rattle.net_model.specs.Environment.{Environment, environment, party}
-use Rattle.net_model.specs.Runs.{IsFaithful, network_of}
+use Rattle.net_model.specs.Runs.{IsFaithful, network_of, merged}
 use Rattle.flow_machine.specs.Machine.{Machine}
 use Rattle.node_tables.specs.Fits.{misfit}
 use Rattle.node_tables.specs.Journals.{Reads, records_of, state_of, causes_of}
@@ -17,6 +18,7 @@ use Rattle.node_core.specs.declared.faults.BootFault.{BootFault}
 use Rattle.node_core.specs.declared.faults.BootFault.TheVariants as boot
 use Rattle.network_core.specs.Worlds.{World, NodeWorld, NetSeen, MaySpell, Shows, Coherent, Choice}
 use Rattle.network_core.specs.Begins.{member, net_over, Begun}
+use Rattle.network_core.specs.Acknowledged.{Reaches, Acknowledged, StandsOnce}
 use Rattle.node_shell.specs.declared.statuses.Status.{Status}
 use Rattle.node_shell.specs.declared.statuses.Status.TheVariants as status
 use Rattle.node_shell.specs.Story.{ScriptRun, IsScriptStatus}
@@ -64,7 +66,8 @@ KeepsOwn frame_at id disk = disk.tells ≡ true → (refusal id disk.state.kept 
 abbrev pub KeepOwn : {F : Type 0} → Reads F → ℕ → Party → List DiskView → Type 0
 KeepOwn frame_at nodes notary disks = (p : ℕ) (d : DiskView) → slice_get disks p ≡ Some d → KeepsOwn frame_at (member nodes notary p) d
 
--- each node opened its own journal, and the script went from the opening world to the last, in which the disks rest
+-- each node opened its own journal, and the script went from the opening world to the last by steps, and the disks rest in that one; what is
+-- acknowledged in any world on the way stands once in the merged journals of every later one, whichever journals power cuts leave of it
 pub record Plays {F : Type 0} (e : Environment F) (w : World) (old new : List DiskView) (left0 left1 written0 written1 : Option (List ℕ)) (count : ℕ) (status : Status) : Type 0 where
   pub is_script : IsScriptStatus status
   pub own : KeepOwn e.frame_at e.nodes e.notary old
@@ -75,6 +78,8 @@ pub record Plays {F : Type 0} (e : Environment F) (w : World) (old new : List Di
   pub last : World
   pub script : ScriptRun e start left0 left1 written0 written1 count last status
   pub rests : Rests e new (all_down last)
+  pub reaches : Reaches e start last
+  pub acknowledged : (u v : World) → Reaches e start u → Reaches e u v → (lists : List (List (List ℕ))) → Choice v lists → (p : ℕ) (cause : Cause) → Acknowledged e u p cause → StandsOnce (p, cause) (merged (map (causes_of e.frame_at) lists))
 
 -- the line for a node's first opening that found no sound journal of its own
 abbrev pub journal_line : ℕ → BootFault → List ℕ

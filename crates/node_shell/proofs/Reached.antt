@@ -1,0 +1,69 @@
+-- A script leads from the opening world to its last by steps.
+use Rattle.std.proofs.Common.{◌≡◌, inl, inr, ⊎_elim, ℕ, List, Bool, true, false, Option, Some, None, refl, sym, subst}
+use Rattle.std.specs.Prelude.{MatchBool}
+use Rattle.net_model.specs.Environment.{Environment}
+use Rattle.network_core.specs.declared.steps.Step.{Step}
+use Rattle.network_core.specs.Worlds.{World}
+use Rattle.network_core.specs.Acknowledged.{Reaches, here, by_step}
+use Rattle.shell_words.specs.declared.commands.Command.{Command}
+use Rattle.shell_words.specs.Script.{has_no_answer, is_readable, words_of, command_of, asked_by}
+use Rattle.node_shell.specs.declared.replies.Reply.{Reply}
+use Rattle.node_shell.specs.declared.replies.Reply.TheVariants.{Silence}
+use Rattle.node_shell.specs.declared.statuses.Status.{Status}
+use Rattle.node_shell.specs.declared.statuses.Status.TheVariants as status
+use Rattle.node_shell.specs.Serve.{step_of, IsRefused, Makes, Serves, RepliesTo, Link, Leaves, RunsShort}
+use Rattle.node_shell.specs.Story.{Story, begins, goes_on, CutOff, LeftOff, EndsWith, ScriptRun}
+
+module _ {F : Type 0} (e : Environment F) (start : World) where
+  unmoved : (w v : World) → Reaches e start w → v ≡ w → Reaches e start v
+  unmoved w v before is = subst (Reaches e start) (sym is) before
+
+  makes_reaches : (w v : World) (s : Option Step) (asked : Command) (words : List (List ℕ)) (reply : Reply) → Reaches e start w → Makes e w s asked words reply v → Reaches e start v
+  makes_reaches w v (Some s) asked words reply before (o, serve, told) = by_step s (Some o) before serve
+  makes_reaches w v None asked words reply before (answer, is) = unmoved w v before is
+
+  replies_reaches : (w v : World) (line : List ℕ) (reply : Reply) → Reaches e start w → RepliesTo e w line reply v → Reaches e start v
+  replies_reaches w v line reply before h = by (has_no_answer line) (is_readable line) h
+    where
+      by : (blank plain : Bool) → MatchBool blank ((reply ≡ Silence) × (v ≡ w)) (MatchBool plain (Serves e w (command_of (words_of line)) (words_of line) reply v) (IsRefused 1 reply × (v ≡ w))) → Reaches e start v
+      by true plain h = unmoved w v before h.1
+      by false true h = makes_reaches w v (step_of e (command_of (words_of line)) (words_of line)) (command_of (words_of line)) (words_of line) reply before h
+      by false false h = unmoved w v before h.1
+
+  link_reaches : (w v : World) (line text : List ℕ) → Reaches e start w → Link e w line text v → Reaches e start v
+  link_reaches w v line text before link = replies_reaches w v line link.reply before link.replies
+
+  story_reaches : (lines : List (List ℕ)) (out : List ℕ) (w : World) → Story e start lines out w → Reaches e start w
+  story_reaches lines out w begins = here refl
+  story_reaches lines out w (goes_on {lines = earlier} {out = said} {before = u} line text before none link all longer) = link_reaches u w line text (story_reaches earlier said u before) link
+
+  -- ---- the end of a script
+
+  leaves_reaches : (w v : World) (s : Option Step) → Reaches e start w → Leaves e s w v → Reaches e start v
+  leaves_reaches w v None before is = unmoved w v before is
+  leaves_reaches w v (Some s) before (inl is) = unmoved w v before is
+  leaves_reaches w v (Some s) before (inr serve) = by_step s None before serve
+
+  short_reaches : (w v : World) (line : List ℕ) → Reaches e start w → RunsShort e w line v → Reaches e start v
+  short_reaches w v line before (inl leaves) = leaves_reaches w v (step_of e (asked_by line) (words_of line)) before leaves
+  short_reaches w v line before (inr (text, link)) = link_reaches w v line text before link
+
+  module _ {written0 written1 : Option (List ℕ)} {lines : List (List ℕ)} {w : World} where
+    cut_reaches : CutOff e start written0 written1 lines w → Reaches e start w
+    cut_reaches c = link_reaches c.before w c.line _ (story_reaches c.earlier c.out c.before c.story) c.link
+
+    left_reaches : LeftOff e start written0 written1 lines w → Reaches e start w
+    left_reaches l = short_reaches l.before w l.line (story_reaches l.earlier l.out l.before l.story) l.short
+
+  ends_reaches : (left written0 written1 : Option (List ℕ)) (count : ℕ) (lines : List (List ℕ)) (rest : List ℕ) (w : World) (s : Status) → EndsWith e start left written0 written1 count lines rest w s → Reaches e start w
+  ends_reaches left written0 written1 count lines rest w status.Finished h = story_reaches _ h.1.out w h.1.story
+  ends_reaches left written0 written1 count lines rest w status.BadWords h = absurd h
+  ends_reaches left written0 written1 count lines rest w status.TooLong h = story_reaches _ h.2.out w h.2.story
+  ends_reaches left written0 written1 count lines rest w status.ReadFault h = story_reaches _ h.1.out w h.1.story
+  ends_reaches left written0 written1 count lines rest w status.WriteFault h = cut_reaches h.0
+  ends_reaches left written0 written1 count lines rest w status.DiskFault h = absurd h
+  ends_reaches left written0 written1 count lines rest w status.NoMemory h = ⊎_elim (λ l. left_reaches l.0) (λ unread. story_reaches _ unread.2.out w unread.2.story) h
+  ends_reaches left written0 written1 count lines rest w status.BadJournal h = absurd h
+
+  pub script_reaches : (left0 left1 written0 written1 : Option (List ℕ)) (count : ℕ) (w : World) (s : Status) → ScriptRun e start left0 left1 written0 written1 count w s → Reaches e start w
+  script_reaches left0 left1 written0 written1 count w s run = ends_reaches left1 written0 written1 count run.lines run.rest w s run.ends
