@@ -17,7 +17,7 @@ pub data Reaches {F : Type 0} (e : Environment F) : World → World → Type 0 w
   by_step : {w u v : World} (s : Step) (o : Option Outcome) → Reaches e w u → Serve e s u o v → Reaches e w v
   by_part : {w u v : World} (p : ℕ) (o : Option Outcome) → Reaches e w u → DoesAt e p u o v → Reaches e w v
 
--- A node that is up has this cause in its journal. What it answered, and what it acknowledged to others, is among these.
+-- A node that is up has this cause in its journal. What a start, a turn or a taken item was answered over is the last of these.
 pub record Acknowledged {F : Type 0} (e : Environment F) (w : World) (p : ℕ) (cause : Cause) : Type 0 where
   pub node : NodeWorld
   pub there : slice_get w.nodes p ≡ Some node

@@ -15,8 +15,8 @@ pub fn drains_by_turns<F>()
 {}
 
 /// The law that what a node that is up has in its journal stands once in the merged journals of every world that steps lead to from there,
-/// whichever journals power cuts leave of that one: what it answered and what it acknowledged to others is among these, so none of it is
-/// lost, and none of it is there twice.
+/// whichever journals power cuts leave of that one. What a start, a turn or a taken item was answered over is the last of these, so none of it
+/// is lost, and none of it is there twice.
 pub fn acknowledged_stands_once<F>()
     ensures { AcknowledgedStandsOnce F }
 {}
