@@ -3,7 +3,9 @@
 //! The script comes from standard input, and the answers go to standard output.
 #![tactic(auto)]
 
-ghost use Rattle.std.specs.Prelude.{◌≡◌, IfOk, length};
+ghost use Rattle.std.specs.Prelude.{◌≡◌, IfOk, length, All, [], true, None};
+ghost use Rattle.outside.specs.Disk.{clean};
+ghost use Rattle.disk_mem.specs.Mem.{MemView};
 
 mod streams;
 
@@ -33,7 +35,8 @@ fn status_of(fault: &io::Error) -> u8 {
 
 /// The disks of a run, all empty.
 fn empty_disks(alloc: Global) -> Result<Vec<MemDisk>, AllocError>
-    ensures { IfOk result (λ disks. length disks.items ≡ 32) }
+    ensures count { IfOk result (λ disks. length disks.items ≡ 32) }
+    ensures empty { IfOk result (λ disks. All (λ (d : MemView). (d.state ≡ record { kept = []; now = clean []; past = [] }) × (d.power ≡ true) × (d.fuse ≡ None) × (d.faults ≡ 0)) disks.items) }
 {
     let mut disks = Vec::new(alloc);
     'disks: for _ in 0..32u8 {

@@ -1,9 +1,9 @@
-ghost use Rattle.std.specs.Prelude.{◌≡◌, None};
+ghost use Rattle.std.specs.Prelude.{◌≡◌};
 
 use outside::{Failed, Sink, Source};
 use std::io::{Read, Write};
 
-/// A source over a reader. It tells nothing of the bytes that are left, and counts the reads that failed.
+/// A source over a reader. It tells of the bytes that are left what the reader tells, and counts the reads that failed.
 #[derive(Drop)]
 pub struct StdSource<R> {
     inner: R,
@@ -24,7 +24,7 @@ impl<R: Read> StdSource<R> {
 }
 
 impl<R: Read> Source for StdSource<R> {
-    ghost left = { λ s. None };
+    ghost left = { λ s. R.remaining s.inner };
 
     ghost faults = { λ s. s.failed_reads };
 
@@ -39,7 +39,7 @@ impl<R: Read> Source for StdSource<R> {
     }
 }
 
-/// A sink over a writer. It tells nothing of the bytes that were written, and counts the writes that failed.
+/// A sink over a writer. It tells of the bytes that were written what the writer tells, and counts the writes that failed.
 #[derive(Drop)]
 pub struct StdSink<W> {
     inner: W,
@@ -60,7 +60,7 @@ impl<W: Write> StdSink<W> {
 }
 
 impl<W: Write> Sink for StdSink<W> {
-    ghost written = { λ s. None };
+    ghost written = { λ s. W.contents s.inner };
 
     ghost faults = { λ s. s.failed_writes };
 
