@@ -2,7 +2,7 @@ ghost use Rattle.std.specs.Prelude.{◌≡◌};
 ghost use Rattle.flow_machine.specs.Unnamed.{unnamed_code};
 
 use ledger_types::{HeldList, IdList, NotaryAnswer, Request, SignedTx, Tx, Value, Verdict};
-use net_base::{Hash32, Key, Moment, Party, Tag, Token};
+use net_base::{Boxed, Hash32, Key, Moment, Party, Tag, Token};
 
 /// What a live flow waits on. When the act is performed the flow's top frame is resumed with the result, once.
 #[derive(Debug, Drop)]
@@ -21,19 +21,19 @@ pub enum Act<F> {
     /// Calls a subflow, which begins with `Started`; `Refused` with 49, to the frame that asked, where the stack has 8 frames.
     Sub { frame: F },
     /// Has a transaction judged over the states that it names: `Verdict`; `Refused` with 35 where one of them cannot be had.
-    Verify { tx: Tx },
+    Verify { tx: Boxed<Tx> },
     /// Soft-locks coins of the token that reach the amount: `Coins`, or `Short`.
     Reserve { token: Token, amount: u64 },
     /// Looks for a recorded transaction: `Found`, or `Absent`.
     Lookup { id: Hash32 },
     /// Asks which transactions that this one names are not recorded: `Ids`.
-    Missing { tx: Tx },
+    Missing { tx: Boxed<Tx> },
     /// Has the node's party sign an id: `Tagged`; `Refused` with 46 at the notary's node.
     Sign { id: Hash32 },
     /// Has the node's book decide a request: `Answer`.
-    Notarise { request: Request },
+    Notarise { request: Boxed<Request> },
     /// Records a transaction that was accepted and has the tags that it needs: `Recorded`, or `Refused`.
-    Record { stx: SignedTx },
+    Record { stx: Boxed<SignedTx> },
     /// Ends the frame with this value: the frame below is resumed with `Returned`, and at the bottom the flow has ended.
     Return { value: Value },
     /// Ends the whole flow with this code.
@@ -66,7 +66,7 @@ pub enum Resumed {
     /// There are too few coins: the sum of those that there are, of the first 64.
     Short { have: u128 },
     /// The recorded transaction.
-    Found { stx: SignedTx },
+    Found { stx: Boxed<SignedTx> },
     /// No such transaction is recorded.
     Absent,
     /// The ids, each once, by first occurrence.
@@ -74,7 +74,7 @@ pub enum Resumed {
     /// The tag by the node's party.
     Tagged { tag: Tag },
     /// What the book answers.
-    Answer { answer: NotaryAnswer },
+    Answer { answer: Boxed<NotaryAnswer> },
     /// The transaction is recorded.
     Recorded,
     /// The subflow returned.

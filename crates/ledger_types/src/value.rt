@@ -8,7 +8,7 @@ ghost use Rattle.ledger_types.specs.Values.{IsValue, value, value_at, value_laws
 use crate::notary::{NotaryAnswer, Request};
 use crate::tx::{SignedTx, TagList};
 use net_base::{
-    ByteList, DecodeFault, Hash32, PartFault, Reader, Spelt, Writer, decode, encode,
+    Boxed, ByteList, DecodeFault, Hash32, PartFault, Reader, Spelt, Writer, decode, encode,
     read_ascending, read_bytes16, read_kind, write_bytes16, write_list,
 };
 use std::alloc::{AllocError, Global};
@@ -19,9 +19,9 @@ pub enum Value {
     Unit,
     Number(u64),
     Id(Hash32),
-    Tx(SignedTx),
-    Request(Request),
-    Answer(NotaryAnswer),
+    Tx(Boxed<SignedTx>),
+    Request(Boxed<Request>),
+    Answer(Boxed<NotaryAnswer>),
     /// At most 16, strictly ascending by party.
     Tags(TagList),
     /// At most 4,096 bytes.
@@ -118,9 +118,15 @@ impl Value {
             Value::Unit => Ok(Value::Unit),
             Value::Number(number) => Ok(Value::Number(*number)),
             Value::Id(id) => Ok(Value::Id(*id)),
-            Value::Tx(stx) => Ok(Value::Tx(stx.copy(alloc)?)),
-            Value::Request(request) => Ok(Value::Request(request.copy(alloc)?)),
-            Value::Answer(answer) => Ok(Value::Answer(answer.copy(alloc)?)),
+            Value::Tx(stx) => Ok(Value::Tx(Boxed::new(alloc, stx.get().copy(alloc)?)?)),
+            Value::Request(request) => Ok(Value::Request(Boxed::new(
+                alloc,
+                request.get().copy(alloc)?,
+            )?)),
+            Value::Answer(answer) => Ok(Value::Answer(Boxed::new(
+                alloc,
+                answer.get().copy(alloc)?,
+            )?)),
             Value::Tags(tags) => Ok(Value::Tags(tags.copy(alloc)?)),
             Value::Bytes(bytes) => Ok(Value::Bytes(bytes.copy(alloc)?)),
         }

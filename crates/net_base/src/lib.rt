@@ -4,6 +4,7 @@
 
 mod ascending;
 mod block;
+mod boxed;
 mod bytes16;
 mod causes;
 mod fault;
@@ -25,6 +26,7 @@ mod writer;
 
 pub use ascending::{ByParty, read_ascending};
 pub use block::{Block, Component, write_component};
+pub use boxed::Boxed;
 pub use bytes16::{read_bytes16, write_bytes16};
 pub use causes::{Cause, CauseList, Event, NodeCauseList};
 pub use fault::{DecodeFault, PartFault};

@@ -185,3 +185,17 @@ fn sets_numbers_and_causes(rt: HostRuntime) -> Result<(), Fail> {
     assert_eq!(rt; out.into_bytes().as_slice(), [4, 1, 3].as_slice());
     Ok(())
 }
+
+#[test]
+fn a_boxed_value_is_spelt_as_the_value(rt: HostRuntime) -> Result<(), Fail> {
+    let alloc = rt.alloc();
+    let boxed: Boxed<u32> = decode_whole(alloc, &[1, 2, 3, 4])?;
+    assert_eq!(rt; *boxed.get(), 0x0102_0304);
+    let mut out = Writer::new(alloc);
+    encode(alloc, &boxed, &mut out)?;
+    assert_eq!(rt; out.into_bytes().as_slice(), [1u8, 2, 3, 4].as_slice());
+    let list = Boxed::new(alloc, ByteList::from_slice(alloc, &[7, 8])?)?;
+    let copy = list.try_copy(alloc)?;
+    assert_eq!(rt; copy.into_inner().as_slice(), [7u8, 8].as_slice());
+    Ok(())
+}
