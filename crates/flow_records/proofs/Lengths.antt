@@ -15,7 +15,7 @@ use Rattle.session_wire.specs.declared.body.Body.{Body}
 use Rattle.session_wire.specs.declared.body.Body.TheVariants as body
 use Rattle.session_wire.specs.declared.change.SentItem.{SentItem}
 use Rattle.session_wire.specs.Bodies.{IsBody, body_text}
-use Rattle.session_wire.specs.Sizes.{body_fits}
+use Rattle.session_wire.proofs.Sizes.{body_fits}
 use Rattle.transition_record.specs.Changes.{IsSentItem, sent_item, opened_text, taken_text}
 use Rattle.flow_records.specs.Steps.{carries_value, FewValuesAreShort}
 use Rattle.flow_records.proofs.Sizes.{number16, number32, joined, key_short}

@@ -18,7 +18,7 @@ use Rattle.ledger_types.specs.Values.{IsValue, value}
 use Rattle.session_wire.specs.declared.change.SessionChange.{SessionChange}
 use Rattle.session_wire.specs.declared.effect.FlowPart.{FlowPart as SpokenPart}
 use Rattle.session_wire.specs.declared.effect.FlowPart.TheVariants as part
-use Rattle.session_wire.specs.Sizes.{Fits, tx_fits, signed_fits, request_fits, value_fits}
+use Rattle.session_wire.proofs.Sizes.{Fits, tx_fits, signed_fits, request_fits, value_fits}
 use Rattle.flow_machine.specs.declared.acts.Act.TheVariants as act
 use Rattle.flow_machine.specs.Machine.{Machine}
 use Rattle.flow_machine.specs.Flows.{SpellsContent}

@@ -46,10 +46,6 @@ record_of frame_at bytes = if nat_le (length bytes) 524288 then option_and_then 
 
 -- ---- a flow
 
--- the flow of that number is this one afterwards, and nothing else changes
-abbrev pub effect_to : {F : Type 0} → ℕ → FlowState F → Effect F
-effect_to number state = record { flow = part_of number state; change = nothing }
-
 -- the limits of a flow, by those of frames
 abbrev pub IsFlow : {F : Type 0} → (F → Type 0) → FlowState F → Type 0
 IsFlow within (state.Live at) = IsCheckpoint within at

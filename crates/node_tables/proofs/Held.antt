@@ -13,7 +13,7 @@ use Rattle.session_wire.specs.declared.body.Body.TheVariants as body_of
 use Rattle.session_wire.specs.declared.change.SentItem.{SentItem}
 use Rattle.session_wire.specs.Sessions.{Sent, Session, changed_at, new_session, with_came, with_sent, with_taken, ending_of, ending_at, opened_on, sent_on, taken_on}
 use Rattle.net_model.specs.State.{Effect, flow_of, came_on, sessions_on}
-use Rattle.node_tables.specs.Seen.{IsHeld}
+use Rattle.session_wire.specs.Rules.{IsHeld}
 use Rattle.node_tables.proofs.Small.{all_push, all_changed}
 
 -- ---- items

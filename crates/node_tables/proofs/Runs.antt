@@ -9,6 +9,7 @@ use Rattle.net_base.specs.declared.names.Key.{Key}
 use Rattle.net_base.specs.declared.causes.Cause.{Cause}
 use Rattle.net_base.specs.declared.causes.Event.{Event}
 use Rattle.net_base.specs.declared.causes.Event.TheVariants as event
+use Rattle.session_wire.specs.Rules.{IsHeld}
 use Rattle.session_wire.specs.declared.body.Body.{Body}
 use Rattle.session_wire.specs.declared.body.Body.TheVariants as body_of
 use Rattle.session_wire.specs.declared.change.SentItem.{SentItem}
@@ -39,7 +40,7 @@ use Rattle.flow_records.specs.Records.{record_of, IsFlow}
 use Rattle.flow_records.specs.Steps.{part_after, effect_by, step_record, IsAfter, IsStep}
 use Rattle.node_tables.specs.Journals.{Reads, records_of, state_of, causes_of, lone}
 use Rattle.node_tables.specs.Fits.{fits, apply_read, begun_by}
-use Rattle.node_tables.specs.Seen.{Keeps, IsSmall, IsHeld, AreOwned, flows_after, padded}
+use Rattle.node_tables.specs.Seen.{Keeps, IsSmall, AreOwned, flows_after, padded}
 use Rattle.node_tables.proofs.Lists.{all_put, all_get, get_within}
 use Rattle.node_tables.proofs.Small.{all_weaken, begun_small, record_small, record_count, few_numbers, few_arrived}
 use Rattle.node_tables.proofs.Linking.{IsOwn, owner_is, sessions_same, change_fits}

@@ -4,9 +4,8 @@ use Rattle.std.specs.List.{AllByRecursion}
 use Rattle.net_base.specs.declared.values.Party.{Party}
 use Rattle.net_base.specs.declared.causes.Cause.{Cause}
 use Rattle.net_base.specs.Names.{IsKey}
-use Rattle.session_wire.specs.Bodies.{IsBody}
 use Rattle.session_wire.specs.Sessions.{Session}
-use Rattle.session_wire.specs.Rules.{is_opened_by, sessions_of}
+use Rattle.session_wire.specs.Rules.{is_opened_by, sessions_of, IsHeld}
 use Rattle.session_frames.specs.Lawful.{AreLawful}
 use Rattle.flow_machine.specs.declared.flows.FlowState.{FlowState}
 use Rattle.checkpoints.specs.Tables.{with_flow}
@@ -32,11 +31,6 @@ pub record IsSmall (me : Party) (sent came : ℕ) (session : Session) : Type 0 w
   pub few_sent : length session.sent ≤ sent
   pub few_came : length session.came ≤ came
   pub begun : is_opened_by me session.key ≡ false → 0 < length session.came
-
--- what arrived in a session is within its limits, and so is the ending that was taken
-pub record IsHeld (session : Session) : Type 0 where
-  pub came : AllByRecursion IsBody session.came
-  pub ending : IfSome session.ending IsBody
 
 -- each session's key is one, so many flows own the sessions that are owned, and none of them owns more than 64
 pub record AreOwned (flows : ℕ) (sessions : List Session) : Type 0 where

@@ -5,7 +5,7 @@ ghost use Rattle.std.specs.List.{AllByRecursion};
 ghost use Rattle.net_base.specs.Names.{IsKey};
 ghost use Rattle.checkpoints.specs.Tables.{IsNumbered};
 ghost use Rattle.session_wire.specs.Sessions.{Session, session_of};
-ghost use Rattle.session_wire.specs.Rules.{is_new_key, sessions_of};
+ghost use Rattle.session_wire.specs.Rules.{is_new_key, sessions_of, IsHeld};
 ghost use Rattle.session_table.specs.Changes.{room_for};
 ghost use Rattle.session_table.specs.Tables.{raised};
 ghost use Rattle.session_frames.specs.Lawful.{AreLawful};
@@ -17,7 +17,7 @@ ghost use Rattle.flow_records.specs.Records.{record_of, IsFlow};
 ghost use Rattle.flow_records.specs.Steps.{part_after, effect_by, step_record, IsStep};
 ghost use Rattle.node_tables.specs.Journals.{state_of, causes_of, lone};
 ghost use Rattle.node_tables.specs.Fits.{rises, is_no_flow, only_accepts, arrives_in, fits_event, may_open, made_by, begun_by, fits};
-ghost use Rattle.node_tables.specs.Seen.{flows_after, padded, IsHeld, IsRead};
+ghost use Rattle.node_tables.specs.Seen.{flows_after, padded, IsRead};
 
 use crate::fitting::{
     LAST_STAMP, accepts_init, goes_on, is_lawful_item, is_new_flow, is_no_flow, made_by, rises,

@@ -3,4 +3,3 @@ pub mod Frames
 pub mod Routes
 pub mod Sessions
 pub mod Rules
-pub mod Sizes

@@ -1,11 +1,12 @@
 -- What a node may do in its sessions: what it opens, sends, accepts and takes next.
-use Rattle.std.specs.Prelude.{◌≡◌, ℕ, ◌≤◌, ◌==◌, ◌&&◌, ◌||◌, nat_le, not, List, [], ◌∷◌, Option, Some, None, Bool, true, false, ⊤, if◌then◌else◌, filter, length, is_none}
-use Rattle.std.specs.List.{list_any}
+use Rattle.std.specs.Prelude.{◌≡◌, ℕ, ◌≤◌, ◌==◌, ◌&&◌, ◌||◌, nat_le, not, List, [], ◌∷◌, Option, Some, None, Bool, true, false, ⊤, if◌then◌else◌, filter, length, is_none, IfSome}
+use Rattle.std.specs.List.{list_any, AllByRecursion}
 use Rattle.net_base.specs.declared.names.Key.{Key}
 use Rattle.net_base.specs.declared.values.Party.{Party}
 use Rattle.session_wire.specs.declared.body.Body.{Body}
 use Rattle.session_wire.specs.declared.body.Body.TheVariants as body_of
 use Rattle.session_wire.specs.declared.change.SentItem.{SentItem}
+use Rattle.session_wire.specs.Bodies.{IsBody}
 use Rattle.session_wire.specs.Sessions.{Session, key_eq, session_of, changed_at, with_sent, next_item}
 
 -- ---- keys and directions
@@ -127,3 +128,10 @@ pub record TakesUpTo (sessions : List Session) (key : Key) (n : ℕ) : Type 0 wh
 abbrev pub FitsTaken : List Session → Option (Key × ℕ) → Type 0
 FitsTaken sessions None = ⊤
 FitsTaken sessions (Some taken) = TakesUpTo sessions taken.0 taken.1
+
+-- ---- limits
+
+-- what arrived in a session, and the ending that was taken there, are within their limits
+pub record IsHeld (session : Session) : Type 0 where
+  pub came : AllByRecursion IsBody session.came
+  pub ending : IfSome session.ending IsBody

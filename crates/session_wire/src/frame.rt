@@ -191,7 +191,7 @@ impl Frame {
     /// # Errors
     ///
     /// Want of memory.
-    #[tactic(auto, using(crate::specs::Sizes::frame_fits))]
+    #[tactic(auto, using(crate::proofs::Sizes::frame_fits))]
     pub fn encode(&self, alloc: Global) -> Result<ByteList, AllocError>
         requires { IsFrame self.now }
         ensures text { IfOk result (λ bytes. bytes ≡ frame self.now) }
@@ -209,7 +209,7 @@ impl Frame {
     /// `Malformed { at }` exactly where the bytes as a whole are no frame's spelling, and `Memory`. `at` is the first place
     /// at which no frame's spelling can go on: the end of bytes that stop too early, and a frame's length where bytes
     /// follow it.
-    #[tactic(auto, using(crate::specs::Sizes::frame_fits))]
+    #[tactic(auto, using(crate::proofs::Sizes::frame_fits))]
     pub fn decode(alloc: Global, bytes: &[u8]) -> Result<Frame, DecodeFault>
         ensures whole { DecodesWhole IsFrame frame result bytes.now }
         ensures size { IsOk result → length bytes.now ≤ FRAME_LIMIT }
