@@ -2,10 +2,11 @@
 use Rattle.std.proofs.Common.{◌≡◌, ℕ, ◌^◌, ◌<◌, ◌≤◌, List, length, slice_get, Option, Some, None, Result, Ok, Err, true, false, cond, option_map, refl, sym, ◌∙◌, ap, subst, arith}
 use Rattle.std.specs.Prelude.{IfOk, IfSome, is_some}
 use Rattle.std.proofs.lemmas.Bool.{eq-eqb}
-use Rattle.net_base.specs.declared.causes.Event.{Event}
+use Rattle.net_base.specs.declared.causes.Cause.{Cause}
 use Rattle.net_base.specs.declared.causes.Event.TheVariants as event
 use Rattle.net_base.specs.declared.names.Identity.{Identity}
 use Rattle.net_base.specs.declared.names.Key.{Key}
+use Rattle.net_base.specs.declared.values.Moment.{Moment}
 use Rattle.net_base.specs.Names.{IsKey}
 use Rattle.session_wire.specs.declared.body.Body.{Body}
 use Rattle.session_wire.specs.declared.body.Body.TheVariants as body_of
@@ -18,6 +19,7 @@ use Rattle.flow_machine.specs.declared.flows.FlowState.{FlowState}
 use Rattle.flow_machine.specs.declared.flows.FlowState.TheVariants as state
 use Rattle.flow_machine.specs.Flows.{AreWithin}
 use Rattle.flow_machine.specs.Machine.{Machine}
+use Rattle.transition_record.specs.Causes.{IsEvent, came_key_of}
 use Rattle.transition_record.specs.Changes.{IsSession, session_text}
 use Rattle.net_model.specs.Environment.{Environment, environment}
 use Rattle.net_model.specs.State.{NodeState, Effect}
@@ -26,9 +28,9 @@ use Rattle.net_model.specs.Enabled.{enabled_event}
 use Rattle.net_model.proofs.Enabled.{effect_at}
 use Rattle.session_acts.specs.Parts.{session_part, unchanged, answer_to, arrival}
 use Rattle.flow_records.specs.declared.step.FlowAfter.{FlowAfter}
+use Rattle.flow_records.specs.declared.step.Step.{Step}
 use Rattle.flow_records.specs.Steps.{effect_by, part_after, owner_of, IsAfter}
-use Rattle.flow_steps.specs.declared.acts.Gone.{Gone}
-use Rattle.flow_steps.specs.Going.{first_after, begun_for, after, Performs}
+use Rattle.flow_steps.specs.Going.{first_after, begun_for, Performs}
 use Rattle.flow_steps.specs.Ready.{IsReady}
 use Rattle.flow_steps.proofs.Limits.{unchanged_within, unchanged_short}
 use Rattle.flow_steps.proofs.Picks.{IsOwn}
@@ -40,32 +42,27 @@ of_ok P (Err e) x is h = cc
 
 -- ---- a flow that goes on
 
-pub goes_ready : {F : Type 0} (w : Environment F) (me now : ℕ) (within : F → Type 0) (flows : List (FlowState F)) (sessions : List Session) (e : Event) (at : Checkpoint F) (g : Gone F) → slice_get flows at.flow ≡ Some (state.Live at) → enabled_event w sessions now (state.Live at) ≡ Some e
-    → IsOwn at.flow e → at.flow < 2 ^ 32 → Performs w me now within sessions at g → (s : NodeState F) → s.flows ≡ flows → s.sessions ≡ sessions → IsReady w me now within s None (record { event = e; flow = Some (after at g); session = g.session })
-goes_ready {F} w me now within flows sessions e at g there by own small p s same also = record {
-  effect = effect_at w me s now at.flow (state.Live at) e (effect_by (Some (after at g)) g.session) (ap (λ (l : List (FlowState F)). slice_get l at.flow) same ∙ there) refl (ap (λ (l : List Session). enabled_event w l now (state.Live at)) also ∙ by)
-      (p.by s e also by ∙ ap (λ (x : Effect F). Some x) (sym p.becomes.effect));
-  limits = own.limits small;
+pub goes_ready : {F : Type 0} (w : Environment F) (me now n : ℕ) (within : F → Type 0) (flows : List (FlowState F)) (sessions : List Session) (cause : Cause) (at : Checkpoint F) (step : Step F) → at.flow ≡ n → slice_get flows n ≡ Some (state.Live at)
+    → enabled_event w sessions now (state.Live at) ≡ Some cause.event → IsOwn n cause.event → n < 2 ^ 32 → step.cause ≡ cause → Performs w me now within sessions at step → (s : NodeState F) → s.flows ≡ flows → s.sessions ≡ sessions → IsReady w me now within s None step
+goes_ready {F} w me now n within flows sessions cause at step num there by own small is p s same also = record {
+  effect = ap (λ (c : Cause). effect_of w me s now c.event None) is
+      ∙ effect_at w me s now at.flow (state.Live at) cause.event (effect_by step.flow step.session) (ap (λ (l : List (FlowState F)). slice_get l at.flow) same ∙ ap (λ k. slice_get flows k) num ∙ there) refl (ap (λ (l : List Session). enabled_event w l now (state.Live at)) also ∙ by)
+      (p.by s cause.event also by ∙ ap (λ (x : Effect F). Some x) (sym p.becomes.effect));
+  limits = subst (λ (c : Cause). IsEvent c.event) (sym is) (own.limits small);
   flow = p.becomes.flow;
-  session = subst (λ k. IsSession at.flow k g.session) (sym own.key) p.becomes.session;
+  session = subst (λ (c : Cause). IsSession (owner_of step.flow) (came_key_of c.event) step.session) (sym is) (subst (λ k. IsSession (owner_of step.flow) k step.session) (sym own.key) p.becomes.session);
   short = p.becomes.short;
 }
-
-pub goes_ready_at : {F : Type 0} (w : Environment F) (me now n : ℕ) (within : F → Type 0) (flows : List (FlowState F)) (sessions : List Session) (e : Event) (at : Checkpoint F) (g : Gone F) → at.flow ≡ n → slice_get flows n ≡ Some (state.Live at) → enabled_event w sessions now (state.Live at) ≡ Some e
-    → IsOwn n e → n < 2 ^ 32 → Performs w me now within sessions at g → (s : NodeState F) → s.flows ≡ flows → s.sessions ≡ sessions → IsReady w me now within s None (record { event = e; flow = Some (record { number = n; state = g.state }); session = g.session })
-goes_ready_at {F} w me now n within flows sessions e at g num there by own small p s same also =
-    subst (λ k. IsReady w me now within s None (record { event = e; flow = Some (record { number = k; state = g.state }); session = g.session })) num
-    (goes_ready w me now within flows sessions e at g (ap (λ k. slice_get flows k) num ∙ there) by (subst (λ k. IsOwn k e) (sym num) own) (subst (λ k. k < 2 ^ 32) (sym num) small) p s same also)
 
 -- ---- a flow that begins
 
 first_within : {F : Type 0} (within : F → Type 0) (n class : ℕ) (made : F × Act F) → n < 2 ^ 32 → class < 2 ^ 16 → AreWithin within made → IsAfter within (first_after n class made)
 first_within within n class made small few is = ((small, (omega arith, (few, (is.1, (is.0, (omega arith, tt)))))), refl)
 
-pub begun_ready : {F : Type 0} (w : Environment F) (me now : ℕ) (within : F → Type 0) (class n : ℕ) (args : List ℕ) (made : F × Act F) (change : SessionChange) → n < 2 ^ 32 → class < 2 ^ 16 → w.machine.made class args (place w me n 0 now) ≡ Ok made → AreWithin within made → length args ≤ 65535
-    → change ≡ unchanged n → (s : NodeState F) → length s.flows ≡ n → IsReady w me now within s None (record { event = event.Start n class args; flow = Some (first_after n class made); session = change })
+pub begun_ready : {F : Type 0} (w : Environment F) (me stamp : ℕ) (now : Moment) (within : F → Type 0) (class n : ℕ) (args : List ℕ) (made : F × Act F) (change : SessionChange) → n < 2 ^ 32 → class < 2 ^ 16 → w.machine.made class args (place w me n 0 now.0) ≡ Ok made → AreWithin within made → length args ≤ 65535
+    → change ≡ unchanged n → (s : NodeState F) → length s.flows ≡ n → IsReady w me now.0 within s None (record { cause = record { stamp = stamp; moment = now; event = event.Start n class args }; flow = Some (first_after n class made); session = change })
 unfolding effect_of
-begun_ready w me now within class n args made change small few is limits short none s same = record {
+begun_ready w me stamp now within class n args made change small few is limits short none s same = record {
   effect = rw (eq-eqb n (length s.flows) (sym same), is, none) refl;
   limits = (small, (few, short));
   flow = first_within within n class made small few limits;
@@ -108,10 +105,10 @@ module _ {F : Type 0} (m : Machine F) (r : List ℕ → Result (F × List ℕ) �
   answer_effect key _ flow change init is told s same new = cc
 
   -- what answers an Init is ready
-  pub answer_ready : (within : F → Type 0) (key : Key) (init : Body) (flow : Option (FlowAfter F)) (change : SessionChange) → is_init init ≡ true → IsKey key → flow ≡ begun_for (environment m r id) id.party.0 now n key init → IfSome flow (IsAfter within) → session_part change ≡ answer_to key init (is_some flow)
+  pub answer_ready : (within : F → Type 0) (stamp : ℕ) (moment : Moment) (key : Key) (init : Body) (flow : Option (FlowAfter F)) (change : SessionChange) → is_init init ≡ true → IsKey key → flow ≡ begun_for (environment m r id) id.party.0 now n key init → IfSome flow (IsAfter within) → session_part change ≡ answer_to key init (is_some flow)
       → IsSession (owner_of flow) (Some key) change → length (session_text change) ≤ 50000 → (s : NodeState F) → length s.flows ≡ n → is_new_key id.nodes id.party s.sessions key ≡ true
-      → IsReady (environment m r id) id.party.0 now within s (Some init) (record { event = event.Answer key; flow = flow; session = change })
-  answer_ready within key init flow change holds is_key is limits told h short s same new = record {
+      → IsReady (environment m r id) id.party.0 now within s (Some init) (record { cause = record { stamp = stamp; moment = moment; event = event.Answer key }; flow = flow; session = change })
+  answer_ready within stamp moment key init flow change holds is_key is limits told h short s same new = record {
     effect = answer_effect key init flow change holds is told s same new;
     limits = is_key;
     flow = limits;
@@ -129,10 +126,10 @@ module _ {F : Type 0} (m : Machine F) (r : List ℕ → Result (F × List ℕ) �
       let some : Option (Effect F) = Some (record { flow = part_after {F = F} None; change = arrival body }) in
       rw stands (ap (λ b. cond b some None) next ∙ (λ i. Some (record { flow = part_after {F = F} None; change = sym told i })))
 
-  pub arrive_ready : (within : F → Type 0) (key : Key) (direction number : ℕ) (body : Body) (change : SessionChange) → IsKey key → direction < 256 → number < 2 ^ 32 → session_part change ≡ arrival body → IsSession 0 (Some key) change → length (session_text change) ≤ 50000
+  pub arrive_ready : (within : F → Type 0) (stamp : ℕ) (moment : Moment) (key : Key) (direction number : ℕ) (body : Body) (change : SessionChange) → IsKey key → direction < 256 → number < 2 ^ 32 → session_part change ≡ arrival body → IsSession 0 (Some key) change → length (session_text change) ≤ 50000
       → (s : NodeState F) (session : Session) → session_of key s.sessions ≡ Some session → is_next id.party key direction number body session ≡ true
-      → IsReady (environment m r id) id.party.0 now within s (Some body) (record { event = event.Arrive key direction number; flow = None; session = change })
-  arrive_ready within key direction number body change is_key small few told h short s session stands next = record {
+      → IsReady (environment m r id) id.party.0 now within s (Some body) (record { cause = record { stamp = stamp; moment = moment; event = event.Arrive key direction number }; flow = None; session = change })
+  arrive_ready within stamp moment key direction number body change is_key small few told h short s session stands next = record {
     effect = arrive_effect key direction number body change s session told stands next;
     limits = (is_key, (small, few));
     flow = tt;

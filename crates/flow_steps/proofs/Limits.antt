@@ -12,7 +12,7 @@ use Rattle.session_wire.specs.declared.change.SentItem.{SentItem}
 use Rattle.session_wire.specs.declared.change.SessionChange.{SessionChange}
 use Rattle.session_wire.specs.Bodies.{IsBody}
 use Rattle.session_wire.specs.Sessions.{Session, key_eq, session_of, is_confirm, first_item, next_item}
-use Rattle.session_wire.specs.Rules.{is_no_peer, has_many, is_owner, owned, owned_by, sessions_of, item_on}
+use Rattle.session_wire.specs.Rules.{is_no_peer, has_many, is_owner, owned, owned_by, sessions_of, item_on, IsHeld}
 use Rattle.session_table.specs.Changes.{room_for}
 use Rattle.flow_machine.specs.declared.acts.Resumed.{Resumed}
 use Rattle.flow_machine.specs.declared.acts.Resumed.TheVariants as resumed
@@ -26,7 +26,6 @@ use Rattle.session_acts.specs.Parts.{done_of, unchanged, session_part}
 use Rattle.flow_records.specs.Steps.{carries_value}
 use Rattle.flow_records.proofs.Lengths.{few_values_are_short}
 use Rattle.flow_steps.specs.Going.{IsDone}
-use Rattle.flow_steps.specs.Ready.{IsHeld}
 use Rattle.flow_steps.proofs.Lists.{all_drop, all_find, filter_length, filter_none}
 
 -- a change by which so few items are sent is short

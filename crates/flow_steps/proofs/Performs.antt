@@ -4,6 +4,7 @@ use Rattle.std.specs.Prelude.{is_none, IfOk, Ok, Err}
 use Rattle.std.specs.List.{AllByRecursion}
 use Rattle.std.specs.Option.{unwrap_or}
 use Rattle.std.proofs.lemmas.Bool.{ltb-true}
+use Rattle.net_base.specs.declared.causes.Cause.{Cause}
 use Rattle.net_base.specs.declared.causes.Event.{Event}
 use Rattle.net_base.specs.declared.causes.Event.TheVariants as event
 use Rattle.net_base.specs.declared.names.Identity.{Identity}
@@ -38,8 +39,8 @@ use Rattle.session_wire.specs.declared.body.Body.TheVariants as body_of
 use Rattle.transition_record.specs.Changes.{IsSession, session_text}
 use Rattle.session_acts.specs.Parts.{session_part, unchanged}
 use Rattle.flow_records.specs.Records.{IsFlow}
+use Rattle.flow_records.specs.declared.step.Step.{Step}
 use Rattle.flow_records.specs.Steps.{effect_by}
-use Rattle.flow_steps.specs.declared.acts.Gone.{Gone}
 use Rattle.flow_steps.specs.Going.{gone_on, called, returned, takes_or_lapses, over, Becomes, Performs}
 use Rattle.flow_steps.proofs.Limits.{unchanged_within, unchanged_short}
 use Rattle.flow_steps.proofs.Picks.{Built}
@@ -92,10 +93,14 @@ module _ {F : Type 0} (w : Environment F) (me now : ℕ) (at : Checkpoint F) whe
 
 -- ---- what becomes of a flow
 
-module _ {F : Type 0} (w : Environment F) (me now : ℕ) (within : F → Type 0) (at : Checkpoint F) where
+module _ {F : Type 0} (w : Environment F) (me now : ℕ) (within : F → Type 0) (at : Checkpoint F) (cause : Cause) where
+  -- its flow is this now, and this changes in the sessions
+  abbrev stepped : FlowState F → SessionChange → Step F
+  stepped new change = record { cause = cause; flow = Some (record { number = at.flow; state = new }); session = change }
+
   -- its top frame went on
   pub gone_becomes : (new : FlowState F) (with : Resumed) (change : SessionChange) → new ≡ gone_on w me now at at.stack.top at.stack.below with → IsFlow within (gone_on w me now at at.stack.top at.stack.below with) → IsSession at.flow None change
-      → length (session_text change) ≤ 50000 → Becomes within at (goes_on w me now at (with, session_part change)) (record { state = new; session = change })
+      → length (session_text change) ≤ 50000 → Becomes within (goes_on w me now at (with, session_part change)) (stepped new change)
   gone_becomes new with change is limits h short = record {
     effect = ap (λ (x : FlowState F). effect_by (Some (record { number = at.flow; state = x })) change) is;
     flow = (subst (IsFlow within) (sym is) limits, subst (IsNumbered at.flow) (sym is) refl);
@@ -109,7 +114,7 @@ module _ {F : Type 0} (w : Environment F) (me now : ℕ) (within : F → Type 0)
   pushed_by false frame = refl
 
   -- its subflow began, or it was told that its stack has 8 frames
-  pub called_becomes : (new : FlowState F) (change : SessionChange) (frame : F) → new ≡ called w me now at frame → change ≡ unchanged at.flow → IsFlow within (called w me now at frame) → Becomes within at (pushes w me now at frame) (record { state = new; session = change })
+  pub called_becomes : (new : FlowState F) (change : SessionChange) (frame : F) → new ≡ called w me now at frame → change ≡ unchanged at.flow → IsFlow within (called w me now at frame) → Becomes within (pushes w me now at frame) (stepped new change)
   called_becomes new change frame is none limits = record {
     effect = (λ i. effect_by (Some (record { number = at.flow; state = is i })) (none i)) ∙ pushed_by (nat_lt (length at.stack.below) 7) frame;
     flow = (subst (IsFlow within) (sym is) limits, subst (IsNumbered at.flow) (sym is) (called_numbered w me now at frame));
@@ -119,7 +124,7 @@ module _ {F : Type 0} (w : Environment F) (me now : ℕ) (within : F → Type 0)
 
   -- it is over
   pub over_becomes : (new : FlowState F) (change : SessionChange) (sessions : List Session) (last : Body) → session_part change ≡ (over me sessions at new last).change → IsFlow within new → IsNumbered at.flow new → IsSession at.flow None change → length (session_text change) ≤ 50000
-      → Becomes within at (over me sessions at new last) (record { state = new; session = change })
+      → Becomes within (over me sessions at new last) (stepped new change)
   over_becomes new change sessions last told limits own h short = record {
     effect = λ i. record { flow = (effect_by (Some (record { number = at.flow; state = new })) change).flow; change = told i };
     flow = (limits, own);
@@ -133,7 +138,7 @@ module _ {F : Type 0} (w : Environment F) (me now : ℕ) (within : F → Type 0)
   returned_to s value (frame ∷ below) deep = refl
 
   pub returned_becomes : (s : NodeState F) (new : FlowState F) (change : SessionChange) (value : Value) → new ≡ returned w me now at value at.stack.below → change ≡ unchanged at.flow → IsFlow within (returned w me now at value at.stack.below) → 0 < length at.stack.below
-      → Becomes within at (returns w me s now at value at.stack.below) (record { state = new; session = change })
+      → Becomes within (returns w me s now at value at.stack.below) (stepped new change)
   returned_becomes s new change value is none limits deep = record {
     effect = (λ i. effect_by (Some (record { number = at.flow; state = is i })) (none i)) ∙ returned_to s value at.stack.below deep;
     flow = (subst (IsFlow within) (sym is) limits, subst (IsNumbered at.flow) (sym is) (returned_numbered w me now at value at.stack.below));
@@ -141,6 +146,7 @@ module _ {F : Type 0} (w : Environment F) (me now : ℕ) (within : F → Type 0)
     short = subst (λ (c : SessionChange). length (session_text c) ≤ 50000) (sym none) (unchanged_short at.flow);
   }
 
+module _ {F : Type 0} (w : Environment F) (me now : ℕ) (at : Checkpoint F) where
   -- the bottom frame returned
   pub ended_means : (s : NodeState F) (sessions : List Session) (new : FlowState F) (value : Value) (below : List F) → s.sessions ≡ sessions → length below ≡ 0 → new ≡ returned w me now at value below → over me sessions at new body_of.End ≡ returns w me s now at value below
   ended_means s sessions new value [] same none is = (λ i. over me (sym same i) at (is i) body_of.End)
@@ -263,17 +269,21 @@ pub if_ok : {X E : Type 0} (P Q : X → Type 0) (r : Result X E) → ((x : X) �
 if_ok P Q (Ok x) f h = f x h
 if_ok P Q (Err e) f h = h
 
+pub if_both : {X E : Type 0} (P Q R : X → Type 0) (r : Result X E) → ((x : X) → P x → Q x → R x) → IfOk r P → IfOk r Q → IfOk r R
+if_both P Q R (Ok x) f p q = f x p q
+if_both P Q R (Err e) f p q = p
+
 -- ---- what an act performed
 
 module _ {F : Type 0} (w : Environment F) (me now : ℕ) (within : F → Type 0) (at : Checkpoint F) where
   -- the flow goes on with what its act means, where that was done
-  pub told_becomes : {E : Type 0} (d e : Done) (r : Result (Gone F) E) → d ≡ e → IfOk r (λ gone. Becomes within at (goes_on w me now at d) gone) → IfOk r (λ gone. Becomes within at (goes_on w me now at e) gone)
-  told_becomes d e r same h = subst (λ x. IfOk r (λ gone. Becomes within at (goes_on w me now at x) gone)) same h
+  pub told_becomes : {E : Type 0} (d e : Done) (r : Result (Step F) E) → d ≡ e → IfOk r (λ step. Becomes within (goes_on w me now at d) step) → IfOk r (λ step. Becomes within (goes_on w me now at e) step)
+  told_becomes d e r same h = subst (λ x. IfOk r (λ step. Becomes within (goes_on w me now at x) step)) same h
 
   -- what becomes of the flow is what its act means, where that is its effect by each event
-  pub all_perform : {E : Type 0} (sessions : List Session) (e : Effect F) (r : Result (Gone F) E) → ((s : NodeState F) (ev : Event) → s.sessions ≡ sessions → enabled_event w sessions now (state.Live at) ≡ Some ev → effect_on w me s now (state.Live at) ev ≡ Some e)
-      → IfOk r (λ gone. Becomes within at e gone) → IfOk r (λ gone. Performs w me now within sessions at gone)
-  all_perform sessions e r by h = if_ok (λ gone. Becomes within at e gone) (λ gone. Performs w me now within sessions at gone) r (λ gone b. record { effect = e; becomes = b; by = by }) h
+  pub all_perform : {E : Type 0} (sessions : List Session) (e : Effect F) (r : Result (Step F) E) → ((s : NodeState F) (ev : Event) → s.sessions ≡ sessions → enabled_event w sessions now (state.Live at) ≡ Some ev → effect_on w me s now (state.Live at) ev ≡ Some e)
+      → IfOk r (λ step. Becomes within e step) → IfOk r (λ step. Performs w me now within sessions at step)
+  all_perform sessions e r by h = if_ok (λ step. Becomes within e step) (λ step. Performs w me now within sessions at step) r (λ step b. record { effect = e; becomes = b; by = by }) h
 
 -- ---- an act that nodes don't perform
 

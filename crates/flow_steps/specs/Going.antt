@@ -1,5 +1,5 @@
 -- By which event a flow goes on, and what becomes of it.
-use Rattle.std.specs.Prelude.{◌≡◌, ℕ, ◌+◌, ◌≤◌, List, [], ◌∷◌, length, nat_lt, if◌then◌else◌, slice_get, Option, Some, None, option_map}
+use Rattle.std.specs.Prelude.{◌≡◌, ℕ, ◌+◌, ◌≤◌, List, [], ◌∷◌, length, nat_lt, if◌then◌else◌, slice_get, Option, Some, None, IfSome, option_map}
 use Rattle.std.specs.Option.{option_or, option_and_then, unwrap_or}
 use Rattle.net_base.specs.declared.names.Key.{Key}
 use Rattle.net_base.specs.declared.causes.Event.{Event}
@@ -21,9 +21,9 @@ use Rattle.net_model.specs.State.{NodeState, Effect, nothing}
 use Rattle.net_model.specs.Steps.{Done, place, receives, last_items}
 use Rattle.net_model.specs.Enabled.{enabling, enabled_event, effect_on, part_of}
 use Rattle.flow_records.specs.declared.step.FlowAfter.{FlowAfter}
-use Rattle.flow_records.specs.Steps.{effect_by, IsAfter}
+use Rattle.flow_records.specs.declared.step.Step.{Step}
+use Rattle.flow_records.specs.Steps.{effect_by, owner_of, IsAfter}
 use Rattle.session_acts.specs.declared.acts.Performed.{Performed}
-use Rattle.flow_steps.specs.declared.acts.Gone.{Gone}
 
 -- ---- the event
 
@@ -94,23 +94,19 @@ pub record IsDone (flow : ℕ) (p : Performed) : Type 0 where
   pub session : IsSession flow None p.change
   pub short : length (session_text p.change) ≤ 50000
 
--- the flow of the checkpoint as it is afterwards
-abbrev pub after : {F : Type 0} → Checkpoint F → Gone F → FlowAfter F
-after at g = record { number = at.flow; state = g.state }
-
--- a flow goes on with this effect, within its limits
-pub record Becomes {F : Type 0} (within : F → Type 0) (at : Checkpoint F) (e : Effect F) (g : Gone F) : Type 0 where
-  pub effect : effect_by (Some (after at g)) g.session ≡ e
-  pub flow : IsAfter within (after at g)
-  pub session : IsSession at.flow None g.session
-  pub short : length (session_text g.session) ≤ 50000
+-- a step has this effect, within its limits; no item is accepted
+pub record Becomes {F : Type 0} (within : F → Type 0) (e : Effect F) (step : Step F) : Type 0 where
+  pub effect : effect_by step.flow step.session ≡ e
+  pub flow : IfSome step.flow (IsAfter within)
+  pub session : IsSession (owner_of step.flow) None step.session
+  pub short : length (session_text step.session) ≤ 50000
 
 -- the flow is over as this, and each of its sessions is told by this item
 abbrev pub over : {F : Type 0} → ℕ → List Session → Checkpoint F → FlowState F → Body → Effect F
 over me sessions at new last = record { flow = part_of at.flow new; change = last_items me sessions at.flow last }
 
--- a flow goes on as its act means, over these sessions, by whichever event the act is performed
-pub record Performs {F : Type 0} (w : Environment F) (me now : ℕ) (within : F → Type 0) (sessions : List Session) (at : Checkpoint F) (g : Gone F) : Type 0 where
+-- a step lets a flow go on as its act means, over these sessions, by whichever event the act is performed
+pub record Performs {F : Type 0} (w : Environment F) (me now : ℕ) (within : F → Type 0) (sessions : List Session) (at : Checkpoint F) (step : Step F) : Type 0 where
   pub effect : Effect F
-  pub becomes : Becomes within at effect g
+  pub becomes : Becomes within effect step
   pub by : (s : NodeState F) (e : Event) → s.sessions ≡ sessions → enabled_event w sessions now (state.Live at) ≡ Some e → effect_on w me s now (state.Live at) e ≡ Some effect

@@ -13,11 +13,11 @@ ghost use Rattle.flow_records.specs.Steps.{IsAfter};
 ghost use Rattle.flow_steps.specs.Going.{begun_for};
 ghost use Rattle.flow_steps.specs.Ready.{IsReady};
 
-use crate::ready::{Ready, first_state};
+use crate::ready::first_state;
 use crate::resuming::{let_go, place_of};
 use flow_machine::{FlowSet, MakeFault};
-use flow_records::FlowAfter;
-use net_base::{Event, Identity, Key, Moment, Unlimited};
+use flow_records::{FlowAfter, Step};
+use net_base::{Cause, Event, Identity, Key, Moment, Unlimited};
 use session_acts::{answer, arrive};
 use session_wire::Body;
 use std::alloc::{AllocError, Global};
@@ -53,26 +53,33 @@ fn flow_for<F: FlowSet>(
 }
 
 /// Answers the `Init` of a new session: a flow of its class begins, and `Confirm` is sent, or where the class is unknown the `Init` is
-/// rejected with code 5. The number is that of the node's next flow. The only error is want of memory.
+/// rejected with code 5. The number is that of the node's next flow; the cause has the stamp and the moment. The only error is want of
+/// memory.
 pub fn answer_init<F: FlowSet>(
     alloc: Global,
     identity: &Identity,
     number: u32,
+    stamp: u64,
     now: Moment,
     key: Key,
     init: Body,
-) -> Result<Ready<F>, AllocError>
+) -> Result<Step<F>, AllocError>
     requires identity { IsIdentity identity.now }
     requires key { IsKey key }
     requires body { IsBody init }
     requires init { is_init init ≡ true }
-    ensures event { IfOk result (λ r. r.event ≡ event.Answer key) }
-    ensures ready { IfOk result (λ r. (s : NodeState F) → length s.flows ≡ number → is_new_key identity.now.nodes identity.now.party s.sessions key ≡ true → IsReady (environment F.machine F.reading identity.now) identity.now.party.0 now.0 F.within s (Some init) r) }
+    ensures cause { IfOk result (λ step. step.cause ≡ record { stamp = stamp; moment = now; event = event.Answer key }) }
+    ensures ready { IfOk result (λ step. (s : NodeState F) → length s.flows ≡ number → is_new_key identity.now.nodes identity.now.party s.sessions key ≡ true → IsReady (environment F.machine F.reading identity.now) identity.now.party.0 now.0 F.within s (Some init) step) }
 {
+    let cause = Cause {
+        stamp,
+        moment: now,
+        event: Event::Answer { key },
+    };
     match flow_for(alloc, identity, number, now, &key, &init)? {
         Some(flow) => match answer(alloc, key, init, Some(number)) {
-            Ok(session) => Ok(Ready {
-                event: Event::Answer { key },
+            Ok(session) => Ok(Step {
+                cause,
                 flow: Some(flow),
                 session,
             }),
@@ -83,8 +90,8 @@ pub fn answer_init<F: FlowSet>(
         },
         None => {
             let session = answer(alloc, key, init, None)?;
-            Ok(Ready {
-                event: Event::Answer { key },
+            Ok(Step {
+                cause,
                 flow: None,
                 session,
             })
@@ -92,24 +99,30 @@ pub fn answer_init<F: FlowSet>(
     }
 }
 
-/// The next item of a session arrives. Takes no memory.
+/// The next item of a session arrives; the cause has the stamp and the moment. Takes no memory.
 pub fn arrive_item<F: FlowSet>(
     alloc: Global,
+    stamp: u64,
+    now: Moment,
     key: Key,
     direction: u8,
     number: u32,
     body: Body,
-) -> Ready<F>
+) -> Step<F>
     requires key { IsKey key }
     requires body { IsBody body }
-    ensures event { result.event ≡ event.Arrive key direction number }
-    ensures ready { (id : Id) (now : ℕ) (s : NodeState F) (session : Session) → session_of key s.sessions ≡ Some session → is_next id.party key direction number body session ≡ true → IsReady (environment F.machine F.reading id) id.party.0 now F.within s (Some body) result }
+    ensures cause { result.cause ≡ record { stamp = stamp; moment = now; event = event.Arrive key direction number } }
+    ensures ready { (id : Id) (at : ℕ) (s : NodeState F) (session : Session) → session_of key s.sessions ≡ Some session → is_next id.party key direction number body session ≡ true → IsReady (environment F.machine F.reading id) id.party.0 at F.within s (Some body) result }
 {
-    Ready {
-        event: Event::Arrive {
-            key,
-            direction,
-            number,
+    Step {
+        cause: Cause {
+            stamp,
+            moment: now,
+            event: Event::Arrive {
+                key,
+                direction,
+                number,
+            },
         },
         flow: None,
         session: arrive(alloc, key, body),

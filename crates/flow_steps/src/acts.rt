@@ -1,6 +1,6 @@
 //! How a flow goes on by its act, and what changes of the node's sessions then.
 
-ghost use Rattle.std.specs.Prelude.{◌≡◌, ◌<◌, ◌≤◌, ◌+◌, ◌-◌, ◌^◌, ℕ, false, IfOk, IsSome};
+ghost use Rattle.std.specs.Prelude.{◌≡◌, ◌<◌, ◌+◌, ◌-◌, ◌^◌, false, IfOk, IsSome, Some};
 ghost use Rattle.net_base.specs.Names.{IsIdentity, IsKey};
 ghost use Rattle.ledger_types.specs.Values.{IsValue};
 ghost use Rattle.session_wire.specs.Bodies.{IsBody};
@@ -19,19 +19,13 @@ ghost use Rattle.flow_steps.specs.Ready.{AreKept};
 
 use crate::resuming::{call, hand_down, let_go, resume};
 use flow_machine::{Act, Checkpoint, FlowSet, FlowState, Resumed};
+use flow_records::{FlowAfter, Step};
 use ledger_types::Value;
-use net_base::{Identity, Key, ListOf, Moment, Party, Unlimited};
+use net_base::{Cause, Identity, Key, ListOf, Party, Unlimited};
 use session_acts::{Performed, end_sessions, open, receive, send};
 use session_table::Sessions;
 use session_wire::{Body, SessionChange};
 use std::alloc::{AllocError, Global};
-
-/// A flow once its act was performed, and what changed of the sessions.
-#[derive(Drop)]
-pub(crate) struct Gone<F> {
-    pub state: FlowState<F>,
-    pub session: SessionChange,
-}
 
 /// No session changes, by a flow. Takes no memory.
 pub(crate) fn unchanged(alloc: Global, flow: u32) -> SessionChange
@@ -44,6 +38,22 @@ pub(crate) fn unchanged(alloc: Global, flow: u32) -> SessionChange
         came: None,
         came_key: None,
         taken: None,
+    }
+}
+
+/// The step by which the flow of the number becomes this, and by which this changes in the sessions.
+pub(crate) fn step_of<F>(
+    cause: Cause,
+    number: u32,
+    state: FlowState<F>,
+    session: SessionChange,
+) -> Step<F>
+    ensures { result ≡ record { cause = cause; flow = Some (record { number = number; state = state }); session = session } }
+{
+    Step {
+        cause,
+        flow: Some(FlowAfter { number, state }),
+        session,
     }
 }
 
@@ -78,45 +88,43 @@ fn lapse(alloc: Global, flow: u32) -> Performed
 fn go_on<F: FlowSet>(
     alloc: Global,
     identity: &Identity,
-    now: Moment,
+    cause: Cause,
     at: &Checkpoint<F>,
     done: Performed,
-) -> Result<Gone<F>, AllocError>
+) -> Result<Step<F>, AllocError>
     requires step { at.now.step < 2 ^ 32 - 1 }
     requires limits { IsCheckpoint F.within at.now }
     requires identity { IsIdentity identity.now }
     requires done { IsDone at.now.flow done }
-    ensures { IfOk result (λ gone. Becomes F.within at.now (goes_on (environment F.machine F.reading identity.now) identity.now.party.0 now.0 at.now (done_of done)) gone) }
+    ensures becomes { IfOk result (λ step. Becomes F.within (goes_on (environment F.machine F.reading identity.now) identity.now.party.0 cause.moment.0 at.now (done_of done)) step) }
+    ensures cause { IfOk result (λ step. step.cause ≡ cause) }
 {
     let Performed { with, change } = done;
-    now.known();
-    let state = resume(alloc, identity, now, at, &with);
+    cause.moment.known();
+    let state = resume(alloc, identity, cause.moment, at, &with);
     let_go(with);
-    Ok(Gone {
-        state: state?,
-        session: change,
-    })
+    Ok(step_of(cause, at.flow, state?, change))
 }
 
 /// A subflow begins, or the flow is told that its stack has 8 frames. The only error is want of memory.
 fn push<F: FlowSet>(
     alloc: Global,
     identity: &Identity,
-    now: Moment,
+    cause: Cause,
     at: &Checkpoint<F>,
     frame: &F,
-) -> Result<Gone<F>, AllocError>
+) -> Result<Step<F>, AllocError>
     requires step { at.now.step < 2 ^ 32 - 1 }
     requires limits { IsCheckpoint F.within at.now }
     requires identity { IsIdentity identity.now }
     requires frame { F.within frame.now }
-    ensures { IfOk result (λ gone. Becomes F.within at.now (pushes (environment F.machine F.reading identity.now) identity.now.party.0 now.0 at.now frame.now) gone) }
+    ensures becomes { IfOk result (λ step. Becomes F.within (pushes (environment F.machine F.reading identity.now) identity.now.party.0 cause.moment.0 at.now frame.now) step) }
+    ensures cause { IfOk result (λ step. step.cause ≡ cause) }
 {
-    now.known();
-    Ok(Gone {
-        state: call(alloc, identity, now, at, frame)?,
-        session: unchanged(alloc, at.flow),
-    })
+    cause.moment.known();
+    let state = call(alloc, identity, cause.moment, at, frame)?;
+    let session = unchanged(alloc, at.flow);
+    Ok(step_of(cause, at.flow, state, session))
 }
 
 /// The flow is over, and each of its sessions is told so by this item. The only error is want of memory.
@@ -124,19 +132,21 @@ fn end<F: FlowSet>(
     alloc: Global,
     identity: &Identity,
     sessions: &Sessions,
+    cause: Cause,
     at: &Checkpoint<F>,
     state: FlowState<F>,
     last: &Body,
-) -> Result<Gone<F>, AllocError>
+) -> Result<Step<F>, AllocError>
     requires party { sessions.now.party ≡ identity.now.party }
     requires kept { AreKept identity.now.party sessions.now.list }
     requires limits { IsAfter F.within (record { number = at.now.flow; state = state }) }
     requires last { IsBody last.now }
     requires bare { carries_value last.now ≡ false }
-    ensures { IfOk result (λ gone. Becomes F.within at.now (over identity.now.party.0 sessions.now.list at.now state last.now) gone) }
+    ensures becomes { IfOk result (λ step. Becomes F.within (over identity.now.party.0 sessions.now.list at.now state last.now) step) }
+    ensures cause { IfOk result (λ step. step.cause ≡ cause) }
 {
     match end_sessions(alloc, identity, sessions, at.flow, last) {
-        Ok(session) => Ok(Gone { state, session }),
+        Ok(session) => Ok(step_of(cause, at.flow, state, session)),
         Err(fault) => {
             let_go(state);
             Err(fault)
@@ -149,30 +159,29 @@ fn give_back<F: FlowSet>(
     alloc: Global,
     identity: &Identity,
     sessions: &Sessions,
-    now: Moment,
+    cause: Cause,
     at: &Checkpoint<F>,
     value: &Value,
-) -> Result<Gone<F>, AllocError>
+) -> Result<Step<F>, AllocError>
     requires step { at.now.step < 2 ^ 32 - 1 }
     requires limits { IsCheckpoint F.within at.now }
     requires identity { IsIdentity identity.now }
     requires party { sessions.now.party ≡ identity.now.party }
     requires kept { AreKept identity.now.party sessions.now.list }
     requires value { IsValue value.now }
-    ensures { IfOk result (λ gone. (s : NodeState F) → s.sessions ≡ sessions.now.list → Becomes F.within at.now (returns (environment F.machine F.reading identity.now) identity.now.party.0 s now.0 at.now value.now at.now.stack.below) gone) }
+    ensures becomes { IfOk result (λ step. (s : NodeState F) → s.sessions ≡ sessions.now.list → Becomes F.within (returns (environment F.machine F.reading identity.now) identity.now.party.0 s cause.moment.0 at.now value.now at.now.stack.below) step) }
+    ensures cause { IfOk result (λ step. step.cause ≡ cause) }
 {
-    now.known();
-    let state = hand_down(alloc, identity, now, at, value)?;
+    cause.moment.known();
+    let state = hand_down(alloc, identity, cause.moment, at, value)?;
     if at.stack.depth() == 1 {
         let last = Body::End;
-        let gone = end(alloc, identity, sessions, at, state, &last);
+        let step = end(alloc, identity, sessions, cause, at, state, &last);
         let_go(last);
-        return gone;
+        return step;
     }
-    Ok(Gone {
-        state,
-        session: unchanged(alloc, at.flow),
-    })
+    let session = unchanged(alloc, at.flow);
+    Ok(step_of(cause, at.flow, state, session))
 }
 
 /// The flow has failed. The only error is want of memory.
@@ -180,14 +189,16 @@ fn fail<F: FlowSet>(
     alloc: Global,
     identity: &Identity,
     sessions: &Sessions,
+    cause: Cause,
     at: &Checkpoint<F>,
     code: u16,
-) -> Result<Gone<F>, AllocError>
+) -> Result<Step<F>, AllocError>
     requires step { at.now.step < 2 ^ 32 - 1 }
     requires limits { IsCheckpoint F.within at.now }
     requires party { sessions.now.party ≡ identity.now.party }
     requires kept { AreKept identity.now.party sessions.now.list }
-    ensures { IfOk result (λ gone. (s : NodeState F) → s.sessions ≡ sessions.now.list → Becomes F.within at.now (fails identity.now.party.0 s at.now code) gone) }
+    ensures becomes { IfOk result (λ step. (s : NodeState F) → s.sessions ≡ sessions.now.list → Becomes F.within (fails identity.now.party.0 s at.now code) step) }
+    ensures cause { IfOk result (λ step. step.cause ≡ cause) }
 {
     let state = FlowState::Failed {
         step: at.step + 1,
@@ -195,9 +206,9 @@ fn fail<F: FlowSet>(
         code,
     };
     let last = Body::Error { code };
-    let gone = end(alloc, identity, sessions, at, state, &last);
+    let step = end(alloc, identity, sessions, cause, at, state, &last);
     let_go(last);
-    gone
+    step
 }
 
 /// A session is opened, or the flow is told why not. The only error is want of memory.
@@ -205,22 +216,23 @@ fn open_session<F: FlowSet>(
     alloc: Global,
     identity: &Identity,
     sessions: &Sessions,
-    now: Moment,
+    cause: Cause,
     at: &Checkpoint<F>,
     to: Party,
     class: u16,
     first: &Value,
-) -> Result<Gone<F>, AllocError>
+) -> Result<Step<F>, AllocError>
     requires step { at.now.step < 2 ^ 32 - 1 }
     requires limits { IsCheckpoint F.within at.now }
     requires identity { IsIdentity identity.now }
     requires party { sessions.now.party ≡ identity.now.party }
     requires kept { AreKept identity.now.party sessions.now.list }
     requires first { IsValue first.now }
-    ensures { IfOk result (λ gone. Becomes F.within at.now (goes_on (environment F.machine F.reading identity.now) identity.now.party.0 now.0 at.now (opens identity.now.nodes identity.now.party.0 sessions.now.list at.now.flow to class first.now)) gone) }
+    ensures becomes { IfOk result (λ step. Becomes F.within (goes_on (environment F.machine F.reading identity.now) identity.now.party.0 cause.moment.0 at.now (opens identity.now.nodes identity.now.party.0 sessions.now.list at.now.flow to class first.now)) step) }
+    ensures cause { IfOk result (λ step. step.cause ≡ cause) }
 {
     let done = open(alloc, identity, sessions, at.flow, to, class, first)?;
-    go_on(alloc, identity, now, at, done)
+    go_on(alloc, identity, cause, at, done)
 }
 
 /// A value is sent in a session, or the flow is told that it owns no such session. The only error is want of memory.
@@ -228,11 +240,11 @@ fn send_item<F: FlowSet>(
     alloc: Global,
     identity: &Identity,
     sessions: &Sessions,
-    now: Moment,
+    cause: Cause,
     at: &Checkpoint<F>,
     key: &Key,
     value: &Value,
-) -> Result<Gone<F>, AllocError>
+) -> Result<Step<F>, AllocError>
     requires step { at.now.step < 2 ^ 32 - 1 }
     requires limits { IsCheckpoint F.within at.now }
     requires identity { IsIdentity identity.now }
@@ -240,10 +252,11 @@ fn send_item<F: FlowSet>(
     requires kept { AreKept identity.now.party sessions.now.list }
     requires key { IsKey key.now }
     requires value { IsValue value.now }
-    ensures { IfOk result (λ gone. Becomes F.within at.now (goes_on (environment F.machine F.reading identity.now) identity.now.party.0 now.0 at.now (sends identity.now.party.0 value.now (owned at.now.flow key.now sessions.now.list))) gone) }
+    ensures becomes { IfOk result (λ step. Becomes F.within (goes_on (environment F.machine F.reading identity.now) identity.now.party.0 cause.moment.0 at.now (sends identity.now.party.0 value.now (owned at.now.flow key.now sessions.now.list))) step) }
+    ensures cause { IfOk result (λ step. step.cause ≡ cause) }
 {
     let done = send(alloc, identity, sessions, at.flow, key, value)?;
-    go_on(alloc, identity, now, at, done)
+    go_on(alloc, identity, cause, at, done)
 }
 
 /// The next item of a session is taken, or its moment has come. The only error is want of memory.
@@ -251,65 +264,70 @@ fn receive_item<F: FlowSet>(
     alloc: Global,
     identity: &Identity,
     sessions: &Sessions,
-    now: Moment,
+    cause: Cause,
     at: &Checkpoint<F>,
     key: &Key,
-) -> Result<Gone<F>, AllocError>
+) -> Result<Step<F>, AllocError>
     requires step { at.now.step < 2 ^ 32 - 1 }
     requires limits { IsCheckpoint F.within at.now }
     requires identity { IsIdentity identity.now }
     requires party { sessions.now.party ≡ identity.now.party }
     requires kept { AreKept identity.now.party sessions.now.list }
     requires key { IsKey key.now }
-    ensures { IfOk result (λ gone. Becomes F.within at.now (goes_on (environment F.machine F.reading identity.now) identity.now.party.0 now.0 at.now (takes_or_lapses (owned at.now.flow key.now sessions.now.list))) gone) }
+    ensures becomes { IfOk result (λ step. Becomes F.within (goes_on (environment F.machine F.reading identity.now) identity.now.party.0 cause.moment.0 at.now (takes_or_lapses (owned at.now.flow key.now sessions.now.list))) step) }
+    ensures cause { IfOk result (λ step. step.cause ≡ cause) }
 {
     let done = take_item(alloc, sessions, at.flow, key)?;
-    go_on(alloc, identity, now, at, done)
+    go_on(alloc, identity, cause, at, done)
 }
 
 /// The moment has come until which a flow slept. The only error is want of memory.
 fn wake<F: FlowSet>(
     alloc: Global,
     identity: &Identity,
-    now: Moment,
+    cause: Cause,
     at: &Checkpoint<F>,
-) -> Result<Gone<F>, AllocError>
+) -> Result<Step<F>, AllocError>
     requires step { at.now.step < 2 ^ 32 - 1 }
     requires limits { IsCheckpoint F.within at.now }
     requires identity { IsIdentity identity.now }
-    ensures { IfOk result (λ gone. Becomes F.within at.now (goes_on (environment F.machine F.reading identity.now) identity.now.party.0 now.0 at.now (Lapsed, nothing)) gone) }
+    ensures becomes { IfOk result (λ step. Becomes F.within (goes_on (environment F.machine F.reading identity.now) identity.now.party.0 cause.moment.0 at.now (Lapsed, nothing)) step) }
+    ensures cause { IfOk result (λ step. step.cause ≡ cause) }
 {
-    let done = lapse(alloc, at.flow);
-    go_on(alloc, identity, now, at, done)
+    cause.moment.known();
+    let state = resume(alloc, identity, cause.moment, at, &Resumed::Lapsed)?;
+    let session = unchanged(alloc, at.flow);
+    Ok(step_of(cause, at.flow, state, session))
 }
 
-/// What becomes of a live flow once its act, which is enabled, is performed. The only error is want of memory.
+/// The step by which a live flow goes on: its act, which is enabled, is performed. The only error is want of memory.
 pub(crate) fn perform<F: FlowSet>(
     alloc: Global,
     identity: &Identity,
     sessions: &Sessions,
-    now: Moment,
+    cause: Cause,
     at: &Checkpoint<F>,
-) -> Result<Gone<F>, AllocError>
+) -> Result<Step<F>, AllocError>
     requires step { at.now.step < 2 ^ 32 - 1 }
     requires limits { IsCheckpoint F.within at.now }
     requires identity { IsIdentity identity.now }
     requires party { sessions.now.party ≡ identity.now.party }
     requires kept { AreKept identity.now.party sessions.now.list }
-    requires enabled { IsSome (enabled_event (environment F.machine F.reading identity.now) sessions.now.list now.0 (Live at.now)) }
-    ensures { IfOk result (λ gone. Performs (environment F.machine F.reading identity.now) identity.now.party.0 now.0 F.within sessions.now.list at.now gone) }
+    requires enabled { IsSome (enabled_event (environment F.machine F.reading identity.now) sessions.now.list cause.moment.0 (Live at.now)) }
+    ensures performs { IfOk result (λ step. Performs (environment F.machine F.reading identity.now) identity.now.party.0 cause.moment.0 F.within sessions.now.list at.now step) }
+    ensures cause { IfOk result (λ step. step.cause ≡ cause) }
 {
     match &at.waiting {
         Act::Open { to, class, first } => {
-            open_session(alloc, identity, sessions, now, at, *to, *class, first)
+            open_session(alloc, identity, sessions, cause, at, *to, *class, first)
         }
-        Act::Send { key, value } => send_item(alloc, identity, sessions, now, at, key, value),
-        Act::Receive { key } => receive_item(alloc, identity, sessions, now, at, key),
-        Act::ReceiveBy { key, .. } => receive_item(alloc, identity, sessions, now, at, key),
-        Act::Sleep { .. } => wake(alloc, identity, now, at),
-        Act::Sub { frame } => push(alloc, identity, now, at, frame),
-        Act::Return { value } => give_back(alloc, identity, sessions, now, at, value),
-        Act::Fail { code } => fail(alloc, identity, sessions, at, *code),
+        Act::Send { key, value } => send_item(alloc, identity, sessions, cause, at, key, value),
+        Act::Receive { key } => receive_item(alloc, identity, sessions, cause, at, key),
+        Act::ReceiveBy { key, .. } => receive_item(alloc, identity, sessions, cause, at, key),
+        Act::Sleep { .. } => wake(alloc, identity, cause, at),
+        Act::Sub { frame } => push(alloc, identity, cause, at, frame),
+        Act::Return { value } => give_back(alloc, identity, sessions, cause, at, value),
+        Act::Fail { code } => fail(alloc, identity, sessions, cause, at, *code),
         _ => unreachable!(),
     }
 }

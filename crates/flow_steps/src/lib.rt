@@ -1,4 +1,4 @@
-//! What a node is about to commit: the next step of a flow, or the answer to an item, worked out over the node's tables and
+//! The step that a node is about to commit: the next one of a flow, or the answer to an item, worked out over the node's tables and
 //! changing nothing (Corda 4 documentation, "Flow framework", "Flow sessions").
 #![tactic(auto)]
 
@@ -10,7 +10,7 @@ mod resuming;
 
 pub use accepting::{answer_init, arrive_item};
 pub use picking::{flow_in, pick_event};
-pub use ready::{Ready, advance, begin};
+pub use ready::{advance, begin};
 
 #[cfg(test)]
 mod tests;

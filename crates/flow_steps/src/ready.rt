@@ -1,6 +1,6 @@
-//! What a node is about to commit.
+//! The step by which a flow begins or goes on.
 
-ghost use Rattle.std.specs.Prelude.{◌≡◌, ◌<◌, ◌≤◌, ◌^◌, ◌+◌, ◌-◌, [], length, IfOk, IfSome, None, Some, ℕ, Option, option_map, option_and_then, slice_get};
+ghost use Rattle.std.specs.Prelude.{◌≡◌, ◌<◌, ◌^◌, ◌-◌, length, IfOk, IfSome, None, Some, ℕ, Option, option_map, option_and_then, slice_get};
 ghost use Rattle.std.specs.List.{AllByRecursion};
 ghost use Rattle.net_base.specs.Names.{IsIdentity};
 ghost use Rattle.net_base.specs.Reading.{IsBytes};
@@ -13,26 +13,15 @@ ghost use Rattle.flow_records.specs.Records.{IsFlow};
 ghost use Rattle.flow_steps.specs.Going.{first_state};
 ghost use Rattle.flow_steps.specs.Ready.{AreKept, IsBegun, IsReady};
 
-use crate::acts::{perform, unchanged};
+use crate::acts::{perform, step_of, unchanged};
 use crate::picking::flow_in;
 use crate::resuming::place_of;
 use checkpoints::{FlowView, Flows};
 use flow_machine::{Act, Checkpoint, FlowSet, FlowState, MakeFault, Stack};
-use flow_records::FlowAfter;
-use net_base::{ByteList, Event, Identity, Moment, Unlimited};
+use flow_records::Step;
+use net_base::{ByteList, Cause, Event, Identity, Moment, Unlimited};
 use session_table::Sessions;
-use session_wire::SessionChange;
 use std::alloc::{AllocError, Global};
-
-/// What a node is about to commit: the event, the flow after it and what changes of the sessions.
-#[derive(Drop)]
-pub struct Ready<F> {
-    pub event: Event,
-    /// `None` where no flow changes.
-    pub flow: Option<FlowAfter<F>>,
-    /// Its `owner` is the flow's number, 0 where no flow changes.
-    pub session: SessionChange,
-}
 
 /// The checkpoint of the flow of the number, where it is live.
 fn live_at<F: Drop>(flows: &Flows<F>, number: u32) -> Option<&Checkpoint<F>>
@@ -71,7 +60,7 @@ pub(crate) fn first_state<F>(
     })
 }
 
-/// What a start of a class is about to commit: the flow of the node's next number.
+/// The step by which a flow of a class begins, as that of the node's next number. Its cause has the stamp and the moment.
 ///
 /// # Errors
 ///
@@ -80,12 +69,13 @@ pub fn begin<F: FlowSet>(
     alloc: Global,
     identity: &Identity,
     number: u32,
+    stamp: u64,
     now: Moment,
     class: u16,
     args: &ByteList,
-) -> Result<Ready<F>, MakeFault>
+) -> Result<Step<F>, MakeFault>
     requires { IsIdentity identity.now }
-    ensures { (s : NodeState F) → length s.flows ≡ number → IsBegun (environment F.machine F.reading identity.now) identity.now.party.0 now.0 F.within s class args.now result }
+    ensures { (s : NodeState F) → length s.flows ≡ number → IsBegun (environment F.machine F.reading identity.now) identity.now.party.0 stamp now F.within s class args.now result }
 {
     let Ok(copy) = args.copy(alloc) else {
         return Err(MakeFault::Memory);
@@ -93,50 +83,41 @@ pub fn begin<F: FlowSet>(
     known_bytes(args.as_slice());
     now.known();
     let (top, waiting) = F::make(alloc, class, args, &place_of(identity, number, 0, now))?;
-    Ok(Ready {
-        event: Event::Start {
-            flow: number,
-            class,
-            args: copy,
-        },
-        flow: Some(FlowAfter {
-            number,
-            state: first_state(alloc, number, class, top, waiting),
-        }),
-        session: unchanged(alloc, number),
-    })
+    let event = Event::Start {
+        flow: number,
+        class,
+        args: copy,
+    };
+    let cause = Cause {
+        stamp,
+        moment: now,
+        event,
+    };
+    let state = first_state(alloc, number, class, top, waiting);
+    let session = unchanged(alloc, number);
+    Ok(step_of(cause, number, state, session))
 }
 
-/// What a node is about to commit where a flow goes on by this event, which was picked. The only error is want of memory.
+/// The step by which a flow goes on, by this cause, whose event was picked. The only error is want of memory.
 pub fn advance<F: FlowSet>(
     alloc: Global,
     identity: &Identity,
     flows: &Flows<F>,
     sessions: &Sessions,
-    now: Moment,
-    event: Event,
-) -> Result<Ready<F>, AllocError>
+    cause: Cause,
+) -> Result<Step<F>, AllocError>
     requires identity { IsIdentity identity.now }
-    requires picked { (pick : Option ℕ) × (picked (environment F.machine F.reading identity.now) sessions.now.list now.0 pick flows.now.flows ≡ Some event) }
+    requires picked { (pick : Option ℕ) × (picked (environment F.machine F.reading identity.now) sessions.now.list cause.moment.0 pick flows.now.flows ≡ Some cause.event) }
     requires steps { AllByRecursion (λ flow. steps_of flow < 2 ^ 32 - 1) flows.now.flows }
     requires limits { AllByRecursion (IsFlow F.within) flows.now.flows }
     requires numbered { AreNumbered 0 flows.now.flows }
     requires party { sessions.now.party ≡ identity.now.party }
     requires kept { AreKept identity.now.party sessions.now.list }
-    ensures event { IfOk result (λ r. r.event ≡ event) }
-    ensures ready { IfOk result (λ r. (s : NodeState F) → s.flows ≡ flows.now.flows → s.sessions ≡ sessions.now.list → IsReady (environment F.machine F.reading identity.now) identity.now.party.0 now.0 F.within s None r) }
+    ensures cause { IfOk result (λ step. step.cause ≡ cause) }
+    ensures ready { IfOk result (λ step. (s : NodeState F) → s.flows ≡ flows.now.flows → s.sessions ≡ sessions.now.list → IsReady (environment F.machine F.reading identity.now) identity.now.party.0 cause.moment.0 F.within s None step) }
 {
-    let number = flow_in(&event);
-    let Some(at) = live_at(flows, number) else {
+    let Some(at) = live_at(flows, flow_in(&cause.event)) else {
         unreachable!();
     };
-    let gone = perform(alloc, identity, sessions, now, at)?;
-    Ok(Ready {
-        event,
-        flow: Some(FlowAfter {
-            number,
-            state: gone.state,
-        }),
-        session: gone.session,
-    })
+    perform(alloc, identity, sessions, cause, at)
 }

@@ -1,6 +1,6 @@
 //! How a flow goes on once its act is performed: a frame of its stack is resumed.
 
-ghost use Rattle.std.specs.Prelude.{◌≡◌, ◌<◌, ◌≤◌, ◌+◌, ◌-◌, ◌^◌, IfOk};
+ghost use Rattle.std.specs.Prelude.{◌≡◌, ◌<◌, ◌+◌, ◌-◌, ◌^◌, IfOk};
 ghost use Rattle.ledger_types.specs.Values.{IsValue};
 ghost use Rattle.flow_machine.specs.Limits.{IsStack};
 ghost use Rattle.net_model.specs.Environment.{environment};

@@ -6,12 +6,12 @@ ghost use Rattle.flow_machine.specs.Limits.{IsAct};
 ghost use Rattle.flow_machine.specs.declared.counter.Phase.TheVariants as phase;
 ghost use Rattle.flow_machine.specs.declared.flows.FlowState.TheVariants as state;
 
-use crate::{Ready, advance, answer_init, arrive_item, begin, pick_event};
+use crate::{advance, answer_init, arrive_item, begin, pick_event};
 use checkpoints::Flows;
 use flow_machine::{Act, Checkpoint, Counter, FlowState, MakeFault, Phase, Stack};
-use flow_records::FlowAfter;
+use flow_records::{FlowAfter, Step};
 use ledger_types::Value;
-use net_base::{ByteList, Event, Identity, Key, Moment, Party};
+use net_base::{ByteList, Cause, Event, Identity, Key, Moment, Party};
 use session_table::Sessions;
 use session_wire::Body;
 use std::alloc::{AllocError, Global};
@@ -63,7 +63,7 @@ fn waiting_on(alloc: Global, waiting: Act<Counter>) -> Result<Flows<Counter>, Al
 }
 
 /// What the node is about to commit where its one flow waits on this act; `None` where no flow goes on.
-fn goes_on(alloc: Global, waiting: Act<Counter>) -> Result<Option<Ready<Counter>>, AllocError>
+fn goes_on(alloc: Global, waiting: Act<Counter>) -> Result<Option<Step<Counter>>, AllocError>
     requires { IsAct IsCounter waiting }
 {
     let flows = waiting_on(alloc, waiting)?;
@@ -71,7 +71,12 @@ fn goes_on(alloc: Global, waiting: Act<Counter>) -> Result<Option<Ready<Counter>
     let Some(event) = pick_event(&flows, &sessions, NOW, None, 0) else {
         return Ok(None);
     };
-    Ok(Some(advance(alloc, &IDENTITY, &flows, &sessions, NOW, event)?))
+    let cause = Cause {
+        stamp: 1,
+        moment: NOW,
+        event,
+    };
+    Ok(Some(advance(alloc, &IDENTITY, &flows, &sessions, cause)?))
 }
 
 /// How a flow stands: 1 live, 2 ended, 3 failed; its step; and its code, 0 where it has none.
@@ -87,16 +92,16 @@ fn standing(flow: &Option<FlowAfter<Counter>>) -> (u8, u32, u16) {
 }
 
 /// What is about to be committed: how the flow stands, how many items are sent, and the session that is opened. It lets nothing go.
-fn shown(ready: Option<Ready<Counter>>) -> ((u8, u32, u16), usize, Option<(Key, Party)>) {
-    let shown = match &ready {
+fn shown(step: Option<Step<Counter>>) -> ((u8, u32, u16), usize, Option<(Key, Party)>) {
+    let shown = match &step {
         None => ((9, 0, 0), 0, None),
-        Some(ready) => (
-            standing(&ready.flow),
-            ready.session.sent.len(),
-            ready.session.opened,
+        Some(step) => (
+            standing(&step.flow),
+            step.session.sent.len(),
+            step.session.opened,
         ),
     };
-    std::mem::forget(ready);
+    std::mem::forget(step);
     shown
 }
 
@@ -137,9 +142,9 @@ fn begun(alloc: Global, class: u16) -> Result<(u8, u32, u16), MakeFault> {
         return Err(MakeFault::Memory);
     };
     let args = ByteList::from_vec(bytes);
-    let ready: Ready<Counter> = begin(alloc, &IDENTITY, 3, NOW, class, &args)?;
-    let shown = standing(&ready.flow);
-    std::mem::forget(ready);
+    let step: Step<Counter> = begin(alloc, &IDENTITY, 3, 1, NOW, class, &args)?;
+    let shown = standing(&step.flow);
+    std::mem::forget(step);
     Ok(shown)
 }
 
@@ -155,30 +160,30 @@ fn rejected(alloc: Global) -> Result<u16, AllocError> {
         class: 2,
         first: Value::Number(9),
     };
-    let ready: Ready<Counter> = answer_init(alloc, &IDENTITY, 0, NOW, OTHER, init)?;
-    let code = match ready.session.sent.as_slice() {
+    let step: Step<Counter> = answer_init(alloc, &IDENTITY, 0, 1, NOW, OTHER, init)?;
+    let code = match step.session.sent.as_slice() {
         [item] => match &item.body {
             Body::Reject { code } => *code,
             _ => 0,
         },
         _ => 0,
     };
-    std::mem::forget(ready);
+    std::mem::forget(step);
     Ok(code)
 }
 
 /// Whether an item that arrives is about to be accepted.
 fn arrives(alloc: Global) -> bool {
-    let ready: Ready<Counter> = arrive_item(alloc, OWN, 1, 0, Body::Confirm);
+    let step: Step<Counter> = arrive_item(alloc, 1, NOW, OWN, 1, 0, Body::Confirm);
     let shown = matches!(
-        &ready.event,
+        &step.cause.event,
         Event::Arrive {
             key: OWN,
             direction: 1,
             number: 0
         }
-    ) && ready.session.came.is_some();
-    std::mem::forget(ready);
+    ) && step.session.came.is_some();
+    std::mem::forget(step);
     shown
 }
 

@@ -1,4 +1,4 @@
--- What is ready fits, and its record is the one that pends.
+-- A step that may be committed fits, and its record is the one that pends.
 use Rattle.std.proofs.Common.{◌≡◌, ℕ, ◌+◌, ◌-◌, ◌<◌, ◌≤◌, ◌^◌, ◌||◌, max, min, List, [], ◌∷◌, ◌++◌, length, Option, Some, Result, Ok, Err, true, false, refl, sym, ◌∙◌, ap, subst, arith, nat_lt, nat_le}
 use Rattle.std.proofs.lemmas.Bool.{or_parts, leb-false}
 use Rattle.outside.specs.Disk.{IsImage}
@@ -9,19 +9,18 @@ use Rattle.net_base.specs.declared.causes.Event.{Event}
 use Rattle.session_wire.specs.Sessions.{Sent}
 use Rattle.disk_journal.specs.Journal.{JournalView, IsSound, journal_of, is_full_at}
 use Rattle.net_model.specs.Environment.{Environment}
-use Rattle.net_model.specs.State.{NodeState, Record, Effect, apply_effect}
+use Rattle.net_model.specs.State.{NodeState, Effect, apply_effect}
 use Rattle.net_model.specs.Steps.{node_step, next_cause, body_in, stamp_in}
 use Rattle.net_model.specs.Fits.{IsSound as IsSoundState}
 use Rattle.net_model.proofs.Steps.{steps_on}
 use Rattle.net_model.proofs.Fitting.{steps_fit}
 use Rattle.flow_records.specs.Records.{record_of}
-use Rattle.flow_records.specs.Steps.{effect_by}
-use Rattle.flow_steps.specs.declared.ready.Ready.{Ready}
+use Rattle.flow_records.specs.declared.step.Step.{Step}
+use Rattle.flow_records.specs.Steps.{effect_by, step_record}
 use Rattle.flow_steps.specs.Going.{flow_in}
 use Rattle.flow_steps.specs.Idle.{IdleBelow}
 use Rattle.flow_steps.proofs.Picks.{Built}
 use Rattle.flow_steps.proofs.Idles.{idle_after}
-use Rattle.flow_steps.specs.Ready.{IsReady}
 use Rattle.node_tables.specs.Journals.{Reads, state_of}
 use Rattle.node_tables.specs.Fits.{fits, apply_read}
 use Rattle.node_tables.specs.Seen.{padded}
@@ -31,7 +30,7 @@ use Rattle.node_core.specs.declared.faults.CommitFault.{CommitFault}
 use Rattle.node_core.specs.declared.faults.CommitFault.TheVariants as commit_fault
 use Rattle.node_core.specs.Journals.{bytes_of, is_full}
 use Rattle.node_core.specs.Disks.{roomless, KeepsForm, Holds}
-use Rattle.node_core.specs.Seen.{Tied, Pends, LogsAs, CommitsAs}
+use Rattle.node_core.specs.Seen.{Tied, Pends, LogsAs, MayCommit, CommitsAs}
 
 -- ---- a node that isn't full
 
@@ -47,12 +46,9 @@ room_left f stamp bodies room =
 pub journal_room : {F : Type 0} (f : Reads F) (id : Identity) (stamp : ℕ) (journal : JournalView) (bodies : List (List ℕ)) → Tied id journal bodies → is_full f stamp bodies ≡ false → is_full_at journal.count journal.length ≡ false
 journal_room f id stamp journal bodies tied room = rw (tied.counted, tied.ended) (room_left f stamp bodies room).0
 
--- the stamp is that of the item
-pub under_item : {F : Type 0} (f : Reads F) (bodies : List (List ℕ)) (item : Option Sent) (stamp : ℕ) → stamp_in item ≡ stamp → is_full f stamp bodies ≡ false → is_full f (stamp_in item) bodies ≡ false
-under_item f bodies item stamp at room = subst (λ (n : ℕ). is_full f n bodies ≡ false) (sym at) room
-
-pub stamp_same : {F : Type 0} (f : Reads F) (bodies : List (List ℕ)) (item : Option Sent) (stamp own most : ℕ) → stamp_in item ≡ stamp → own ≡ (state_of f bodies).stamp → most ≡ max own stamp → most + 1 ≡ max (state_of f bodies).stamp (stamp_in item) + 1
-stamp_same f bodies item stamp own most at is same = ap (λ (n : ℕ). n + 1) (same ∙ ap (λ (n : ℕ). max n stamp) is ∙ ap (λ (n : ℕ). max (state_of f bodies).stamp n) (sym at))
+-- the stamp of an item that there is room for is none too great
+pub room_early : {F : Type 0} (f : Reads F) (stamp : ℕ) (bodies : List (List ℕ)) → is_full f stamp bodies ≡ false → stamp < 2 ^ 63
+room_early f stamp bodies room = let late = (room_left f stamp bodies room).1.1 in omega (arith, late)
 
 -- ---- what a journal holds
 
@@ -65,11 +61,7 @@ tied_holds id journal bodies tied =
       kept = tied.kept;
     }
 
--- ---- what is ready
-
--- the record of what is ready, under a stamp
-abbrev pub record_at : {F : Type 0} → ℕ → ℕ → Ready F → Record F
-record_at stamp now ready = record { cause = record { stamp = stamp; moment = record { 0 = now }; event = ready.event }; effect = effect_by ready.flow ready.session }
+-- ---- a commit
 
 -- no cause is later than the moment of the last commit
 moment_on : {F : Type 0} (s : NodeState F) (c : Cause) (e : Effect F) → (apply_effect s c e).moment ≡ c.moment.0
@@ -81,51 +73,51 @@ pends_moment w me now bodies event item body p =
     let s = state_of w.frame_at bodies in
     ap (λ x. x.moment) (state_push w.frame_at bodies body) ∙ ap (λ o. (apply_read s o).moment) p.reads ∙ moment_on s (next_cause s now event item) p.effect
 
-module _ {F : Type 0} (w : Environment F) (id : Identity) (now : ℕ) (within : F → Type 0) (bodies : List (List ℕ)) (item : Option Sent) (ready : Ready F) (is : IsReady w id.party.0 now within (state_of w.frame_at bodies) (body_in item) ready) (room : is_full w.frame_at (stamp_in item) bodies ≡ false) (by : (state_of w.frame_at bodies).moment ≤ now) where
+module _ {F : Type 0} (w : Environment F) (id : Identity) (now : ℕ) (within : F → Type 0) (bodies : List (List ℕ)) (item : Option Sent) (step : Step F) (may : MayCommit w id now within bodies item step) (by : (state_of w.frame_at bodies).moment ≤ now) where
   abbrev state : NodeState F
   state = state_of w.frame_at bodies
 
   abbrev cause : Cause
-  cause = next_cause state now ready.event item
+  cause = next_cause state now step.cause.event item
 
   abbrev effect : Effect F
-  effect = effect_by ready.flow ready.session
+  effect = effect_by step.flow step.session
 
-  step : node_step w id.party.0 state cause item ≡ Some (apply_effect state cause effect, effect)
-  step = steps_on w id.party.0 state now ready.event item effect (room_left w.frame_at (stamp_in item) bodies room).1.1 by is.effect
+  steps : node_step w id.party.0 state cause item ≡ Some (apply_effect state cause effect, effect)
+  steps = steps_on w id.party.0 state now step.cause.event item effect (room_left w.frame_at (stamp_in item) bodies may.room).1.1 by may.ready.effect
 
   -- its record fits
-  pub ready_fits : (n : ℕ) → n ≡ max state.stamp (stamp_in item) + 1 → IsSoundState id.party.0 state → fits w.nodes id.party state (record_at n now ready) ≡ true
-  ready_fits n same sound =
-      let here : fits w.nodes id.party state (record { cause = cause; effect = effect }) ≡ true = (fits_as_ruled w id.party.0 state (record { cause = cause; effect = effect }) refl).1 (steps_fit w id.party.0 state _ cause item effect sound step) in
-      subst (λ (k : ℕ). fits w.nodes id.party state (record_at k now ready) ≡ true) (sym same) here
+  pub step_fits : IsSoundState id.party.0 state → fits w.nodes id.party state (step_record step) ≡ true
+  step_fits sound =
+      let here : fits w.nodes id.party state (record { cause = cause; effect = effect }) ≡ true = (fits_as_ruled w id.party.0 state (record { cause = cause; effect = effect }) refl).1 (steps_fit w id.party.0 state _ cause item effect sound steps) in
+      subst (λ (c : Cause). fits w.nodes id.party state (record { cause = c; effect = effect }) ≡ true) (sym may.cause) here
 
   -- its body is the one that pends
-  pub ready_pends : (body : List ℕ) → record_of w.frame_at body ≡ Some (record { cause = cause; effect = effect }) → Pends w id.party.0 now bodies ready.event item body
-  ready_pends body reads =
+  pub step_pends : (body : List ℕ) → record_of w.frame_at body ≡ Some (record { cause = cause; effect = effect }) → Pends w id.party.0 now bodies step.cause.event item body
+  step_pends body reads =
       let there : state_of w.frame_at (bodies ++ body ∷ []) ≡ apply_effect state cause effect = state_push w.frame_at bodies body ∙ ap (λ o. apply_read state o) reads in
-      record { effect = effect; reads = reads; step = step ∙ ap (λ x. Some (x, effect)) (sym there) }
+      record { effect = effect; reads = reads; step = steps ∙ ap (λ x. Some (x, effect)) (sym there) }
 
   -- the flows before its flow that were idle still are
   still_idle : Built w → IsSoundState id.party.0 state → (at below : ℕ) → IdleBelow state.sessions at state.flows below → (body : List ℕ) → record_of w.frame_at body ≡ Some (record { cause = cause; effect = effect })
-      → IdleBelow (state_of w.frame_at (bodies ++ body ∷ [])).sessions at (state_of w.frame_at (bodies ++ body ∷ [])).flows (min below (flow_in ready.event))
+      → IdleBelow (state_of w.frame_at (bodies ++ body ∷ [])).sessions at (state_of w.frame_at (bodies ++ body ∷ [])).flows (min below (flow_in step.cause.event))
   still_idle built sound at below idle body reads =
       let there : state_of w.frame_at (bodies ++ body ∷ []) ≡ apply_effect state cause effect = state_push w.frame_at bodies body ∙ ap (λ o. apply_read state o) reads in
-      subst (λ (s : NodeState F). IdleBelow s.sessions at s.flows (min below (flow_in ready.event))) (sym there) (idle_after w built id.party.0 now at state cause (body_in item) effect below sound.numbered is.effect idle)
+      subst (λ (s : NodeState F). IdleBelow s.sessions at s.flows (min below (flow_in step.cause.event))) (sym there) (idle_after w built id.party.0 now at state cause (body_in item) effect below sound.numbered may.ready.effect idle)
 
-  module _ (n : ℕ) (same : n ≡ max state.stamp (stamp_in item) + 1) (old new : JournalView) (more : List (List ℕ)) (acked after : List ℕ) (of : old.of ≡ id) where
-    said_of : (result : Result (List ℕ) CommitFault) → LogsAs w.frame_at (record_at n now ready) bodies old result new → LogsAs w.frame_at (record { cause = cause; effect = effect }) bodies old result new
-    said_of result said = subst (λ (k : ℕ). LogsAs w.frame_at (record_at k now ready) bodies old result new) same said
+  module _ (old new : JournalView) (more : List (List ℕ)) (acked after : List ℕ) (of : old.of ≡ id) where
+    said_of : (result : Result (List ℕ) CommitFault) → LogsAs w.frame_at (step_record step) bodies old result new → LogsAs w.frame_at (record { cause = cause; effect = effect }) bodies old result new
+    said_of result said = subst (λ (c : Cause). LogsAs w.frame_at (record { cause = c; effect = effect }) bodies old result new) may.cause said
 
-    pub committed : (body : List ℕ) → LogsAs w.frame_at (record_at n now ready) bodies old (Ok body) new → more ≡ bodies ++ body ∷ [] → after ≡ padded acked (state_of w.frame_at more).sessions
-        → CommitsAs w id now ready.event item {T = Unit {0}} (record { journal = old; bodies = bodies; acked = acked }) (Ok tt) (record { journal = new; bodies = more; acked = after })
+    pub committed : (body : List ℕ) → LogsAs w.frame_at (step_record step) bodies old (Ok body) new → more ≡ bodies ++ body ∷ [] → after ≡ padded acked (state_of w.frame_at more).sessions
+        → CommitsAs w id now step.cause.event item {T = Unit {0}} (record { journal = old; bodies = bodies; acked = acked }) (Ok tt) (record { journal = new; bodies = more; acked = after })
     committed body logged longer acks =
         let said : LogsAs w.frame_at (record { cause = cause; effect = effect }) bodies old (Ok body) new = said_of (Ok body) logged in
         let tied : Tied id new (bodies ++ body ∷ []) = subst (λ i. Tied i new (bodies ++ body ∷ [])) of said.1 in (
           body,
           record {
-            pends = ready_pends body said.0;
-            room = room;
+            pends = step_pends body said.0;
+            room = may.room;
             moves = said.2;
             form = subst (λ i. KeepsForm i (roomless old.disk) (roomless new.disk)) of said.3;
             holds = tied_holds id new (bodies ++ body ∷ []) tied;
@@ -136,27 +128,27 @@ module _ {F : Type 0} (w : Environment F) (id : Identity) (now : ℕ) (within : 
           subst (Tied id new) (sym longer) tied,
         )
 
-    pub committed_by : (body : List ℕ) → LogsAs w.frame_at (record_at n now ready) bodies old (Ok body) new → more ≡ bodies ++ body ∷ [] → (state_of w.frame_at more).moment ≤ now
+    pub committed_by : (body : List ℕ) → LogsAs w.frame_at (step_record step) bodies old (Ok body) new → more ≡ bodies ++ body ∷ [] → (state_of w.frame_at more).moment ≤ now
     committed_by body logged longer =
         let said : LogsAs w.frame_at (record { cause = cause; effect = effect }) bodies old (Ok body) new = said_of (Ok body) logged in
-        let at = pends_moment w id.party.0 now bodies ready.event item body (ready_pends body said.0) in
+        let at = pends_moment w id.party.0 now bodies step.cause.event item body (step_pends body said.0) in
         subst (λ (b : List (List ℕ)). (state_of w.frame_at b).moment ≤ now) (sym longer) (omega (arith, at))
 
-    pub committed_idle : Built w → IsSoundState id.party.0 state → (at below : ℕ) → IdleBelow state.sessions at state.flows below → (body : List ℕ) → LogsAs w.frame_at (record_at n now ready) bodies old (Ok body) new → more ≡ bodies ++ body ∷ []
-        → IdleBelow (state_of w.frame_at more).sessions at (state_of w.frame_at more).flows (min below (flow_in ready.event))
+    pub committed_idle : Built w → IsSoundState id.party.0 state → (at below : ℕ) → IdleBelow state.sessions at state.flows below → (body : List ℕ) → LogsAs w.frame_at (step_record step) bodies old (Ok body) new → more ≡ bodies ++ body ∷ []
+        → IdleBelow (state_of w.frame_at more).sessions at (state_of w.frame_at more).flows (min below (flow_in step.cause.event))
     committed_idle built sound at below idle body logged longer =
         let said : LogsAs w.frame_at (record { cause = cause; effect = effect }) bodies old (Ok body) new = said_of (Ok body) logged in
-        subst (λ (b : List (List ℕ)). IdleBelow (state_of w.frame_at b).sessions at (state_of w.frame_at b).flows (min below (flow_in ready.event))) (sym longer) (still_idle built sound at below idle body said.0)
+        subst (λ (b : List (List ℕ)). IdleBelow (state_of w.frame_at b).sessions at (state_of w.frame_at b).flows (min below (flow_in step.cause.event))) (sym longer) (still_idle built sound at below idle body said.0)
 
     failed : (fault : CommitFault) → more ≡ bodies → after ≡ acked → LogsAs w.frame_at (record { cause = cause; effect = effect }) bodies old (Err fault) new
-        → CommitsAs w id now ready.event item {T = Unit {0}} (record { journal = old; bodies = bodies; acked = acked }) (Err fault) (record { journal = new; bodies = more; acked = after })
+        → CommitsAs w id now step.cause.event item {T = Unit {0}} (record { journal = old; bodies = bodies; acked = acked }) (Err fault) (record { journal = new; bodies = more; acked = after })
     failed commit_fault.Full longer acks said = said
     failed commit_fault.Memory longer acks said = (longer, acks, said.0, subst (λ b. Tied id new b) (sym longer) (subst (λ i. Tied i new bodies) of said.1))
     failed commit_fault.Fault longer acks said = (
       said.0,
       record {
-        pends = ready_pends said.0 said.1;
-        room = room;
+        pends = step_pends said.0 said.1;
+        room = may.room;
         moves = said.2;
         form = subst (λ i. KeepsForm i (roomless old.disk) (roomless new.disk)) of said.3;
         rose = said.4;
@@ -165,6 +157,6 @@ module _ {F : Type 0} (w : Environment F) (id : Identity) (now : ℕ) (within : 
     )
 
     -- what a commit that failed leaves
-    pub not_committed : (fault : CommitFault) → more ≡ bodies → after ≡ acked → LogsAs w.frame_at (record_at n now ready) bodies old (Err fault) new
-        → CommitsAs w id now ready.event item {T = Unit {0}} (record { journal = old; bodies = bodies; acked = acked }) (Err fault) (record { journal = new; bodies = more; acked = after })
+    pub not_committed : (fault : CommitFault) → more ≡ bodies → after ≡ acked → LogsAs w.frame_at (step_record step) bodies old (Err fault) new
+        → CommitsAs w id now step.cause.event item {T = Unit {0}} (record { journal = old; bodies = bodies; acked = acked }) (Err fault) (record { journal = new; bodies = more; acked = after })
     not_committed fault longer acks logged = failed fault longer acks (said_of (Err fault) logged)

@@ -5,6 +5,7 @@ use Rattle.outside.specs.Disk.{DiskState, DiskView, IsImage, EachImage, CutsPowe
 use Rattle.outside.proofs.Moments.{started, after_failed_read}
 use Rattle.net_base.specs.declared.names.Identity.{Identity}
 use Rattle.net_base.specs.declared.causes.Event.{Event}
+use Rattle.net_base.specs.declared.values.Moment.{Moment}
 use Rattle.session_wire.specs.Sessions.{Sent}
 use Rattle.node_core.specs.declared.faults.CommitFault.{CommitFault}
 use Rattle.node_core.specs.declared.faults.CommitFault.TheVariants as commit_fault
@@ -139,10 +140,10 @@ no_fault (Ok x) h is = cc
 no_fault (Err other) h is = cc
 
 -- a start of which no flow is made
-pub start_none : {F : Type 0} (m : Machine F) (f : Reads F) (within : F → Type 0) (now class : ℕ) (args : List ℕ) (id : Identity) (up : UpSeen) (why : MakeFault) → IsBegun (environment m f id) id.party.0 now within (state_of f up.bodies) class args (Err why) → StartAnswers (environment m f id) now class args (seen_up id up) (Err (start_of why)) (seen_up id up)
-start_none m f within now class args id up make.UnknownClass said = (said, refl)
-start_none m f within now class args id up make.BadArgs said = (said, refl)
-start_none m f within now class args id up make.Memory said = refl
+pub start_none : {F : Type 0} (m : Machine F) (f : Reads F) (within : F → Type 0) (stamp : ℕ) (now : Moment) (class : ℕ) (args : List ℕ) (id : Identity) (up : UpSeen) (why : MakeFault) → IsBegun (environment m f id) id.party.0 stamp now within (state_of f up.bodies) class args (Err why) → StartAnswers (environment m f id) now.0 class args (seen_up id up) (Err (start_of why)) (seen_up id up)
+start_none m f within stamp now class args id up make.UnknownClass said = (said, refl)
+start_none m f within stamp now class args id up make.BadArgs said = (said, refl)
+start_none m f within stamp now class args id up make.Memory said = refl
 
 -- a start at a node that is full
 pub start_full : {F : Type 0} (m : Machine F) (f : Reads F) (now class : ℕ) (args : List ℕ) (id : Identity) (up : UpSeen) → IsOk (m.made class args (place (environment m f id) id.party.0 (flow_count (environment m f id) up.bodies) 0 now)) → is_full f 0 up.bodies ≡ true

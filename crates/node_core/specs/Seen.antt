@@ -11,13 +11,15 @@ use Rattle.flow_machine.specs.declared.flow_set.MakeFault.{MakeFault}
 use Rattle.flow_machine.specs.declared.flow_set.MakeFault.TheVariants as make
 use Rattle.net_model.specs.Environment.{Environment}
 use Rattle.net_model.specs.State.{Record, Effect}
-use Rattle.net_model.specs.Steps.{place, stamp_in, node_step, next_cause}
+use Rattle.net_model.specs.Steps.{place, body_in, stamp_in, node_step, next_cause}
 use Rattle.net_model.specs.Enabled.{picked}
 use Rattle.disk_journal.specs.Journal.{JournalView, IsReady, WasSpelt, journal_of, refusal, placed}
 use Rattle.disk_journal.specs.declared.fault.OpenFault.{OpenFault}
 use Rattle.disk_journal.specs.declared.fault.OpenFault.TheVariants as open_fault
+use Rattle.flow_records.specs.declared.step.Step.{Step}
 use Rattle.flow_records.specs.Records.{record_of}
 use Rattle.flow_steps.specs.Going.{flow_in}
+use Rattle.flow_steps.specs.Ready.{IsReady as IsReadyStep}
 use Rattle.node_tables.specs.declared.boot.RebuildFault.{RebuildFault}
 use Rattle.node_tables.specs.declared.boot.RebuildFault.TheVariants as rebuild_fault
 use Rattle.node_tables.specs.Fits.{misfit}
@@ -102,6 +104,12 @@ LogsAs frame_at r bodies old (Err commit_fault.Fault) new = (body : List ℕ) ×
 -- the acknowledged numbers once a journal has these bodies: those of new sessions are 0
 abbrev pub acks_over : {F : Type 0} → Environment F → List ℕ → List (List ℕ) → List ℕ
 acks_over w acked bodies = padded acked (state_of w.frame_at bodies).sessions
+
+-- a step that a node with this journal may commit at a moment, over an item or none: there is room, its cause is the next one, and it is worked out
+pub record MayCommit {F : Type 0} (w : Environment F) (id : Identity) (now : ℕ) (within : F → Type 0) (bodies : List (List ℕ)) (item : Option Sent) (step : Step F) : Type 0 where
+  pub room : is_full w.frame_at (stamp_in item) bodies ≡ false
+  pub cause : step.cause ≡ next_cause (state_of w.frame_at bodies) now step.cause.event item
+  pub ready : IsReadyStep w id.party.0 now within (state_of w.frame_at bodies) (body_in item) step
 
 -- what a commit answers
 abbrev pub CommitsAs : {F : Type 0} → Environment F → Identity → ℕ → Event → Option Sent → {T : Type 0} → UpSeen → Result T CommitFault → UpSeen → Type 0

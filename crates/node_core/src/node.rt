@@ -191,12 +191,12 @@ impl<D: Disk, F: FlowSet> Node<D, F> {
             return Err(StartFault::NodeDown);
         };
         let number = up.flows().count();
-        let ready = up.begin(alloc, &self.identity, now, class, args)?;
+        let step = up.begin(alloc, &self.identity, now, class, args)?;
         if up.is_full(0) {
-            let_go(ready);
+            let_go(step);
             return Err(StartFault::Full);
         }
-        match up.commit_alone(alloc, &self.identity, now, ready) {
+        match up.commit_alone(alloc, &self.identity, now, step) {
             Ok(()) => Ok(number),
             Err(CommitFault::Full) => unreachable!(),
             Err(CommitFault::Memory) => Err(StartFault::Memory),

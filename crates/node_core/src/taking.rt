@@ -183,8 +183,7 @@ impl<D: Disk, F: FlowSet> Up<D, F> {
         ensures commits { CommitsAs (environment F.machine F.reading identity.now) identity.now now.0 (accepting (state_of F.reading self.old.bodies).sessions item.key item.direction item.number) (Some (record { body = item.body; stamp = item.stamp })) self.old result self.new }
         ensures by { (state_of F.reading self.new.bodies).moment ≤ now.0 }
     {
-        let stamp = item.stamp;
-        let ready = self.ready_for(alloc, identity, now, item)?;
-        self.commit(alloc, identity, now, stamp, ready)
+        let step = self.accepting(alloc, identity, now, item)?;
+        self.commit(alloc, identity, now, step)
     }
 }

@@ -1,6 +1,6 @@
 //! A node that is up: its journal, and the tables that its records make.
 
-ghost use Rattle.std.specs.Prelude.{◌≡◌, ◌++◌, ◌∷◌, [], ◌<◌, ◌≤◌, ◌^◌, ◌+◌, ◌-◌, map, true, false, OnOk, OnErr, IfOk, IfErr, length, List, ℕ, Some, None, Option, IfSome, option_map};
+ghost use Rattle.std.specs.Prelude.{◌≡◌, [], ◌<◌, ◌≤◌, ◌^◌, ◌+◌, ◌-◌, max, map, true, false, OnOk, OnErr, IfOk, IfErr, length, List, ℕ, Some, None, Option, IfSome, option_map};
 ghost use Rattle.net_base.specs.Names.{IsIdentity};
 ghost use Rattle.net_base.specs.declared.names.Identity.{Identity as OfIdentity};
 ghost use Rattle.disk_journal.specs.Journal.{is_full_at};
@@ -13,13 +13,13 @@ ghost use Rattle.session_frames.specs.Judging.{IsJudged};
 ghost use Rattle.session_frames.specs.Sending.{AreMessages};
 ghost use Rattle.flow_records.specs.Steps.{step_record, IsStep};
 ghost use Rattle.net_model.specs.Environment.{environment};
-ghost use Rattle.net_model.specs.Steps.{body_in, stamp_in};
+ghost use Rattle.net_model.specs.Steps.{next_cause};
 ghost use Rattle.flow_steps.specs.Ready.{IsBegun, IsReady};
 ghost use Rattle.node_tables.specs.Journals.{state_of, causes_of};
 ghost use Rattle.node_tables.specs.Seen.{padded};
 ghost use Rattle.node_core.specs.Journals.{is_full};
 ghost use Rattle.node_core.specs.Disks.{roomless};
-ghost use Rattle.node_core.specs.Seen.{CommitsAs, LogsAs, Tied, Booted, Unbooted, boot_by, boot_of, picked_at};
+ghost use Rattle.node_core.specs.Seen.{CommitsAs, LogsAs, MayCommit, Tied, Booted, Unbooted, boot_by, boot_of, picked_at};
 ghost use Rattle.node_core.specs.Takes.{accepting, unacked_at};
 ghost use Rattle.node_core.specs.Idle.{AreIdle};
 
@@ -30,7 +30,7 @@ use checkpoints::Flows;
 use disk_journal::{AppendFault, Journal, OpenFault};
 use flow_machine::{FlowSet, MakeFault};
 use flow_records::{Step, spell_step};
-use flow_steps::{Ready, advance, answer_init, arrive_item, begin, flow_in, pick_event};
+use flow_steps::{advance, answer_init, arrive_item, begin, flow_in, pick_event};
 use net_base::{ByteList, Cause, Event, Identity, Key, Moment, Spelt, Unlimited};
 use node_tables::{RebuildFault, Tables, rebuild};
 use outside::{Bay, Disk, NoFuse};
@@ -219,19 +219,26 @@ impl<D: Disk, F: FlowSet> Up<D, F> {
         Some(Picked { event, idle })
     }
 
-    /// What a flow that goes on by this event, which was picked, is about to commit.
+    /// The stamp of a record over an item of this stamp, 0 without one.
+    fn next_stamp(&self, stamp: u64) -> u64
+        requires { stamp < 2 ^ 63 }
+        ensures { result ≡ max (state_of F.reading self.now.bodies).stamp stamp + 1 }
+    {
+        self.tables.stamp().max(stamp) + 1
+    }
+
+    /// The step by which a flow goes on, by this cause, whose event was picked.
     fn advance(
         &self,
         alloc: Global,
         identity: &Identity,
-        now: Moment,
-        event: Event,
-    ) -> Result<Ready<F>, AllocError>
+        cause: Cause,
+    ) -> Result<Step<F>, AllocError>
         requires identity { IsIdentity identity.now }
         requires tied { Tied identity.now self.now.journal self.now.bodies }
-        requires picked { (pick : Option ℕ) × (picked_at (environment F.machine F.reading identity.now) now.0 pick self.now.bodies ≡ Some event) }
-        ensures event { IfOk result (λ r. r.event ≡ event) }
-        ensures ready { IfOk result (λ r. IsReady (environment F.machine F.reading identity.now) identity.now.party.0 now.0 F.within (state_of F.reading self.now.bodies) None r) }
+        requires picked { (pick : Option ℕ) × (picked_at (environment F.machine F.reading identity.now) cause.moment.0 pick self.now.bodies ≡ Some cause.event) }
+        ensures cause { IfOk result (λ step. step.cause ≡ cause) }
+        ensures ready { IfOk result (λ step. IsReady (environment F.machine F.reading identity.now) identity.now.party.0 cause.moment.0 F.within (state_of F.reading self.now.bodies) None step) }
     {
         self.tables.kept();
         advance(
@@ -239,8 +246,7 @@ impl<D: Disk, F: FlowSet> Up<D, F> {
             identity,
             self.tables.flows(),
             self.tables.sessions(),
-            now,
-            event,
+            cause,
         )
     }
 
@@ -263,29 +269,35 @@ impl<D: Disk, F: FlowSet> Up<D, F> {
     {
         let Picked { event, idle } = picked;
         self.idle = idle;
-        let ready = self.advance(alloc, identity, now, event)?;
-        self.commit_alone(alloc, identity, now, ready)
+        let cause = Cause {
+            stamp: self.next_stamp(0),
+            moment: now,
+            event,
+        };
+        let step = self.advance(alloc, identity, cause)?;
+        self.commit_alone(alloc, identity, now, step)
     }
 
-    /// Commits what is ready over no item.
+    /// Commits a step over no item.
     pub fn commit_alone(
         &mut self,
         alloc: Global,
         identity: &Identity,
         now: Moment,
-        ready: Ready<F>,
+        step: Step<F>,
     ) -> Result<(), CommitFault>
         requires tied { Tied identity.now self.old.journal self.old.bodies }
         requires by { (state_of F.reading self.old.bodies).moment ≤ now.0 }
         requires room { is_full F.reading 0 self.old.bodies ≡ false }
-        requires ready { IsReady (environment F.machine F.reading identity.now) identity.now.party.0 now.0 F.within (state_of F.reading self.old.bodies) None ready }
-        ensures commits { CommitsAs (environment F.machine F.reading identity.now) identity.now now.0 ready.event None self.old result self.new }
+        requires cause { step.cause ≡ next_cause (state_of F.reading self.old.bodies) now.0 step.cause.event None }
+        requires ready { IsReady (environment F.machine F.reading identity.now) identity.now.party.0 now.0 F.within (state_of F.reading self.old.bodies) None step }
+        ensures commits { CommitsAs (environment F.machine F.reading identity.now) identity.now now.0 step.cause.event None self.old result self.new }
         ensures by { (state_of F.reading self.new.bodies).moment ≤ now.0 }
     {
-        self.commit(alloc, identity, now, 0, ready)
+        self.commit(alloc, identity, now, step)
     }
 
-    /// What a start is about to commit.
+    /// The step by which a flow of a class begins.
     pub fn begin(
         &self,
         alloc: Global,
@@ -293,14 +305,15 @@ impl<D: Disk, F: FlowSet> Up<D, F> {
         now: Moment,
         class: u16,
         args: &ByteList,
-    ) -> Result<Ready<F>, MakeFault>
+    ) -> Result<Step<F>, MakeFault>
         requires { IsIdentity identity.now }
-        ensures { IsBegun (environment F.machine F.reading identity.now) identity.now.party.0 now.0 F.within (state_of F.reading self.now.bodies) class args.now result }
+        ensures { IsBegun (environment F.machine F.reading identity.now) identity.now.party.0 (max (state_of F.reading self.now.bodies).stamp 0 + 1) now F.within (state_of F.reading self.now.bodies) class args.now result }
     {
         begin(
             alloc,
             identity,
             self.tables.flows().count(),
+            self.next_stamp(0),
             now,
             class,
             args,
@@ -317,20 +330,22 @@ impl<D: Disk, F: FlowSet> Up<D, F> {
         self.tables.kept();
     }
 
-    /// What the accepting of an item that comes next is about to commit. The only error is want of memory.
-    pub fn ready_for(
+    /// The step by which an item that comes next is accepted. The only error is want of memory.
+    pub fn accepting(
         &self,
         alloc: Global,
         identity: &Identity,
         now: Moment,
         item: Item,
-    ) -> Result<Ready<F>, AllocError>
+    ) -> Result<Step<F>, AllocError>
         requires identity { IsIdentity identity.now }
         requires next { IsNextItem identity.now (state_of F.reading self.now.bodies).sessions item.peer item.key item.direction item.number item.stamp item.body }
         requires small { item.number + 1 < 2 ^ 32 }
-        ensures event { IfOk result (λ r. r.event ≡ accepting (state_of F.reading self.now.bodies).sessions item.key item.direction item.number) }
-        ensures ready { IfOk result (λ r. IsReady (environment F.machine F.reading identity.now) identity.now.party.0 now.0 F.within (state_of F.reading self.now.bodies) (Some item.body) r) }
+        requires early { item.stamp < 2 ^ 63 }
+        ensures cause { IfOk result (λ step. step.cause ≡ record { stamp = max (state_of F.reading self.now.bodies).stamp item.stamp + 1; moment = now; event = accepting (state_of F.reading self.now.bodies).sessions item.key item.direction item.number }) }
+        ensures ready { IfOk result (λ step. IsReady (environment F.machine F.reading identity.now) identity.now.party.0 now.0 F.within (state_of F.reading self.now.bodies) (Some item.body) step) }
     {
+        let stamp = self.next_stamp(item.stamp);
         let Item {
             peer: _,
             key,
@@ -340,46 +355,29 @@ impl<D: Disk, F: FlowSet> Up<D, F> {
             body,
         } = item;
         if self.tables.sessions().peer(&key).is_some() {
-            return Ok(arrive_item(alloc, key, direction, number, body));
+            return Ok(arrive_item(alloc, stamp, now, key, direction, number, body));
         }
         let flow = self.tables.flows().count();
-        answer_init(alloc, identity, flow, now, key, body)
+        answer_init(alloc, identity, flow, stamp, now, key, body)
     }
 
-    /// Commits what is ready over an item of the stamp, 0 without one: its record is appended to the journal, and then taken into the
-    /// tables.
+    /// Commits a step over an item, or over none: its record is appended to the journal, and then taken into the tables.
     pub fn commit(
         &mut self,
         alloc: Global,
         identity: &Identity,
         now: Moment,
-        stamp: u64,
-        ready: Ready<F>,
+        step: Step<F>,
     ) -> Result<(), CommitFault>
         requires tied { Tied identity.now self.old.journal self.old.bodies }
         requires by { (state_of F.reading self.old.bodies).moment ≤ now.0 }
-        requires room { is_full F.reading stamp self.old.bodies ≡ false }
-        requires ready { (item : Option Sent) × (stamp_in item ≡ stamp) × IsReady (environment F.machine F.reading identity.now) identity.now.party.0 now.0 F.within (state_of F.reading self.old.bodies) (body_in item) ready }
-        ensures commits { (item : Option Sent) → stamp_in item ≡ stamp → IsReady (environment F.machine F.reading identity.now) identity.now.party.0 now.0 F.within (state_of F.reading self.old.bodies) (body_in item) ready → CommitsAs (environment F.machine F.reading identity.now) identity.now now.0 ready.event item self.old result self.new }
+        requires ready { (item : Option Sent) × MayCommit (environment F.machine F.reading identity.now) identity.now now.0 F.within self.old.bodies item step }
+        ensures commits { (item : Option Sent) → MayCommit (environment F.machine F.reading identity.now) identity.now now.0 F.within self.old.bodies item step → CommitsAs (environment F.machine F.reading identity.now) identity.now now.0 step.cause.event item self.old result self.new }
         ensures by { (state_of F.reading self.new.bodies).moment ≤ now.0 }
     {
-        let Ready {
-            event,
-            flow,
-            session,
-        } = ready;
         self.tables.kept();
         now.known();
-        let idle = self.idle.after(&event);
-        let step = Step {
-            cause: Cause {
-                stamp: self.tables.stamp().max(stamp) + 1,
-                moment: now,
-                event,
-            },
-            flow,
-            session,
-        };
+        let idle = self.idle.after(&step.cause.event);
         match log(alloc, &mut self.journal, &mut self.tables, &step) {
             Ok(body) => {
                 self.tables.add(body, step);

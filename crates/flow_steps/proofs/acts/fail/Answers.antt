@@ -8,15 +8,15 @@ use Rattle.flow_steps.specs.Going.{over, Becomes}
 use Rattle.flow_steps.proofs.Performs.{if_ok}
 use Rattle.flow_steps.proofs.acts.fail.Goals as goal
 
-pub returns : goal.returns
-returns g c =
+pub returns-clause-becomes : goal.returns-clause-becomes
+returns-clause-becomes g c =
     let at = c.args.at.now in
     let me = c.args.identity.now.party.0 in
-    if_ok (λ gone. Becomes g.F.Spelt.within at (over me c.args.sessions.now.list at (state.Failed (at.step + 1) at.class c.args.code) (body_of.Error c.args.code)) gone)
-    (λ gone. (s : NodeState _) → s.sessions ≡ c.args.sessions.now.list → Becomes g.F.Spelt.within at (fails me s at c.args.code) gone)
-    c.end-gone.result
-    (λ x b s same. subst (λ (l : List Session). Becomes g.F.Spelt.within at (over me l at (state.Failed (at.step + 1) at.class c.args.code) (body_of.Error c.args.code)) x) (sym same) b)
-    c.end-gone.ensures
+    if_ok (λ step. Becomes g.F.Spelt.within (over me c.args.sessions.now.list at (state.Failed (at.step + 1) at.class c.args.code) (body_of.Error c.args.code)) step)
+    (λ step. (s : NodeState _) → s.sessions ≡ c.args.sessions.now.list → Becomes g.F.Spelt.within (fails me s at c.args.code) step)
+    c.end-step.result
+    (λ x b s same. subst (λ (l : List Session). Becomes g.F.Spelt.within (over me l at (state.Failed (at.step + 1) at.class c.args.code) (body_of.Error c.args.code)) x) (sym same) b)
+    c.end-step.ensures.becomes
 
-pub end-gone-requires-clause-limits : goal.end-gone-requires-clause-limits
-end-gone-requires-clause-limits g c = ((omega (arith, c.requires.step), (c.requires.limits.1.1.0, omega (arith, c.ranges.code.fits))), tt)
+pub end-step-requires-clause-limits : goal.end-step-requires-clause-limits
+end-step-requires-clause-limits g c = ((omega (arith, c.requires.step), (c.requires.limits.1.1.0, omega (arith, c.ranges.code.fits))), tt)

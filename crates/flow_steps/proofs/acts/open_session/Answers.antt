@@ -12,9 +12,9 @@ go_on-requires-clause-done g c =
     let list = c.args.sessions.now.list in
     open_done id.nodes id.party.0 list at.flow c.args.to c.args.class c.args.first.now c.in_ok-done.done c.in_ok-done.ensures.done (c.in_ok-done.ensures.limits c.requires.identity c.requires.first) c.in_ok-done.ensures.room
 
-pub returns : goal.returns
-returns g c =
+pub returns-clause-becomes : goal.returns-clause-becomes
+returns-clause-becomes g c =
     let at = c.args.at.now in
     let id = c.args.identity.now in
     let list = c.args.sessions.now.list in
-    told_becomes (environment g.F.FlowSet.machine g.F.Spelt.reading id) id.party.0 c.args.now.0 g.F.Spelt.within at (done_of c.in_ok-done.done) (opens id.nodes id.party.0 list at.flow c.args.to c.args.class c.args.first.now) c.go_on.result c.in_ok-done.ensures.done c.go_on.ensures
+    told_becomes (environment g.F.FlowSet.machine g.F.Spelt.reading id) id.party.0 c.args.cause.moment.0 g.F.Spelt.within at (done_of c.in_ok-done.done) (opens id.nodes id.party.0 list at.flow c.args.to c.args.class c.args.first.now) c.go_on.result c.in_ok-done.ensures.done c.go_on.ensures.becomes

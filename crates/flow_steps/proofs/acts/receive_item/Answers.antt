@@ -11,9 +11,9 @@ pub go_on-requires-clause-done : goal.go_on-requires-clause-done
 go_on-requires-clause-done g c =
     c.in_ok-done.ensures.within c.requires.key (subst (λ p. AreKept p c.args.sessions.now.list) (sym c.requires.party) c.requires.kept)
 
-pub returns : goal.returns
-returns g c =
+pub returns-clause-becomes : goal.returns-clause-becomes
+returns-clause-becomes g c =
     let at = c.args.at.now in
     let id = c.args.identity.now in
     let list = c.args.sessions.now.list in
-    told_becomes (environment g.F.FlowSet.machine g.F.Spelt.reading id) id.party.0 c.args.now.0 g.F.Spelt.within at (done_of c.in_ok-done.done) (takes_or_lapses (owned at.flow c.args.key.now list)) c.go_on.result c.in_ok-done.ensures.done c.go_on.ensures
+    told_becomes (environment g.F.FlowSet.machine g.F.Spelt.reading id) id.party.0 c.args.cause.moment.0 g.F.Spelt.within at (done_of c.in_ok-done.done) (takes_or_lapses (owned at.flow c.args.key.now list)) c.go_on.result c.in_ok-done.ensures.done c.go_on.ensures.becomes

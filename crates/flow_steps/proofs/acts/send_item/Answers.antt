@@ -13,9 +13,9 @@ go_on-requires-clause-done g c =
     let list = c.args.sessions.now.list in
     send_done id.party.0 at.flow c.args.value.now (owned at.flow c.args.key.now list) c.in_ok-done.done c.in_ok-done.ensures.done (c.in_ok-done.ensures.limits c.requires.key c.requires.value) c.in_ok-done.ensures.room
 
-pub returns : goal.returns
-returns g c =
+pub returns-clause-becomes : goal.returns-clause-becomes
+returns-clause-becomes g c =
     let at = c.args.at.now in
     let id = c.args.identity.now in
     let list = c.args.sessions.now.list in
-    told_becomes (environment g.F.FlowSet.machine g.F.Spelt.reading id) id.party.0 c.args.now.0 g.F.Spelt.within at (done_of c.in_ok-done.done) (sends id.party.0 c.args.value.now (owned at.flow c.args.key.now list)) c.go_on.result c.in_ok-done.ensures.done c.go_on.ensures
+    told_becomes (environment g.F.FlowSet.machine g.F.Spelt.reading id) id.party.0 c.args.cause.moment.0 g.F.Spelt.within at (done_of c.in_ok-done.done) (sends id.party.0 c.args.value.now (owned at.flow c.args.key.now list)) c.go_on.result c.in_ok-done.ensures.done c.go_on.ensures.becomes

@@ -3,7 +3,7 @@ use Rattle.session_wire.specs.Sessions.{Session, session_of}
 use Rattle.session_frames.specs.Items.{IsNextItem}
 use Rattle.node_tables.specs.Journals.{state_of}
 use Rattle.node_core.proofs.Items.{next_there, session_there}
-use Rattle.node_core.proofs.up.Up.ready_for.Goals as goal
+use Rattle.node_core.proofs.up.Up.accepting.Goals as goal
 
 pub returns-then-is_some-clause-ready : goal.returns-then-is_some-clause-ready
 returns-then-is_some-clause-ready g c =
