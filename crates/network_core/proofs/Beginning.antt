@@ -97,7 +97,7 @@ get_within (x ∷ xs) zero lt = (x, refl)
 get_within (x ∷ xs) (suc p) lt = get_within xs p (omega (arith, lt))
 
 -- from the first place on
-first_get : (nodes : ℕ) (notary : Party) (ds : List DiskView) (p : ℕ) (n : NodeSeen) → slice_get (nodes_over nodes notary 0 ds) p ≡ Some n → (d : DiskView) × (slice_get ds p ≡ Some d) × (n ≡ node_over nodes notary p d)
+pub first_get : (nodes : ℕ) (notary : Party) (ds : List DiskView) (p : ℕ) (n : NodeSeen) → slice_get (nodes_over nodes notary 0 ds) p ≡ Some n → (d : DiskView) × (slice_get ds p ≡ Some d) × (n ≡ node_over nodes notary p d)
 first_get nodes notary ds p n at =
     let found = over_get nodes notary 0 ds p n at in
     let place : 0 + p ≡ p = omega arith in
@@ -323,6 +323,12 @@ module _ {F : Type 0} (m : Machine F) (f : Reads F) (nodes : ℕ) (notary : Part
         let whole : k ≡ lain k.identity k.disk = closed k s.0 s.1 in
         subst (λ (z : NodeSeen). BootsAs f (node_over nodes notary place d) (no_boot why) z) (whole ∙ same) s
 
+    up_there : (p : ℕ) (d b : DiskView) → p < place → slice_get disks p ≡ Some d → slice_get back p ≡ Some b → (k : NodeSeen) × BootsAs f (node_over nodes notary p d) came_up k × (roomless b ≡ k.disk)
+    up_there p d b before i j =
+        let old = first_at nodes notary disks p d i in
+        let node = get_beside back news p b long j in
+        (node.0, stops.done p (node_over nodes notary p d) node.0 before old node.1, disk_back p b node.0 j node.1)
+
     left_there : (p : ℕ) (d b : DiskView) → place < p → slice_get disks p ≡ Some d → slice_get back p ≡ Some b → roomless b ≡ roomless d
     left_there p d b past i j =
         let old = first_at nodes notary disks p d i in
@@ -337,6 +343,7 @@ module _ {F : Type 0} (m : Machine F) (f : Reads F) (nodes : ℕ) (notary : Part
         record {
           count = count;
           refused = inr (first.0, last.0, first.1, last.1, refused_boot first.0 last.0 first.1 last.1);
+          earlier = up_there;
           later = left_there;
           world = left_world;
         }
@@ -346,6 +353,7 @@ module _ {F : Type 0} (m : Machine F) (f : Reads F) (nodes : ℕ) (notary : Part
   refused_early = record {
     count = refl;
     refused = inl (refl, refl, refl);
+    earlier = λ p d b before i j. absurd (omega (arith, before));
     later = λ p d b past i j. ap roomless (same_Some _ _ (sym j ∙ i));
     world = λ now w shows coherent. (
       w,

@@ -9,7 +9,7 @@ use Rattle.node_tables.specs.Journals.{records_of, state_of, causes_of}
 use Rattle.network_core.specs.Worlds.{World, Coherent, Choice, CoherentIsFaithful}
 
 -- what stands at a place of a mapped list
-get_map : {X Y : Type 0} (f : X → Y) (xs : List X) (p : ℕ) (y : Y) → slice_get (map f xs) p ≡ Some y → (x : X) × (slice_get xs p ≡ Some x) × (f x ≡ y)
+pub get_map : {X Y : Type 0} (f : X → Y) (xs : List X) (p : ℕ) (y : Y) → slice_get (map f xs) p ≡ Some y → (x : X) × (slice_get xs p ≡ Some x) × (f x ≡ y)
 get_map f [] p y h = cc
 get_map f (x ∷ xs) zero y h = (x, refl, cc)
 get_map f (x ∷ xs) (suc p) y h = get_map f xs p y h

@@ -35,3 +35,4 @@ pub mod Turning
 pub mod Linking
 pub mod Beginning
 pub mod Loops
+pub mod NewDisks

@@ -1,6 +1,7 @@
 -- How a network begins: over disks of which it is known what they may leave.
 use Rattle.std.specs.Prelude.{◌≡◌, ◌⊎◌, ℕ, ◌+◌, ◌<◌, ◌≤◌, true, false, List, [], ◌∷◌, length, map, slice_get, MatchOption, Option, Some, None, Result, Ok, Err}
-use Rattle.outside.specs.Disk.{DiskView}
+use Rattle.std.specs.List.{AllByRecursion}
+use Rattle.outside.specs.Disk.{DiskView, clean}
 use Rattle.net_base.specs.declared.names.Identity.{Identity}
 use Rattle.net_base.specs.declared.values.Party.{Party}
 use Rattle.flow_machine.specs.Machine.{Machine}
@@ -71,6 +72,17 @@ nodes_over nodes notary p (d ∷ ds) = node_over nodes notary p d ∷ nodes_over
 abbrev pub net_over : ℕ → Party → ℕ → List DiskView → NetSeen
 net_over nodes notary now disks = record { nodes = nodes_over nodes notary 0 disks; waiting = map (λ d. []) disks; now = now }
 
+-- a disk that tells what it holds, which is nothing, with no write under way
+pub record IsNew (d : DiskView) : Type 0 where
+  pub tells : d.tells ≡ true
+  pub kept : d.state.kept ≡ []
+  pub settled : d.state.now ≡ clean []
+
+-- over new disks a network whose nodes are down shows a coherent world, whatever its moment
+abbrev pub NewDisksAreCoherent : (F : Type 0) → Type 0
+NewDisksAreCoherent F = (m : Machine F) (frame_at : Reads F) (nodes : ℕ) (notary : Party) (now : ℕ) (disks : List DiskView) → length disks ≡ nodes → AllByRecursion IsNew disks
+    → (w : World) × Shows (environment m frame_at (member nodes notary 0)) (net_over nodes notary now disks) w × Coherent (environment m frame_at (member nodes notary 0)) w
+
 -- each node came up on its journal, and the moment is the greatest of their last causes', 0 without one
 pub record Begun {F : Type 0} (e : Environment F) (w v : World) : Type 0 where
   pub count : length v.nodes ≡ length w.nodes
@@ -89,12 +101,13 @@ pub record StayDown (why : BootFault) (w v : World) : Type 0 where
   pub count : length v.nodes ≡ length w.nodes
   pub each : (p : ℕ) (x y : NodeWorld) → slice_get w.nodes p ≡ Some x → slice_get v.nodes p ≡ Some y → LeavesDisk why x y
 
--- the boot of the node at that place was the first that was refused, so, or memory ran out before all boots; the disks come back in order; from each coherent world over
+-- the boot of the node at that place was refused, so, or memory ran out before all boots; those before it came up, and those behind it were left; the disks come back in order, each as its node left it; from each coherent world over
 -- the disks they go to a coherent world over those that come back
 pub record IsRefused {F : Type 0} (m : Machine F) (frame_at : Reads F) (nodes : ℕ) (notary : Party) (disks : List DiskView) (node : ℕ) (why : BootFault) (back : List DiskView) : Type 0 where
   pub count : length back ≡ length disks
   pub refused : ((why ≡ boot_fault.Memory) × (node ≡ 0) × (back ≡ disks))
       ⊎ ((d : DiskView) × (b : DiskView) × (slice_get disks node ≡ Some d) × (slice_get back node ≡ Some b) × BootsAs frame_at (node_over nodes notary node d) (no_boot why) (node_over nodes notary node b))
+  pub earlier : (p : ℕ) (d b : DiskView) → p < node → slice_get disks p ≡ Some d → slice_get back p ≡ Some b → (k : NodeSeen) × BootsAs frame_at (node_over nodes notary p d) came_up k × (roomless b ≡ k.disk)
   pub later : (p : ℕ) (d b : DiskView) → node < p → slice_get disks p ≡ Some d → slice_get back p ≡ Some b → roomless b ≡ roomless d
   pub world : let e = environment m frame_at (member nodes notary 0) in
       (now : ℕ) (w : World) → Shows e (net_over nodes notary now disks) w → Coherent e w → (v : World) × Shows e (net_over nodes notary now back) v × Coherent e v × StayDown why w v

@@ -1,4 +1,5 @@
 ghost use Rattle.network_core.specs.Acknowledged.{AcknowledgedStandsOnce};
+ghost use Rattle.network_core.specs.Begins.{NewDisksAreCoherent};
 ghost use Rattle.network_core.specs.Drains.{DrainsByTurns};
 ghost use Rattle.network_core.specs.Worlds.{CoherentIsFaithful};
 
@@ -6,6 +7,12 @@ ghost use Rattle.network_core.specs.Worlds.{CoherentIsFaithful};
 /// states that these journals make.
 pub fn coherent_is_faithful<F>()
     ensures { CoherentIsFaithful F }
+{}
+
+/// The law that over disks on which nothing was written a network whose nodes are down shows a coherent world: what the network's other clauses
+/// say from there holds of a network that begins over new disks.
+pub fn new_disks_are_coherent<F>()
+    ensures { NewDisksAreCoherent F }
 {}
 
 /// The law that a drain makes turns, posts and deliveries and nothing else: where it came to an end none of them met a full journal or

@@ -14,7 +14,9 @@ mod serving;
 mod steps;
 
 pub use begin::BeginRefused;
-pub use laws::{acknowledged_stands_once, coherent_is_faithful, drains_by_turns};
+pub use laws::{
+    acknowledged_stands_once, coherent_is_faithful, drains_by_turns, new_disks_are_coherent,
+};
 pub use net::Net;
 pub use steps::{Outcome, Step};
 

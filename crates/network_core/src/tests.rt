@@ -1,6 +1,6 @@
 use super::{
     BeginRefused, Net, Outcome, Step, acknowledged_stands_once, coherent_is_faithful,
-    drains_by_turns,
+    drains_by_turns, new_disks_are_coherent,
 };
 use disk_mem::MemDisk;
 use flow_machine::{Counter, FlowSet};
@@ -136,6 +136,7 @@ fn a_node_runs(rt: HostRuntime) -> Result<(), Fail> {
     acknowledged_stands_once::<Counter>();
     coherent_is_faithful::<Counter>();
     drains_by_turns::<Counter>();
+    new_disks_are_coherent::<Counter>();
     let mut net = begin::<Counter>(alloc, 1)?;
     assert_eq!(rt; net.nodes().len(), 1);
     let rows = [

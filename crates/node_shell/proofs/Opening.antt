@@ -138,6 +138,9 @@ told_since : {F : Type 0} (f : Reads F) (nodes : ℕ) (notary : Party) (ds ks bs
 told_since f nodes notary ds ks bs written0 written1 s stay t = record {
   node = t.node;
   within = t.within;
+  earlier = λ p d before at.
+      let k = get_beside ds ks p d (sym stay.count) at in
+      own_since f (member nodes notary p) d k.0 (stay.each p d k.0 at k.1).0 (t.earlier p k.0 before k.1);
   why = t.why;
   cause = λ d b at there.
       let k = get_beside ds ks t.node d (sym stay.count) at in
@@ -212,6 +215,11 @@ module _ {F : Type 0} (m : Machine F) (f : Reads F) (nodes : ℕ) (notary : Part
   told_why ds bs node why written0 written1 s some count r told = record {
     node = node;
     within = ⊎_elim (λ (p : (why ≡ boot.Memory) × (node ≡ 0) × (bs ≡ ds)). let first = p.1 in omega (arith, first, some)) (λ (q : Stopped ds node why bs). let within = slice_get_within ds node q.0 q.2 in omega (arith, within, count)) r.refused;
+    earlier = λ p d before at.
+        let b = get_beside ds bs p d (sym r.count) at in
+        let up = r.earlier p d b.0 before at b.1 in
+        let id = member nodes notary p in
+        λ tells. (up.1.4.opens.format tells, subst (λ l. misfit f id.nodes id.party l ≡ None) (up.1.4.opens.told tells) up.1.4.fits);
     why = why;
     cause = λ d b at there.
         ⊎_elim (λ (p : (why ≡ boot.Memory) × (node ≡ 0) × (bs ≡ ds)). subst (λ y. HasCause f (member nodes notary node) d y b) (sym p.0) tt) (λ (q : Stopped ds node why bs). stopped_cause ds bs node why q d b at there) r.refused;

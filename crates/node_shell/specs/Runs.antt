@@ -148,10 +148,11 @@ HasCause frame_at id old (boot.Damaged at) new = old.tells ≡ true → (refusal
 abbrev pub IsUnready : Option (List ℕ) → Option (List ℕ) → Status → Type 0
 IsUnready written0 written1 s = ((s ≡ status.DiskFault) ⊎ (s ≡ status.NoMemory)) × (written1 ≡ written0)
 
--- the first opening of some node was refused for a cause, which what was written tells, with the number of the node
+-- an opening was refused for a cause, which what was written tells, with the number of the node: the first one, since no opening of those before it refuses its disk
 pub record IsToldWhy {F : Type 0} (frame_at : Reads F) (nodes : ℕ) (notary : Party) (old new : List DiskView) (written0 written1 : Option (List ℕ)) (s : Status) : Type 0 where
   pub node : ℕ
   pub within : node < nodes
+  pub earlier : (p : ℕ) (d : DiskView) → p < node → slice_get old p ≡ Some d → KeepsOwn frame_at (member nodes notary p) d
   pub why : BootFault
   pub cause : (d b : DiskView) → slice_get old node ≡ Some d → slice_get new node ≡ Some b → HasCause frame_at (member nodes notary node) d why b
   pub told : RefusedWith node why written0 written1 s

@@ -321,31 +321,50 @@ fn commands_of_frames_have_their_answers(rt: HostRuntime) -> Result<(), Fail> {
     Ok(())
 }
 
-// Node 0 pings node 1 once. A frame is lost, is posted twice, of which one waits, and arrives twice; an acknowledgement is lost; the power
-// of node 1 goes once the gate of its first record was written.
+// Node 0 pings node 1 once: over a network that loses nothing; a frame is lost, is posted twice, of which one waits, and arrives twice; an
+// acknowledgement is lost; the power of node 1 goes before the gate of its first record was written, and once it was. A session of a class
+// that is unknown is refused.
 #[test]
 fn nodes_that_talk_have_their_answers(rt: HostRuntime) -> Result<(), Fail> {
     let alloc = rt.alloc();
     let rows = [
         (
+            "2",
+            "start 0 ping 1 1\ndrain\nflows 0\nflows 1\nhistory\n",
+            "flow 0\ndrained\nflow 0 class 2 steps 3 ended number 1\nflow 0 class 2 steps 4 ended unit\nh 1 0 0 start 0 2\nh 2 0 0 move 0\nh 3 1 0 answer 0 0\nh 4 0 0 arrive 0 0 1 0\nh 4 1 0 move 0\nh 5 1 0 move 0\nh 6 0 0 arrive 0 0 1 1\nh 7 0 0 move 0\nh 8 0 0 move 0\nh 9 1 0 arrive 0 0 0 1\nh 10 1 0 move 0\nh 11 1 0 move 0\nh 12 0 0 arrive 0 0 1 2\n",
+        ),
+        (
+            "2",
             "start 0 ping 1 1\nturn 0\npost 0\nlose 1 0\npost 0\npost 0\nrepeat 1 0\ndeliver 1 0\ndeliver 0 0\ndeliver 0 0\npost 0\ndrain\nflow 0 0\nflow 1 0\n",
             "flow 0\nmoved 0\nposted 1\nlost\nposted 1\nposted 0\ntook\nagain 1\nacked\n! 7 NoFrame\nposted 0\ndrained\nflow 0 class 2 steps 3 ended number 1\nflow 0 class 2 steps 4 ended unit\n",
         ),
         (
+            "2",
             "start 0 ping 1 1\nturn 0\npost 0\nrepeat 1 0\ndeliver 1 0\nlose 0 0\nlose 0 0\ndrain\nflows 1\n",
             "flow 0\nmoved 0\nposted 1\ntook\nagain 1\nlost\n! 7 NoFrame\ndrained\nflow 0 class 2 steps 4 ended unit\n",
         ),
         (
+            "2",
+            "start 0 ping 1 1\nturn 0\npost 0\ncut 1 2 1\ndeliver 1 0\nflows 1\nboot 1\nflows 1\ndrain\nflows 1\n",
+            "flow 0\nmoved 0\nposted 1\narmed\nfault\n! 3 NodeDown\nbooted\nnone\ndrained\nflow 0 class 2 steps 4 ended unit\n",
+        ),
+        (
+            "2",
             "start 0 ping 1 1\nturn 0\npost 0\ncut 1 4 1\ndeliver 1 0\nflows 1\nboot 1\nflows 1\ndrain\nflows 1\n",
             "flow 0\nmoved 0\nposted 1\narmed\nfault\n! 3 NodeDown\nbooted\nflow 0 class 2 steps 0 waits receive\ndrained\nflow 0 class 2 steps 4 ended unit\n",
         ),
+        (
+            "3",
+            "start 1 probe 2 99\ndrain\nflows 1\nflows 2\n",
+            "flow 0\ndrained\nflow 0 class 10 steps 3 failed 50\nnone\n",
+        ),
     ];
-    for (script, answers) in rows {
+    for (nodes, script, answers) in rows {
         let disks = disks_from(alloc, MemDisk::new(alloc))?;
         let none = Vec::new(alloc);
         let (ended, sink) = run_nodes::<ShippedFlow>(
             alloc,
-            "2",
+            nodes,
             disks,
             script,
             none,
