@@ -16,7 +16,7 @@ pub enum OpenFault {
     #[error("the journal is that of another node")]
     WrongNode { found: Identity },
     /// No closed gate ends the records. What stands at this place, in bytes from the start, is neither a whole record
-    /// nor a closed gate.
+    /// nor a closed gate; or the most records that a journal holds stand before it, and the gate is open.
     #[error("the journal is damaged at byte {at}")]
     Damaged { at: u64 },
     /// Out of memory.

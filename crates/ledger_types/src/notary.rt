@@ -52,9 +52,10 @@ pub type ConflictList = ListOf<ConflictItem>;
 pub enum NotaryAnswer {
     /// The notary's tag over the id.
     Signed { tag: Tag },
-    /// The transaction names another notary, or this node is none.
+    /// The transaction names no notary or another one, or this node is none.
     WrongNotary,
-    /// The tear-off doesn't give its id, or hides what a notary must see.
+    /// The tear-off doesn't give its id, hides what a notary must see, shows a component that spells nothing, or shows
+    /// two notaries or two windows.
     BadTear,
     /// The request's tag isn't the asking party's over the id.
     BadRequestTag,

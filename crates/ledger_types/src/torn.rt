@@ -13,7 +13,7 @@ use net_base::{
 };
 use std::alloc::{AllocError, Global};
 
-/// A component that is shown: its nonce and its bytes, at most 64.
+/// A component that is shown: its nonce and its bytes, at most 64 within the limits of a spelling.
 #[derive(Debug, Drop)]
 pub struct TornPart {
     pub nonce: Hash32,

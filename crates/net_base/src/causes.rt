@@ -10,7 +10,8 @@ use crate::values::{Moment, Party};
 /// What happened to a node.
 #[derive(Debug, Drop)]
 pub enum Event {
-    /// A new flow begins: its number on its node, counted from 0, its class, and the words that it was given.
+    /// A new flow begins: its number on its node, counted from 0, its class, and its arguments, spelt in the order of
+    /// the words that it was given.
     Start {
         flow: u32,
         class: u16,

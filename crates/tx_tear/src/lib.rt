@@ -1,5 +1,5 @@
 //! Tear-offs of transactions: what a notary sees of a transaction that it signs (Corda 4 documentation, "Transaction
-//! tear-offs"; technical white paper, section 5.8).
+//! tear-offs"; technical white paper, "Oracles and tear-offs").
 #![tactic(auto)]
 
 mod laws;
