@@ -1,7 +1,7 @@
 -- What a power cut leaves while a journal is opened.
 use Rattle.std.proofs.Common.{◌≡◌, ⊎_elim, ℕ, ◌+◌, ◌≤◌, true, List, [], ◌∷◌, ◌++◌, length, drop, refl, sym, ◌∙◌, ap, subst, arith}
-use Rattle.outside.specs.Disk.{DiskState, Durable, IsImage, EachImage, Syncs, FailsReading, clean, with_range}
-use Rattle.outside.proofs.Moments.{started, weaker, then, clean_image, Either, after_failed_read, after_sync, settled_kept}
+use Rattle.outside.specs.Disk.{DiskState, Durable, IsImage, EachImage, Syncs, clean, with_range}
+use Rattle.outside.proofs.Moments.{started, weaker, then, clean_image, Either, after_sync, settled_kept}
 use Rattle.disk_journal.proofs.Crash.{torn_parts}
 use Rattle.disk_journal.proofs.Steps.{put_length}
 use Rattle.net_base.specs.Names.{IsIdentity}
@@ -16,12 +16,6 @@ synced d m was settles =
       after_sync d m (IsImage d.now) settles (λ c image. image) was,
       λ c image. subst (IsImage d.now) (sym (clean_image m.kept c (subst (λ (s : Durable). IsImage s c) to.1 image) ∙ to.0)) was,
     )
-
--- a read failed after it
-pub read_failed : (d m e : DiskState) → IsImage d.now d.kept → Syncs d m → FailsReading m e → EachImage d e (IsImage d.now)
-read_failed d m e was settles failed =
-    let s = synced d m was settles in
-    then d m e (IsImage d.now) s.0 (after_failed_read m e (IsImage d.now) s.1 failed)
 
 -- a write within the first bytes of a short disk leaves it short
 pub short_write : (d e : DiskState) (at : ℕ) (bytes : List ℕ) → d.now ≡ clean d.kept → at ≤ length d.kept → length d.kept ≤ 17 → at + length bytes ≤ 17 → EachImage d e (Either d at bytes) → EachImage d e (λ c. length c ≤ 17)

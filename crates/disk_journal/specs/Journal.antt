@@ -129,6 +129,22 @@ size_of (r ∷ rs) = 5 + length r.1 + size_of rs
 unfoldable pub is_unformatted : List ℕ → Bool
 is_unformatted image = nat_lt (length image) 17 || ((length image == 17) && not (slice_index image 0 == 1))
 
+-- what an opening that succeeds leaves: a new journal where none was begun, or not finished, and any other image as it was
+abbrev pub formatted : Identity → List ℕ → List ℕ
+formatted id image = if is_unformatted image then header id ++ 0 ∷ [] else image
+
+-- byte 0 reads 0
+unfoldable pub is_shut : List ℕ → Bool
+is_shut image = nat_lt 0 (length image) && (slice_index image 0 == 0)
+
+-- how many writes and syncs formatting takes: three steps of two, of which the first is left out where byte 0 reads 0
+abbrev pub formatting_calls : Bool → ℕ
+formatting_calls shut = if shut then 4 else 6
+
+-- how many writes and syncs an opening that succeeds takes: a sync, and those of formatting where it formats
+abbrev pub opening_calls : List ℕ → ℕ
+opening_calls image = if is_unformatted image then suc (formatting_calls (is_shut image)) else 1
+
 -- both are the same node of the same network
 abbrev pub is_same : Identity → Identity → Bool
 is_same x y = (x.party.0 == y.party.0) && ((x.nodes == y.nodes) && (x.notary.0 == y.notary.0))

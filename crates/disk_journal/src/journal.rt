@@ -1,8 +1,8 @@
-ghost use Rattle.std.specs.Prelude.{◌≡◌, ◌≤◌, ◌<◌, ◌+◌, ◌++◌, ◌∷◌, [], ◌↔◌, ℕ, length, true, Some, OnOk, OnErr, IsErr, IsErrOf, IfOk, IfErr, MatchResult, None, List, ◌⊎◌, vec_capacity, ◌^◌};
-ghost use Rattle.outside.specs.Disk.{EachImage, IfTold, SameRest, IsImage};
+ghost use Rattle.std.specs.Prelude.{◌≡◌, ◌≤◌, ◌<◌, ◌+◌, ◌++◌, ◌∷◌, [], ◌↔◌, ℕ, length, true, Some, false, OnOk, OnErr, IsErr, IsErrOf, IfOk, IfErr, MatchResult, None, List, ◌⊎◌, vec_capacity, ◌^◌};
+ghost use Rattle.outside.specs.Disk.{EachImage, IfTold, SameRest, IsImage, clean, burnt_by};
 ghost use Rattle.outside.specs.Faults.{Rose};
 ghost use Rattle.net_base.specs.Names.{IsIdentity};
-ghost use Rattle.disk_journal.specs.Journal.{IsReady, HasRoom, IsSound, IsYoung, IsOldOrNew, GivesUp, WasSpelt, journal_of, is_full_at, entry, refusal, placed, size_of};
+ghost use Rattle.disk_journal.specs.Journal.{IsReady, HasRoom, IsSound, IsYoung, IsOldOrNew, GivesUp, WasSpelt, journal_of, is_full_at, entry, refusal, placed, size_of, is_unformatted, formatted, opening_calls};
 
 use crate::fault::{AppendFault, OpenFault};
 use crate::open::prepare;
@@ -24,7 +24,7 @@ pub struct OpenRefused<D: Disk> {
 /// is its gate, 1 where it is open, the length of its body in four bytes, most significant first, and its body of at most
 /// 524,288 bytes. The next gate stands behind it. The first gate that isn't open ends the journal.
 ///
-/// Each step of formatting and of appending is one write and one sync.
+/// Each step of formatting and of appending is one write and one sync, as a fuse of the disk counts them.
 #[derive(Drop)]
 pub struct Journal<D: Disk> {
     disk: D,
@@ -65,10 +65,10 @@ impl<D: Disk> Journal<D> {
     ///
     /// It syncs the disk and reads all of it. Where no journal was begun or finished, it formats the disk: byte 0 is
     /// written as 0, unless it reads so, then bytes 1 to 16, then byte 0 as 1, and each of these writes is synced. No other
-    /// disk is written.
+    /// disk is written: at each moment a power cut leaves there what it might have left before the call.
     ///
-    /// The identity's party and notary are below 16, and it has 1 to 16 nodes. What a refusal leaves spells the same
-    /// records, but for [`OpenFault::Fault`]: after that it spells records that a power cut might have left before.
+    /// The identity's party and notary are below 16, and it has 1 to 16 nodes. A refusal leaves each byte as it was, synced,
+    /// but for [`OpenFault::Fault`]: what that leaves spells records that a power cut might have left before.
     pub fn open(
         alloc: Global,
         disk: D,
@@ -87,6 +87,18 @@ impl<D: Disk> Journal<D> {
         // Over a disk that had length 0 once nothing else can come.
         ensures begun { (D.seen disk).tells ≡ true → IsYoung identity (D.seen disk).state.kept → IfErr result (λ r. GivesUp r.why) }
         ensures kept { IfErr result (λ r. (r.why ≡ OpenFault.Fault → ⊥) → IfTold (D.seen disk) (D.seen r.disk) (λ d e. journal_of e.kept ≡ journal_of d.kept)) }
+
+        // Only a disk on which no journal was begun, or not finished, is written, and that not before a refusal for want of
+        // memory.
+        ensures left { IfOk result (λ r. IfTold (D.seen disk) r.0.disk (λ d e. e.kept ≡ formatted identity d.kept)) }
+        ensures bytes { IfErr result (λ r. (r.why ≡ OpenFault.Fault → ⊥) → IfTold (D.seen disk) (D.seen r.disk) (λ d e. (e.kept ≡ d.kept) × (e.now ≡ clean e.kept))) }
+        ensures unwritten { MatchResult result
+            (λ r. IfTold (D.seen disk) r.0.disk (λ d e. is_unformatted d.kept ≡ false → EachImage d e (IsImage d.now)))
+            (λ r. IfTold (D.seen disk) (D.seen r.disk) (λ d e. is_unformatted d.kept ≡ false → EachImage d e (IsImage d.now) × IsImage d.now e.kept)) }
+
+        // A fuse counts each write and sync.
+        ensures fuse { (D.seen disk).tells ≡ true → IfOk result (λ r. r.0.disk.fuse ≡ burnt_by (opening_calls (D.seen disk).state.kept) (D.seen disk).fuse) }
+        ensures power { IfOk result (λ r. ((D.seen disk).power ≡ true) × (r.0.disk.power ≡ true)) }
 
         // At each moment each image spells a list that an image spelt as the call began,
         ensures moments { MatchResult result
@@ -167,8 +179,8 @@ impl<D: Disk> Journal<D> {
         self.count >= 65_536 || self.length > 133_693_435
     }
 
-    /// Appends a record, by four calls of the disk: the length, the body and a closed gate behind the open place are
-    /// written and synced, and then the gate in front is opened and synced.
+    /// Appends a record, by four writes and syncs of the disk: the length, the body and a closed gate behind the open place
+    /// are written and synced, and then the gate in front is opened and synced.
     ///
     /// The body has at most 524,288 bytes, and there is room for it. No earlier call answered [`AppendFault::Fault`].
     /// After `Ok` each image has the record. After [`AppendFault::Fault`] it may stand or not.
@@ -181,6 +193,8 @@ impl<D: Disk> Journal<D> {
         ensures ready { OnOk result (IsReady self.new) }
         ensures done { OnOk result (IfTold self.old.disk self.new.disk (λ d e. journal_of e.kept ≡ journal_of d.kept ++ body.now ∷ [])) }
         ensures counts { OnOk result ((self.new.length ≡ self.old.length + 5 + length body.now) × (self.new.count ≡ self.old.count + 1)) }
+        ensures fuse { OnOk result (self.new.disk.fuse ≡ burnt_by 4 self.old.disk.fuse) }
+        ensures power { OnOk result ((self.old.disk.power ≡ true) × (self.new.disk.power ≡ true)) }
 
         // At each moment each image spells the old records or these with the new one, and is sound.
         ensures moments { IfTold self.old.disk self.new.disk (λ d e. EachImage d e (λ c. IsOldOrNew (journal_of d.kept) body.now c × IsSound self.old.of c)) }

@@ -1,11 +1,11 @@
 ghost use Rattle.std.specs.Prelude.{◌^◌, ◌≡◌, ◌≤◌, ◌<◌, ◌+◌, ◌-◌, ◌⊎◌, ◌++◌, ◌∷◌, [], ℕ, List, length, take, drop, true, false, Some, None, IfOk, IfErr, slice_index, ◌≢◌, OnOk, OnErr, IsOk, IsErrOf};
-ghost use Rattle.outside.specs.Disk.{EachImage, IfTold, SameRest, IsImage, clean};
+ghost use Rattle.outside.specs.Disk.{EachImage, IfTold, SameRest, IsImage, clean, burnt, burnt_by};
 ghost use Rattle.outside.specs.Faults.{Rose, HasCause};
 ghost use Rattle.net_base.specs.Names.{IsIdentity};
-ghost use Rattle.disk_journal.specs.Journal.{GivesUp, WasSpelt, IsSound, IsYoung, header, journal_of, is_unformatted, refusal, placed, size_of, record_limit, extent, Opened};
+ghost use Rattle.disk_journal.specs.Journal.{GivesUp, WasSpelt, IsSound, IsYoung, header, journal_of, is_unformatted, refusal, placed, size_of, record_limit, extent, Opened, formatted, is_shut, formatting_calls, opening_calls};
 
 use crate::fault::OpenFault;
-use crate::scan::{Reading, found, is_same, is_unformatted, read_records};
+use crate::scan::{Reading, found, is_same, is_shut, is_unformatted, read_records};
 use net_base::{Identity, RecordList};
 use outside::{Disk, Failed, write_synced};
 use std::alloc::Global;
@@ -17,7 +17,9 @@ fn read_all<D: Disk>(alloc: Global, disk: &mut D) -> Result<Vec<u8>, OpenFault>
     ensures done { OnOk result (IfTold (D.seen disk.old) (D.seen disk.new) (λ d e. (e.kept ≡ d.kept) × (e.now ≡ clean e.kept))) }
     ensures moments { IfTold (D.seen disk.old) (D.seen disk.new) (λ d e. EachImage d e (IsImage d.now)) }
     ensures kept { IfTold (D.seen disk.old) (D.seen disk.new) (λ d e. IsImage d.now e.kept) }
-    ensures memory { IsErrOf result OpenFault.Memory → IfTold (D.seen disk.old) (D.seen disk.new) (λ d e. e.kept ≡ d.kept) }
+    ensures memory { IsErrOf result OpenFault.Memory → IfTold (D.seen disk.old) (D.seen disk.new) (λ d e. (e.kept ≡ d.kept) × (e.now ≡ clean e.kept)) }
+    ensures fuse { OnOk result ((D.seen disk.new).fuse ≡ burnt (D.seen disk.old).fuse) }
+    ensures power { OnOk result (((D.seen disk.old).power ≡ true) × ((D.seen disk.new).power ≡ true)) }
     ensures only { IfErr result (λ why. GivesUp why) }
     ensures later { (D.seen disk.old).faults ≤ (D.seen disk.new).faults }
     ensures cause { IsErrOf result OpenFault.Fault → Rose (D.seen disk.old).faults (D.seen disk.new).faults }
@@ -40,6 +42,8 @@ fn finish<D: Disk>(disk: &mut D, id: &Identity) -> Result<(), Failed>
     ensures done { OnOk result (IfTold (D.seen disk.old) (D.seen disk.new) (λ d e. (e.kept ≡ header id.now ++ 0 ∷ []) × (e.now ≡ clean e.kept))) }
     ensures moments { IfTold (D.seen disk.old) (D.seen disk.new) (λ d e. EachImage d e (λ c. length c ≤ 17)) }
     ensures kept { IfTold (D.seen disk.old) (D.seen disk.new) (λ d e. length e.kept ≤ 17) }
+    ensures fuse { OnOk result ((D.seen disk.new).fuse ≡ burnt_by 4 (D.seen disk.old).fuse) }
+    ensures power { OnOk result (((D.seen disk.old).power ≡ true) × ((D.seen disk.new).power ≡ true)) }
     ensures calm { (D.seen disk.old).calm ≡ true → IsOk result × ((D.seen disk.new).calm ≡ true) }
     ensures cause { HasCause (D.seen disk.old).faults (D.seen disk.new).faults result }
     ensures rest { SameRest (D.seen disk.old) (D.seen disk.new) }
@@ -82,6 +86,8 @@ fn format<D: Disk>(disk: &mut D, id: &Identity, is_shut: bool) -> Result<(), Fai
     ensures done { OnOk result (IfTold (D.seen disk.old) (D.seen disk.new) (λ d e. (e.kept ≡ header id.now ++ 0 ∷ []) × (e.now ≡ clean e.kept))) }
     ensures moments { IfTold (D.seen disk.old) (D.seen disk.new) (λ d e. EachImage d e (λ c. length c ≤ 17)) }
     ensures kept { IfTold (D.seen disk.old) (D.seen disk.new) (λ d e. length e.kept ≤ 17) }
+    ensures fuse { OnOk result ((D.seen disk.new).fuse ≡ burnt_by (formatting_calls is_shut) (D.seen disk.old).fuse) }
+    ensures power { OnOk result (((D.seen disk.old).power ≡ true) × ((D.seen disk.new).power ≡ true)) }
     ensures calm { (D.seen disk.old).calm ≡ true → IsOk result × ((D.seen disk.new).calm ≡ true) }
     ensures cause { HasCause (D.seen disk.old).faults (D.seen disk.new).faults result }
     ensures rest { SameRest (D.seen disk.old) (D.seen disk.new) }
@@ -120,6 +126,7 @@ fn judge(alloc: Global, bytes: &[u8], id: &Identity) -> Result<Reading, OpenFaul
 }
 
 /// Formats a disk on which no journal was begun, or not finished.
+#[tactic(auto, unfolding(crate::specs::Journal::is_shut))]
 fn begin<D: Disk>(alloc: Global, disk: &mut D, id: &Identity, bytes: &[u8]) -> Result<(), OpenFault>
     requires start { (D.seen disk.old).tells ≡ true → ((D.seen disk.old).state.now ≡ clean (D.seen disk.old).state.kept) × (bytes.now ≡ (D.seen disk.old).state.kept) }
     requires short { length bytes.now ≤ 17 }
@@ -127,6 +134,9 @@ fn begin<D: Disk>(alloc: Global, disk: &mut D, id: &Identity, bytes: &[u8]) -> R
     ensures done { OnOk result (IfTold (D.seen disk.old) (D.seen disk.new) (λ d e. (e.kept ≡ header id.now ++ 0 ∷ []) × (e.now ≡ clean e.kept))) }
     ensures moments { IfTold (D.seen disk.old) (D.seen disk.new) (λ d e. EachImage d e (λ c. length c ≤ 17)) }
     ensures kept { IfTold (D.seen disk.old) (D.seen disk.new) (λ d e. length e.kept ≤ 17) }
+    ensures memory { IsErrOf result OpenFault.Memory → (D.seen disk.new).state ≡ (D.seen disk.old).state }
+    ensures fuse { OnOk result ((D.seen disk.new).fuse ≡ burnt_by (formatting_calls (is_shut bytes.now)) (D.seen disk.old).fuse) }
+    ensures power { OnOk result (((D.seen disk.old).power ≡ true) × ((D.seen disk.new).power ≡ true)) }
     ensures only { IfErr result (λ why. GivesUp why) }
     ensures later { (D.seen disk.old).faults ≤ (D.seen disk.new).faults }
     ensures cause { IsErrOf result OpenFault.Fault → Rose (D.seen disk.old).faults (D.seen disk.new).faults }
@@ -134,8 +144,7 @@ fn begin<D: Disk>(alloc: Global, disk: &mut D, id: &Identity, bytes: &[u8]) -> R
     ensures of_file { ((D.seen disk.new).of_file ≡ (D.seen disk.old).of_file) × ((D.seen disk.new).tells ≡ (D.seen disk.old).tells) }
 {
     disk.make_room(alloc, 17, 3)?;
-    let is_shut = !bytes.is_empty() && bytes[0] == 0;
-    format(disk, id, is_shut)?;
+    format(disk, id, is_shut(bytes))?;
     Ok(())
 }
 
@@ -149,6 +158,12 @@ pub fn prepare<D: Disk>(alloc: Global, disk: &mut D, id: &Identity) -> Result<Re
     ensures stands { IfOk result (λ r. IfTold (D.seen disk.old) (D.seen disk.new) (λ d e. Opened id.now r.gate r.count d e)) }
     ensures refused { (D.seen disk.old).tells ≡ true → IfErr result (λ why. GivesUp why ⊎ (refusal id.now (D.seen disk.old).state.kept ≡ Some why)) }
     ensures same { (IsErrOf result OpenFault.Fault → ⊥) → IfTold (D.seen disk.old) (D.seen disk.new) (λ d e. journal_of e.kept ≡ journal_of d.kept) }
+
+    ensures left { OnOk result (IfTold (D.seen disk.old) (D.seen disk.new) (λ d e. e.kept ≡ formatted id.now d.kept)) }
+    ensures bytes { IfErr result (λ why. (why ≡ OpenFault.Fault → ⊥) → IfTold (D.seen disk.old) (D.seen disk.new) (λ d e. (e.kept ≡ d.kept) × (e.now ≡ clean e.kept))) }
+    ensures unwritten { IfTold (D.seen disk.old) (D.seen disk.new) (λ d e. is_unformatted d.kept ≡ false → EachImage d e (IsImage d.now) × IsImage d.now e.kept) }
+    ensures fuse { (D.seen disk.old).tells ≡ true → OnOk result ((D.seen disk.new).fuse ≡ burnt_by (opening_calls (D.seen disk.old).state.kept) (D.seen disk.old).fuse) }
+    ensures power { OnOk result (((D.seen disk.old).power ≡ true) × ((D.seen disk.new).power ≡ true)) }
 
     // At each moment each image spells a list that an image spelt as the call began,
     ensures moments { IfTold (D.seen disk.old) (D.seen disk.new) (λ d e. EachImage d e (WasSpelt d)) }

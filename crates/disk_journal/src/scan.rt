@@ -1,5 +1,5 @@
 ghost use Rattle.std.specs.Prelude.{◌≡◌, ◌≤◌, ◌<◌, ◌+◌, ◌-◌, ◌++◌, ◌∷◌, [], ◌^◌, ℕ, length, take, drop, true, Some, None, IfOk, if◌then◌else◌, nat_lt, ◌&&◌};
-ghost use Rattle.disk_journal.specs.Journal.{is_whole, is_closed, length_at, bodies, extent, damage, placed, size_of, found, identity_of, named, is_same, is_unformatted, magic};
+ghost use Rattle.disk_journal.specs.Journal.{is_whole, is_closed, length_at, bodies, extent, damage, placed, size_of, found, identity_of, named, is_same, is_unformatted, is_shut, magic};
 ghost use Rattle.std.specs.Str.{bytes_eq};
 
 use net_base::{ByteList, Identity, Party, RecordList};
@@ -105,6 +105,14 @@ pub fn is_unformatted(bytes: &[u8]) -> bool
     ensures { result ≡ is_unformatted bytes.now }
 {
     bytes.len() < 17 || (bytes.len() == 17 && bytes[0] != 1)
+}
+
+/// Whether byte 0 reads 0.
+#[tactic(auto, unfolding(crate::specs::Journal::is_shut))]
+pub fn is_shut(bytes: &[u8]) -> bool
+    ensures { result ≡ is_shut bytes.now }
+{
+    !bytes.is_empty() && bytes[0] == 0
 }
 
 /// The identity that three bytes spell.

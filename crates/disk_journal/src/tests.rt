@@ -96,3 +96,169 @@ fn a_cut_leaves_the_old_or_the_new(rt: HostRuntime) -> Result<(), Fail> {
     }
     Ok(())
 }
+
+/// A disk that keeps these bytes, and nothing is pending.
+fn disk_with(alloc: Global, bytes: &[u8]) -> Option<MemDisk> {
+    let mut disk = MemDisk::new(alloc);
+    disk.make_room(alloc, bytes.len() as u64, 1).ok()?;
+    disk.write_at(0, bytes).ok()?;
+    disk.sync().ok()?;
+    Some(disk)
+}
+
+/// All that a read gives, where the disk has power.
+fn content(alloc: Global, disk: &mut MemDisk) -> Result<Vec<u8>, Fail> {
+    let n = disk.length().or(Err("length"))?;
+    let mut bytes = vec![in alloc; 0u8; n as usize]?;
+    disk.read_at(0, &mut bytes).or(Err("read"))?;
+    Ok(bytes)
+}
+
+/// Why an opening was refused, or nothing, and its disk.
+fn opened(alloc: Global, disk: MemDisk) -> (Option<OpenFault>, MemDisk) {
+    match Journal::open(alloc, disk, NODE) {
+        Ok((journal, _)) => (None, journal.into_disk()),
+        Err(refused) => (Some(refused.why), refused.disk),
+    }
+}
+
+/// Why an opening over these bytes was refused whose power went at that write or sync, and, once it was back, the next one;
+/// and whether that left a new journal.
+fn opened_twice(
+    alloc: Global,
+    bytes: &[u8],
+    calls: u64,
+    outcome: u8,
+) -> Result<(Option<OpenFault>, Option<OpenFault>, bool), Fail> {
+    let Some(mut disk) = disk_with(alloc, bytes) else {
+        return Err("no disk".into());
+    };
+    if calls > 0 && outcome <= 3 {
+        let _armed = disk.cut_power(calls, outcome);
+    }
+    let (first, mut disk) = opened(alloc, disk);
+    disk.restore_power();
+    let (second, mut disk) = opened(alloc, disk);
+    let left = content(alloc, &mut disk)?;
+    Ok((first, second, left.as_slice() == FRESH.as_slice()))
+}
+
+/// Images over which an opening formats, and a new journal; and how many writes and syncs an opening takes there.
+const BEGUN: [(&[u8], u64); 8] = [
+    (&[], 7),
+    (&[0], 5),
+    (&[0xA5], 7),
+    (&[0, b'C', b'O', b'R'], 5),
+    (&[1; 16], 7),
+    (&[0; 17], 5),
+    (&[0xA5; 17], 7),
+    (&FRESH, 1),
+];
+
+#[test]
+fn an_opening_that_was_cut_is_made_good_by_the_next(rt: HostRuntime) -> Result<(), Fail> {
+    let alloc = rt.alloc();
+    for (bytes, total) in BEGUN {
+        for calls in 1..9 {
+            for outcome in 0..4 {
+                let said = opened_twice(alloc, bytes, calls, outcome)?;
+                let wanted = (calls <= total).then_some(OpenFault::Fault);
+                assert_eq!(rt; said, (wanted, None, true), "{total} {calls} {outcome}");
+            }
+        }
+    }
+    Ok(())
+}
+
+/// Why an opening over these bytes was refused, if it was, and whether it left them as they were. A second write or sync
+/// would have failed.
+fn judged(alloc: Global, head: &[u8], tail: &[u8]) -> Result<(Option<OpenFault>, bool), Fail> {
+    let mut bytes = head.to_vec(alloc)?;
+    bytes.extend_from_slice(tail)?;
+    let Some(mut disk) = disk_with(alloc, &bytes) else {
+        return Err("no disk".into());
+    };
+    let _armed = disk.cut_power(2, 0);
+    let (why, mut disk) = opened(alloc, disk);
+    let left = content(alloc, &mut disk)?;
+    Ok((why, left.as_slice() == bytes.as_slice()))
+}
+
+/// The header with this version, party, number of nodes, notary and last byte.
+fn header(version: u8, party: u8, nodes: u8, notary: u8, last: u8) -> [u8; 16] {
+    [
+        1, b'C', b'O', b'R', b'D', b'A', b'J', b'N', b'L', version, party, nodes, notary, 0, 0,
+        last,
+    ]
+}
+
+/// The identity of a party in a network of so many nodes with that notary.
+fn node(party: u8, nodes: u8, notary: u8) -> Identity {
+    Identity {
+        party: Party(party),
+        nodes,
+        notary: Party(notary),
+    }
+}
+
+#[test]
+fn a_foreign_journal_is_refused_and_left(rt: HostRuntime) -> Result<(), Fail> {
+    let alloc = rt.alloc();
+    let cases = [
+        (header(1, 1, 3, 0, 0), None),
+        (header(2, 1, 3, 0, 0), Some(OpenFault::NotAJournal)),
+        (header(1, 16, 3, 0, 0), Some(OpenFault::NotAJournal)),
+        (header(1, 1, 0, 0, 0), Some(OpenFault::NotAJournal)),
+        (header(1, 1, 17, 0, 0), Some(OpenFault::NotAJournal)),
+        (header(1, 1, 3, 16, 0), Some(OpenFault::NotAJournal)),
+        (header(1, 1, 3, 0, 7), Some(OpenFault::NotAJournal)),
+        ([0; 16], Some(OpenFault::NotAJournal)),
+        (
+            header(1, 2, 3, 0, 0),
+            Some(OpenFault::WrongNode {
+                found: node(2, 3, 0),
+            }),
+        ),
+        (
+            header(1, 1, 16, 0, 0),
+            Some(OpenFault::WrongNode {
+                found: node(1, 16, 0),
+            }),
+        ),
+        (
+            header(1, 1, 3, 15, 0),
+            Some(OpenFault::WrongNode {
+                found: node(1, 3, 15),
+            }),
+        ),
+    ];
+    for (head, why) in cases {
+        let said = judged(alloc, &head, &[0, 0])?;
+        assert_eq!(rt; said, (why, true));
+    }
+    Ok(())
+}
+
+#[test]
+fn a_damaged_journal_is_refused_and_left(rt: HostRuntime) -> Result<(), Fail> {
+    let alloc = rt.alloc();
+    let cases: &[(&[u8], Option<OpenFault>)] = &[
+        (&[0, 1], None),
+        (&[1, 0, 0, 0, 1, 9, 0], None),
+        (&[1, 0, 0, 0, 1, 9, 7, 1], None),
+        (&[1, 0, 0, 0, 0, 0], None),
+        (&[1], Some(OpenFault::Damaged { at: 16 })),
+        (&[1, 0, 0, 0, 1, 9], Some(OpenFault::Damaged { at: 16 })),
+        (&[1, 0, 8, 0, 1, 9, 0], Some(OpenFault::Damaged { at: 16 })),
+        (&[1, 0, 0, 0, 1, 9, 1], Some(OpenFault::Damaged { at: 22 })),
+        (
+            &[1, 0, 0, 0, 0, 1, 0, 0, 0, 2, 5, 6],
+            Some(OpenFault::Damaged { at: 21 }),
+        ),
+    ];
+    for (tail, why) in cases {
+        let said = judged(alloc, &header(1, 1, 3, 0, 0), tail)?;
+        assert_eq!(rt; said, (*why, true));
+    }
+    Ok(())
+}

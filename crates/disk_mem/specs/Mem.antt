@@ -1,6 +1,6 @@
 -- A disk in memory, as contracts see it.
 use Rattle.std.specs.Prelude.{◌⊎◌, ◌≡◌, ℕ, ◌+◌, ◌-◌, ◌*◌, ◌/◌, take, drop, ◌<◌, ◌≤◌, min, List, [], ◌∷◌, length, slice_index, Contains, map, Vec, Option, Some, None, vec_len, vec_capacity, Bool, true, false, not, ◌&&◌, ◌==◌}
-use Rattle.outside.specs.Disk.{DiskState, DiskView, Durable, IsImage, IsUntouched, overwritten, written}
+use Rattle.outside.specs.Disk.{DiskState, DiskView, Durable, IsImage, IsUntouched, overwritten, written, blows}
 use Rattle.disk_mem.specs.declared.lay.Medium.{Medium}
 use Rattle.disk_mem.specs.declared.lay.Last.{Last}
 use Rattle.disk_mem.specs.declared.lay.Fuse.{Fuse}
@@ -75,11 +75,6 @@ has_no_fuse (Some f) = false
 -- as every disk is seen: it tells its content, is no file, and is calm where it has power and no fuse
 abbrev pub disk_of : MemView → DiskView
 disk_of m = record { tells = true; state = m.state; faults = m.faults; calm = m.power && has_no_fuse m.fuse; power = m.power; fuse = m.fuse; of_file = false; room_end = m.room_end; room_writes = m.room_writes }
-
--- this write or sync takes the power
-abbrev pub blows : Option (ℕ × ℕ) → Bool
-blows None = false
-blows (Some f) = f.0 == 1
 
 -- a write or a sync is done
 abbrev pub answers : MemView → Bool

@@ -1,7 +1,7 @@
 ghost use Rattle.std.specs.Prelude.{◌≡◌, ◌≤◌, ◌<◌, ◌+◌, ◌↔◌, [], ℕ, length, take, drop, true, false, not, IsOk, Some, None, OnOk, OnErr, IfOk};
-ghost use Rattle.outside.specs.Disk.{CutsPower, IsImage, Syncs, written, burnt, clean};
+ghost use Rattle.outside.specs.Disk.{CutsPower, IsImage, Syncs, written, burnt, blows, clean};
 ghost use Rattle.outside.specs.Faults.{HasCause, Rose};
-ghost use Rattle.disk_mem.specs.Mem.{CutsBy, answers, blows, disk_of, wrote};
+ghost use Rattle.disk_mem.specs.Mem.{CutsBy, answers, disk_of, wrote};
 
 use crate::lay::{Fuse, Last, Medium, copy_out, cover, leave, note, put_bytes, remember, settle};
 use outside::{AttachFault, Bay, Disk, Failed, NoFuse};
@@ -11,8 +11,9 @@ use std::snapshot::Snapshot;
 
 /// A disk in memory, whose power can be cut.
 ///
-/// A read goes by what a read gives, and a sync copies the ranges written since the last one, so that appending n records
-/// moves O(n) bytes in all. Of each earlier moment it keeps what contracts read, which takes no bytes.
+/// It is built so that a read copies what a read gives, and a sync copies the ranges written since the last one: records
+/// that are appended are not copied again by later calls, but where the disk's room grows. Of each earlier moment it keeps
+/// what contracts read, which takes no bytes.
 #[derive(Drop)]
 pub struct MemDisk {
     content: Vec<u8>,
@@ -193,6 +194,7 @@ impl Disk for MemDisk {
     fn length(&mut self) -> Result<u64, Failed>
         ensures answers { IsOk result ↔ (self.old.power ≡ true) }
         ensures value { IfOk result (λ n. n ≡ length self.old.state.kept) }
+        ensures done { OnOk result (self.new ≡ self.old) }
         ensures same { self.new ≡ record self.old { faults = self.new.faults } }
         ensures cause { HasCause self.old.faults self.new.faults result }
     {
@@ -206,6 +208,7 @@ impl Disk for MemDisk {
         requires { at + length into.old ≤ length self.old.state.kept }
         ensures answers { IsOk result ↔ (self.old.power ≡ true) }
         ensures value { OnOk result (into.new ≡ take (length into.old) (drop at self.old.state.kept)) }
+        ensures done { OnOk result (self.new ≡ self.old) }
         ensures same { self.new ≡ record self.old { faults = self.new.faults } }
         ensures cause { HasCause self.old.faults self.new.faults result }
     {

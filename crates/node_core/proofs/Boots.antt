@@ -1,11 +1,11 @@
 -- How a journal is opened.
-use Rattle.std.proofs.Common.{◌≡◌, ◌⊎◌, inl, inr, ⊎_elim, ℕ, ◌+◌, ◌≤◌, List, [], ◌∷◌, length, map, Some, None, Err, true, refl, sym, ◌∙◌, ap, subst, arith}
+use Rattle.std.proofs.Common.{◌≡◌, ◌⊎◌, inl, inr, ⊎_elim, ℕ, ◌+◌, ◌≤◌, List, [], ◌∷◌, length, map, Some, None, Err, true, false, refl, sym, ◌∙◌, ap, subst, arith}
 use Rattle.std.proofs.lemmas.List.{length-map}
 use Rattle.outside.specs.Disk.{DiskView, IsImage, EachImage, IfTold, clean}
 use Rattle.outside.specs.Faults.{Rose}
 use Rattle.outside.proofs.Moments.{at_now}
 use Rattle.net_base.specs.declared.names.Identity.{Identity}
-use Rattle.disk_journal.specs.Journal.{JournalView, IsReady, IsSound, IsYoung, GivesUp, WasSpelt, journal_of, refusal, placed, size_of}
+use Rattle.disk_journal.specs.Journal.{JournalView, IsReady, IsSound, IsYoung, GivesUp, WasSpelt, journal_of, is_unformatted, formatted, refusal, placed, size_of}
 use Rattle.disk_journal.specs.declared.fault.OpenFault.{OpenFault}
 use Rattle.disk_journal.specs.declared.fault.OpenFault.TheVariants as open_fault
 use Rattle.node_tables.specs.declared.boot.RebuildFault.{RebuildFault}
@@ -41,6 +41,7 @@ pub record Opening (id : Identity) (old : DiskView) (journal : JournalView) (lis
   pub format : old.tells ≡ true → refusal id old.state.kept ≡ None
   pub told : old.tells ≡ true → list ≡ placed 16 (journal_of old.state.kept)
   pub ready : IsReady journal × (journal.of ≡ id)
+  pub left : IfTold old journal.disk (λ d e. e.kept ≡ formatted id d.kept)
   pub same : IfTold old journal.disk (λ d e. journal_of e.kept ≡ journal_of d.kept)
   pub counts : (journal.count ≡ length list) × (journal.length ≡ 17 + size_of list) × (journal.count ≤ 65536)
   pub moments : IfTold old journal.disk (λ d e. EachImage d e (WasSpelt d))
@@ -80,6 +81,7 @@ opening_opens id old journal list o = record {
   few = omega (arith, o.counts.0, o.counts.2);
   told = o.told;
   format = o.format;
+  left = o.left;
   same = o.same;
   calm = o.calm;
 }
@@ -88,6 +90,7 @@ opening_opens id old journal list o = record {
 pub record Closing (id : Identity) (old : DiskView) (why : OpenFault) (new : DiskView) : Type 0 where
   pub refused : old.tells ≡ true → GivesUp why ⊎ (refusal id old.state.kept ≡ Some why)
   pub kept : (why ≡ open_fault.Fault → ⊥) → IfTold old new (λ d e. journal_of e.kept ≡ journal_of d.kept)
+  pub bytes : (why ≡ open_fault.Fault → ⊥) → IfTold old new (λ d e. (e.kept ≡ d.kept) × (e.now ≡ clean e.kept))
   pub moments : IfTold old new (λ d e. EachImage d e (WasSpelt d) × WasSpelt d e.kept)
   pub young : IfTold old new (λ d e. ((c : List ℕ) → IsImage d.now c → IsYoung id c) → EachImage d e (IsYoung id))
   pub sound : IfTold old new (λ d e. ((c : List ℕ) → IsImage d.now c → IsSound id c) → EachImage d e (IsSound id))
@@ -115,6 +118,7 @@ unopened f id old new why c = record {
   moves = record { file = c.rest.0; tells = c.rest.1; later = c.later; images = λ told. (c.moments told).0; kept = λ told. (c.moments told).1 };
   form = record { sound = c.sound; young = c.young };
   same = λ other. c.kept (λ is. other (ap boot_of is));
+  bytes = λ other told journal. (c.bytes (λ is. other (ap boot_of is)) told).0;
   calm = λ calm. (c.calm calm).0;
   cause = inl (why, refl, refuses_roomless id old new why (refuses id old new why c));
 }
@@ -123,7 +127,11 @@ unfit : {F : Type 0} (f : Reads F) (id : Identity) (old new : DiskView) (list : 
 unfit f id old new list (rebuild_fault.Damaged at) said o = (list, o, said)
 unfit f id old new list rebuild_fault.Memory said o = (list, o)
 
+-- a disk on which a journal was begun and finished is left as it is
+formatted_stays : (id : Identity) (x : List ℕ) → is_unformatted x ≡ false → formatted id x ≡ x
+formatted_stays id x is = rw is refl
+
 pub unbooted : {F : Type 0} (f : Reads F) (id : Identity) (old : DiskView) (journal : JournalView) (list : List (ℕ × List ℕ)) (why : RebuildFault) → Opening id old journal list → RebuildsAs f id.nodes id.party list (Err why) → Unbooted f id (roomless old) (boot_by why) (roomless journal.disk)
 unbooted f id old journal list why o said =
     let opens = opening_opens id old journal list o in
-    record { moves = opens.moves; form = opens.form; same = λ other. opens.same; calm = opens.calm; cause = inr (unfit f id (roomless old) (roomless journal.disk) list why said opens) }
+    record { moves = opens.moves; form = opens.form; same = λ other. opens.same; bytes = λ other told is. opens.left told ∙ formatted_stays id old.state.kept is; calm = opens.calm; cause = inr (unfit f id (roomless old) (roomless journal.disk) list why said opens) }

@@ -1,8 +1,8 @@
 -- A node that is up: its power is cut, or it takes no more records.
 use Rattle.std.proofs.Common.{◌≡◌, inl, inr, ℕ, zero, suc, ◌<◌, List, [], Option, Some, None, Result, Ok, Err, IsOk, OnOk, Bool, true, false, max, refl, sym, ◌∙◌, ap, subst, arith}
 use Rattle.std.specs.Result.{is_err}
-use Rattle.outside.specs.Disk.{DiskState, DiskView, IsImage, EachImage, CutsPower, clean}
-use Rattle.outside.proofs.Moments.{started, after_failed_read}
+use Rattle.outside.specs.Disk.{DiskState, DiskView, IsImage, CutsPower, clean}
+use Rattle.outside.proofs.Moments.{started, after_cut}
 use Rattle.net_base.specs.declared.names.Identity.{Identity}
 use Rattle.net_base.specs.declared.causes.Event.{Event}
 use Rattle.net_base.specs.declared.values.Moment.{Moment}
@@ -33,11 +33,6 @@ pub where_ok : {T E : Type 0} (P : Type 0) (r : Result T E) → is_err r ≡ fal
 where_ok P (Ok u) is h = h
 where_ok P (Err u) is h = cc
 
--- the power went
-cut_images : (d e : DiskState) (P : List ℕ → Type 0) → ((c : List ℕ) → IsImage d.now c → P c) → CutsPower d e → EachImage d e P
-cut_images d e P now (inl lost) = after_failed_read d e P now (inr lost)
-cut_images d e P now (inr same) = after_failed_read d e P now (inl same.0)
-
 cut_kept : (d e : DiskState) → CutsPower d e → IsImage d.now e.kept
 cut_kept d e (inl lost) = lost.left
 cut_kept d e (inr same) = subst (λ (x : DiskState). IsImage d.now x.kept) (sym same.0) (subst (λ s. IsImage s d.kept) (sym same.1) (kept_image d.kept))
@@ -53,10 +48,10 @@ cuts_now id outcome old new fuse calm memory cut = record {
     file = cut.file;
     tells = cut.tells;
     later = omega (arith, cut.faults);
-    images = λ told. cut_images old.state new.state (OneOf old.state) (λ c i. i) (cut.state told);
+    images = λ told. after_cut old.state new.state (OneOf old.state) (λ c i. i) (cut.state told);
     kept = λ told. cut_kept old.state new.state (cut.state told);
   };
-  form = record { sound = λ told was. cut_images old.state new.state (IsSound id) was (cut.state told); young = λ told was. cut_images old.state new.state (IsYoung id) was (cut.state told) };
+  form = record { sound = λ told was. after_cut old.state new.state (IsSound id) was (cut.state told); young = λ told was. after_cut old.state new.state (IsYoung id) was (cut.state told) };
   dark = λ now. (cut.power, cut.fuse);
   armed = λ later. absurd (omega (arith, later));
   faults = cut.faults;

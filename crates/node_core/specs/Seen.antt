@@ -13,7 +13,7 @@ use Rattle.net_model.specs.Environment.{Environment}
 use Rattle.net_model.specs.State.{Record, Effect}
 use Rattle.net_model.specs.Steps.{place, body_in, stamp_in, node_step, next_cause}
 use Rattle.net_model.specs.Enabled.{picked}
-use Rattle.disk_journal.specs.Journal.{JournalView, IsReady, WasSpelt, journal_of, refusal, placed}
+use Rattle.disk_journal.specs.Journal.{JournalView, IsReady, WasSpelt, journal_of, is_unformatted, formatted, refusal, placed}
 use Rattle.disk_journal.specs.declared.fault.OpenFault.{OpenFault}
 use Rattle.disk_journal.specs.declared.fault.OpenFault.TheVariants as open_fault
 use Rattle.flow_records.specs.declared.step.Step.{Step}
@@ -205,6 +205,7 @@ pub record Opens (id : Identity) (old new : DiskView) (list : List (ℕ × List 
   pub few : length list ≤ 65536
   pub told : old.tells ≡ true → list ≡ placed 16 (journal_of old.state.kept)
   pub format : old.tells ≡ true → refusal id old.state.kept ≡ None
+  pub left : IfTold old new (λ d e. e.kept ≡ formatted id d.kept)
   pub same : IfTold old new (λ d e. journal_of e.kept ≡ journal_of d.kept)
   pub calm : old.calm ≡ true → new.calm ≡ true
 
@@ -228,11 +229,12 @@ Unfit frame_at id old boot_fault.Fault new = ⊥
 Unfit frame_at id old boot_fault.NotAJournal new = ⊥
 Unfit frame_at id old (boot_fault.WrongNode found) new = ⊥
 
--- a boot was refused: what is kept spells the same journal, but after a fault
+-- a boot was refused: what is kept spells the same journal, and is the same bytes where a journal was begun and finished, but after a fault
 pub record Unbooted {F : Type 0} (frame_at : Reads F) (id : Identity) (old : DiskView) (why : BootFault) (new : DiskView) : Type 0 where
   pub moves : Moves old new WasSpelt
   pub form : KeepsForm id old new
   pub same : (why ≡ boot_fault.Fault → ⊥) → IfTold old new (λ d e. journal_of e.kept ≡ journal_of d.kept)
+  pub bytes : (why ≡ boot_fault.Fault → ⊥) → IfTold old new (λ d e. is_unformatted d.kept ≡ false → e.kept ≡ d.kept)
   pub calm : old.calm ≡ true → new.calm ≡ true
   pub cause : Unopened id old why new ⊎ Unfit frame_at id old why new
 

@@ -4,7 +4,7 @@ use Rattle.std.proofs.lemmas.List.{drop_at, append-nil}
 use Rattle.std.proofs.lemmas.List.Elements.{Contains-push_cases, Contains-append_cases, Contains-append_left, Contains-push}
 use Rattle.std.proofs.lemmas.Grind.{same_number_lists}
 use Rattle.std.specs.List.{Contains}
-use Rattle.outside.specs.Disk.{DiskState, DiskView, Durable, IsImage, EachImage, Images, IfTold, Syncs, LosesPower, FailsReading, FailsSyncing, FailsWriting, moment, moment_of, clean, overwritten, with_range, written, flushed}
+use Rattle.outside.specs.Disk.{DiskState, DiskView, Durable, IsImage, EachImage, Images, IfTold, Syncs, LosesPower, CutsPower, FailsSyncing, FailsWriting, moment, moment_of, clean, overwritten, with_range, written, flushed}
 
 none : {X : Type 0} (x : X) → Contains [] x → ⊥
 none x c = absurd (omega (arith, c.1))
@@ -84,10 +84,10 @@ left_now s past e P lost now c image =
     let is : c ≡ e.kept = clean_image e.kept c (subst (λ (x : Durable). IsImage x c) lost.clean_now image) in
     now c (subst (λ (b : List ℕ). IsImage s b) (sym is) lost.left)
 
--- a read that failed
-pub after_failed_read : (d e : DiskState) (P : List ℕ → Type 0) → ((c : List ℕ) → IsImage d.now c → P c) → FailsReading d e → EachImage d e P
-after_failed_read d e P now (inl same) = subst (λ (x : DiskState). EachImage d x P) (sym same) (started d P now)
-after_failed_read d e P now (inr lost) = one_more d e P lost.history now (left_now d.now d.past e P lost now)
+-- a cut
+pub after_cut : (d e : DiskState) (P : List ℕ → Type 0) → ((c : List ℕ) → IsImage d.now c → P c) → CutsPower d e → EachImage d e P
+after_cut d e P now (inl lost) = one_more d e P lost.history now (left_now d.now d.past e P lost now)
+after_cut d e P now (inr same) = subst (λ (x : DiskState). EachImage d x P) (sym same.0) (started d P now)
 
 -- a sync that failed
 pub after_failed_sync : (d e : DiskState) (P : List ℕ → Type 0) → ((c : List ℕ) → IsImage d.now c → P c) → FailsSyncing d e → EachImage d e P
@@ -148,11 +148,6 @@ pub failed_sync_kept : (d e : DiskState) → IsImage d.now d.kept → FailsSynci
 failed_sync_kept d e image (inl same) = subst (λ (x : DiskState). IsImage d.now x.kept) (sym same) image
 failed_sync_kept d e image (inr (inl stays)) = stays.left
 failed_sync_kept d e image (inr (inr lost)) = lost.left
-
--- what is kept after a read that failed was an image
-pub failed_read_kept : (d e : DiskState) → IsImage d.now d.kept → FailsReading d e → IsImage d.now e.kept
-failed_read_kept d e image (inl same) = subst (λ (x : DiskState). IsImage d.now x.kept) (sym same) image
-failed_read_kept d e image (inr lost) = lost.left
 
 -- the words of a disk's view: each image since a moment has what each has by states
 pub images_have : (old new : DiskView) (P : List ℕ → Type 0) → new.tells ≡ old.tells → IfTold old new (λ d e. EachImage d e P) → (c : List ℕ) → Images new (moment_of old) c → P c

@@ -2,7 +2,7 @@
 --
 -- Between two syncs each range that was written, and what lies past the old end, may hold any bytes after a power cut.
 -- The length then lies between the one at the sync and the greatest written end, and all other bytes stay.
-use Rattle.std.specs.Prelude.{◌≡◌, ◌⊎◌, ℕ, ◌+◌, ◌-◌, ◌<◌, ◌≤◌, ◌==◌, max, List, [], ◌∷◌, ◌++◌, length, take, drop, slice_index, Contains, Option, Some, None, Bool, true, if◌then◌else◌}
+use Rattle.std.specs.Prelude.{◌≡◌, ◌⊎◌, ℕ, zero, suc, ◌+◌, ◌-◌, ◌<◌, ◌≤◌, ◌==◌, max, List, [], ◌∷◌, ◌++◌, length, take, drop, slice_index, Contains, Option, Some, None, Bool, true, false, if◌then◌else◌}
 
 -- what stood at the last sync, and the ranges that were written since and are pending, each by its place and length
 pub record Durable : Type 0 where
@@ -79,10 +79,6 @@ pub record LosesPower (past : List Durable) (s : Durable) (new : DiskState) : Ty
 abbrev pub CutsPower : DiskState → DiskState → Type 0
 CutsPower d e = LosesPower d.past d.now e ⊎ ((e ≡ d) × (d.now ≡ clean d.kept))
 
--- a call that writes nothing failed: nothing changed, or the power went
-abbrev pub FailsReading : DiskState → DiskState → Type 0
-FailsReading d e = (e ≡ d) ⊎ LosesPower d.past d.now e
-
 -- a sync failed with the power on: what was pending stays pending, and a read gives one of the images
 pub record StaysPending (d e : DiskState) : Type 0 where
   pub left : IsImage d.now e.kept
@@ -93,6 +89,10 @@ pub record StaysPending (d e : DiskState) : Type 0 where
 abbrev pub FailsSyncing : DiskState → DiskState → Type 0
 FailsSyncing d e = (e ≡ d) ⊎ (StaysPending d e ⊎ LosesPower d.past d.now e)
 
+-- a sync failed, and the power did not go
+abbrev pub FailsSyncingUncut : DiskState → DiskState → Type 0
+FailsSyncingUncut d e = (e ≡ d) ⊎ StaysPending d e
+
 -- a write of n bytes failed with the power on: its range is pending too, and a read gives one of the images
 pub record LeavesPending (d : DiskState) (at n : ℕ) (e : DiskState) : Type 0 where
   pub left : IsImage (with_range d.now at n) e.kept
@@ -102,6 +102,10 @@ pub record LeavesPending (d : DiskState) (at n : ℕ) (e : DiskState) : Type 0 w
 -- a write of n bytes failed: nothing changed, or its range is pending, or the power went with its range pending
 abbrev pub FailsWriting : DiskState → ℕ → ℕ → DiskState → Type 0
 FailsWriting d at n e = (e ≡ d) ⊎ (LeavesPending d at n e ⊎ LosesPower (d.past ++ d.now ∷ []) (with_range d.now at n) e)
+
+-- a write of n bytes failed, and the power did not go
+abbrev pub FailsWritingUncut : DiskState → ℕ → ℕ → DiskState → Type 0
+FailsWritingUncut d at n e = (e ≡ d) ⊎ LeavesPending d at n e
 
 -- a disk as contracts see it
 pub record DiskView : Type 0 where
@@ -141,6 +145,16 @@ IfTold old new R = old.tells ≡ true → R old.state new.state
 abbrev pub burnt : Option (ℕ × ℕ) → Option (ℕ × ℕ)
 burnt None = None
 burnt (Some f) = if f.0 == 1 then None else Some (f.0 - 1, f.1)
+
+-- the fuse after so many writes and syncs more
+abbrev pub burnt_by : ℕ → Option (ℕ × ℕ) → Option (ℕ × ℕ)
+burnt_by zero fuse = fuse
+burnt_by (suc n) fuse = burnt_by n (burnt fuse)
+
+-- the fuse fails this write or sync, and takes the power
+abbrev pub blows : Option (ℕ × ℕ) → Bool
+blows None = false
+blows (Some f) = f.0 == 1
 
 -- what no call but `make_room` and those of a bay changes
 pub record SameRest (old new : DiskView) : Type 0 where

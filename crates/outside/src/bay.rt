@@ -26,14 +26,17 @@ pub struct NoFuse;
 pub trait Bay: Disk {
     /// Makes the disk ready: the file of this name in a folder, or, where there is no folder, the disk in memory as it is.
     ///
-    /// Without a folder nothing changes but the count of faults. With one the disk may tell nothing from then on; a disk
-    /// that told nothing doesn't begin to tell.
+    /// Without a folder nothing changes but the count of faults. With one the disk may tell nothing from then on, and may
+    /// be calm no longer; a disk that told nothing doesn't begin to tell. A refusal leaves all but the count of faults, which
+    /// rises at [`AttachFault::Failed`] alone.
     fn attach(&mut self, alloc: Global, dir: Option<&str>, name: &str) -> Result<(), AttachFault>
         ensures in_memory { IsNone dir.entry → Self.seen self.new ≡ record (Self.seen self.old) { faults = (Self.seen self.new).faults } }
         ensures calm { IsNone dir.entry → (Self.seen self.old).calm ≡ true → ¬ (IsErrOf result AttachFault.Failed) }
+        ensures refused { OnErr result (Self.seen self.new ≡ record (Self.seen self.old) { faults = (Self.seen self.new).faults }) }
         ensures silent { (Self.seen self.old).tells ≡ false → (Self.seen self.new).tells ≡ false }
         ensures later { (Self.seen self.old).faults ≤ (Self.seen self.new).faults }
-        ensures cause { IsErrOf result AttachFault.Failed → Rose (Self.seen self.old).faults (Self.seen self.new).faults };
+        ensures cause { IsErrOf result AttachFault.Failed → Rose (Self.seen self.old).faults (Self.seen self.new).faults }
+        ensures uncounted { (IsErrOf result AttachFault.Failed → ⊥) → (Self.seen self.new).faults ≡ (Self.seen self.old).faults };
 
     /// Cuts the power at the write or sync that comes as number `calls` from now, or now where that is 0, and leaves what
     /// the outcome says: of what was written since the last sync nothing (0), all of it (1), all but the second half of the
@@ -55,10 +58,11 @@ pub trait Bay: Disk {
         ensures rest { SameRest (Self.seen self.old) (Self.seen self.new) }
         ensures writes { (Self.seen self.new).room_writes ≡ (Self.seen self.old).room_writes };
 
-    /// Ends a cut and disarms a fuse. A disk in memory is calm afterwards.
+    /// Ends a cut and disarms a fuse. A disk in memory is calm afterwards, and a file that was calm stays so.
     fn restore_power(&mut self)
         ensures restored { Self.seen self.new ≡ record (Self.seen self.old) { power = true; fuse = None; calm = (Self.seen self.new).calm } }
-        ensures calm { (Self.seen self.old).of_file ≡ false → (Self.seen self.new).calm ≡ true };
+        ensures calm { (Self.seen self.old).of_file ≡ false → (Self.seen self.new).calm ≡ true }
+        ensures stays_calm { (Self.seen self.old).calm ≡ true → (Self.seen self.new).calm ≡ true };
 
     /// Whether this is a file. Only [`Bay::attach`] with a folder makes it one.
     fn is_file(&self) -> bool

@@ -1,5 +1,5 @@
-ghost use Rattle.std.specs.Prelude.{◌≡◌, ◌≤◌, ◌<◌, ◌+◌, ◌⊎◌, ℕ, true, false, length, take, drop, IfOk, OnOk, OnErr, IsOk, IsErr, Some, if◌then◌else◌};
-ghost use Rattle.outside.specs.Disk.{IsImage, EachImage, FailsReading, FailsSyncing, FailsWriting, Syncs, SameRest, IfTold, overwritten, clean, with_range, written, burnt};
+ghost use Rattle.std.specs.Prelude.{◌≡◌, ◌≤◌, ◌<◌, ◌+◌, ◌⊎◌, ◌&&◌, not, ℕ, true, false, length, take, drop, IfOk, OnOk, OnErr, IsOk, IsErr, Some, if◌then◌else◌};
+ghost use Rattle.outside.specs.Disk.{IsImage, EachImage, CutsPower, FailsSyncing, FailsSyncingUncut, FailsWriting, FailsWritingUncut, Syncs, SameRest, IfTold, overwritten, clean, with_range, written, blows, burnt, burnt_by};
 ghost use Rattle.outside.specs.Faults.{HasCause};
 
 use crate::fault::Failed;
@@ -14,9 +14,10 @@ use std::alloc::{AllocError, Global};
 /// A disk may tell nothing of its content, as a real file, and then no clause on content speaks of it. Whether it tells
 /// is a meaning that no call of this trait changes, as is whether it is a file.
 ///
-/// A calm disk answers no [`Failed`] and stays calm, until the power is cut or a fuse is armed. A disk without power
-/// fails each call but [`Disk::make_room`]. A fuse burns by one at each write and sync, fails the last of these and takes
-/// the power.
+/// A calm disk answers no [`Failed`], and no call of this trait ends its calm; cutting the power, arming a fuse and
+/// attaching a bay to a folder may. A disk without power fails each call but [`Disk::make_room`], and its state stays as
+/// it was. A fuse burns by one at each write and sync that has power, fails the last of these and takes the
+/// power: no other call takes it, and none brings it back.
 pub trait Disk: Drop {
     ghost use Rattle.outside.specs.Disk.{DiskView};
 
@@ -25,13 +26,12 @@ pub trait Disk: Drop {
     /// The length of the disk.
     fn length(&mut self) -> Result<u64, Failed>
         ensures value { (seen self.old).tells ≡ true → IfOk result (λ n. n ≡ length (seen self.old).state.kept) }
-        ensures same { OnOk result ((seen self.new).state ≡ (seen self.old).state) }
-        ensures failed { OnErr result (IfTold (seen self.old) (seen self.new) FailsReading) }
+        ensures same { (seen self.new).state ≡ (seen self.old).state }
         ensures rest { SameRest (seen self.old) (seen self.new) }
         ensures writes { (seen self.new).room_writes ≡ (seen self.old).room_writes }
         ensures fuse { (seen self.new).fuse ≡ (seen self.old).fuse }
         ensures calm { (seen self.old).calm ≡ true → IsOk result × ((seen self.new).calm ≡ true) }
-        ensures power { OnOk result ((seen self.new).power ≡ (seen self.old).power) }
+        ensures power { (seen self.new).power ≡ (seen self.old).power }
         ensures dark { (seen self.old).power ≡ false → IsErr result }
         ensures cause { HasCause (seen self.old).faults (seen self.new).faults result };
 
@@ -39,40 +39,45 @@ pub trait Disk: Drop {
     fn read_at(&mut self, at: u64, into: &mut [u8]) -> Result<(), Failed>
         requires { (seen self.old).tells ≡ true → at + length into.old ≤ length (seen self.old).state.kept }
         ensures value { (seen self.old).tells ≡ true → OnOk result (into.new ≡ take (length into.old) (drop at (seen self.old).state.kept)) }
-        ensures same { OnOk result ((seen self.new).state ≡ (seen self.old).state) }
-        ensures failed { OnErr result (IfTold (seen self.old) (seen self.new) FailsReading) }
+        ensures same { (seen self.new).state ≡ (seen self.old).state }
         ensures rest { SameRest (seen self.old) (seen self.new) }
         ensures writes { (seen self.new).room_writes ≡ (seen self.old).room_writes }
         ensures fuse { (seen self.new).fuse ≡ (seen self.old).fuse }
         ensures calm { (seen self.old).calm ≡ true → IsOk result × ((seen self.new).calm ≡ true) }
-        ensures power { OnOk result ((seen self.new).power ≡ (seen self.old).power) }
+        ensures power { (seen self.new).power ≡ (seen self.old).power }
         ensures dark { (seen self.old).power ≡ false → IsErr result }
         ensures cause { HasCause (seen self.old).faults (seen self.new).faults result };
 
     /// Writes these bytes from `at` on, which is at most the length, in the room that [`Disk::make_room`] made.
     ///
-    /// A write that failed while there was power leaves its range pending, whether or not the power went.
+    /// A write that failed left all as it was, or left its range pending, so that any part of it may stand. Where its fuse
+    /// took the power, the range was pending as the power went, and nothing is pending afterwards.
     fn write_at(&mut self, at: u64, from: &[u8]) -> Result<(), Failed>
         requires place { (seen self.old).tells ≡ true → at ≤ length (seen self.old).state.kept }
         requires end { at + length from.now ≤ (seen self.old).room_end }
         requires writes { 0 < (seen self.old).room_writes }
         ensures done { (seen self.old).tells ≡ true → OnOk result ((seen self.new).state ≡ written (seen self.old).state at from.now) }
         ensures failed { OnErr result (IfTold (seen self.old) (seen self.new) (λ d e. FailsWriting d at (length from.now) e)) }
+        ensures uncut { (seen self.new).power ≡ (seen self.old).power → OnErr result (IfTold (seen self.old) (seen self.new) (λ d e. FailsWritingUncut d at (length from.now) e)) }
+        ensures cut { (seen self.old).power ≡ true → (seen self.new).power ≡ false → IfTold (seen self.old) (seen self.new) (λ d e. CutsPower (written d at from.now) e) }
         ensures rest { SameRest (seen self.old) (seen self.new) }
         ensures writes { (seen self.old).room_writes ≤ (seen self.new).room_writes + 1 }
         ensures fuse { (seen self.new).fuse ≡ (if (seen self.old).power then burnt (seen self.old).fuse else (seen self.old).fuse) }
         ensures blown { (outcome : ℕ) → (seen self.old).fuse ≡ Some (1, outcome) → IsErr result × ((seen self.new).power ≡ false) }
         ensures calm { (seen self.old).calm ≡ true → IsOk result × ((seen self.new).calm ≡ true) }
-        ensures power { OnOk result ((seen self.new).power ≡ (seen self.old).power) }
-        ensures dark { (seen self.old).power ≡ false → IsErr result }
+        ensures power { (seen self.new).power ≡ ((seen self.old).power && not (blows (seen self.old).fuse)) }
+        ensures dark { (seen self.old).power ≡ false → IsErr result × ((seen self.new).state ≡ (seen self.old).state) }
         ensures cause { HasCause (seen self.old).faults (seen self.new).faults result };
 
     /// Makes what was written last through a power cut.
     ///
-    /// A sync that failed leaves what was pending pending.
+    /// A sync that failed left all as it was, or left pending what was, and a read may then give another of the images.
+    /// Where its fuse took the power, nothing is pending afterwards.
     fn sync(&mut self) -> Result<(), Failed>
         ensures done { OnOk result (IfTold (seen self.old) (seen self.new) Syncs) }
         ensures failed { OnErr result (IfTold (seen self.old) (seen self.new) FailsSyncing) }
+        ensures uncut { (seen self.new).power ≡ (seen self.old).power → OnErr result (IfTold (seen self.old) (seen self.new) FailsSyncingUncut) }
+        ensures cut { (seen self.old).power ≡ true → (seen self.new).power ≡ false → IfTold (seen self.old) (seen self.new) CutsPower }
 
         // What is kept was one of the images.
         ensures kept { (seen self.old).tells ≡ true → IsImage (seen self.old).state.now (seen self.old).state.kept }
@@ -81,8 +86,8 @@ pub trait Disk: Drop {
         ensures fuse { (seen self.new).fuse ≡ (if (seen self.old).power then burnt (seen self.old).fuse else (seen self.old).fuse) }
         ensures blown { (outcome : ℕ) → (seen self.old).fuse ≡ Some (1, outcome) → IsErr result × ((seen self.new).power ≡ false) }
         ensures calm { (seen self.old).calm ≡ true → IsOk result × ((seen self.new).calm ≡ true) }
-        ensures power { OnOk result ((seen self.new).power ≡ (seen self.old).power) }
-        ensures dark { (seen self.old).power ≡ false → IsErr result }
+        ensures power { (seen self.new).power ≡ ((seen self.old).power && not (blows (seen self.old).fuse)) }
+        ensures dark { (seen self.old).power ≡ false → IsErr result × ((seen self.new).state ≡ (seen self.old).state) }
         ensures cause { HasCause (seen self.old).faults (seen self.new).faults result };
 
     /// Makes room for the next `writes` writes that end at or below `end`. It changes nothing else.
@@ -104,6 +109,10 @@ pub fn write_synced<D: Disk>(disk: &mut D, at: u64, from: &[u8]) -> Result<(), F
     ensures failed { OnErr result (IfTold (D.seen disk.old) (D.seen disk.new) (λ d e. (e.kept ≡ d.kept) ⊎ IsImage (with_range d.now at (length from.now)) e.kept)) }
     ensures rest { SameRest (D.seen disk.old) (D.seen disk.new) }
     ensures writes { (D.seen disk.old).room_writes ≤ (D.seen disk.new).room_writes + 1 }
+
+    // The fuse counts both calls, and the power is there as before.
+    ensures fuse { OnOk result ((D.seen disk.new).fuse ≡ burnt_by 2 (D.seen disk.old).fuse) }
+    ensures power { OnOk result (((D.seen disk.old).power ≡ true) × ((D.seen disk.new).power ≡ true)) }
     ensures calm { (D.seen disk.old).calm ≡ true → IsOk result × ((D.seen disk.new).calm ≡ true) }
     ensures cause { HasCause (D.seen disk.old).faults (D.seen disk.new).faults result }
 {

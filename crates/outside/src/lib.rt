@@ -1,7 +1,8 @@
 //! What lies outside the core: sources, sinks, disks and gates, by what they give and keep.
 //!
 //! Each is a trait whose ghost members are its meaning, so that the code above is generic and proved once.
-//! Every call that fails answers [`Failed`], and only where the object's count of faults rose in that call.
+//! A read, a write or a sync that fails answers [`Failed`], only where the object's count of faults rose in that call; one
+//! that is done leaves the count. Other calls name their refusals: [`AttachFault`], [`NoFuse`], and want of memory.
 #![tactic(auto)]
 
 mod bay;

@@ -12,7 +12,8 @@ pub trait Sink {
     /// The bytes that were written, where the sink tells them.
     ghost written: { Self → Option (List ℕ) };
 
-    /// How many calls have failed so far; it stands still at the last value of a `u64`.
+    /// A count of faults: it rises where a call fails, or stands still at the last value of a `u64`, and no other call
+    /// changes it.
     ghost faults: { Self → ℕ };
 
     /// Writes a front of the slice, and answers how many bytes it took: at least one of a slice that isn't empty.

@@ -11,7 +11,8 @@ pub trait Source {
     /// The bytes that are left, where the source tells them.
     ghost left: { Self → Option (List ℕ) };
 
-    /// How many calls have failed so far; it stands still at the last value of a `u64`.
+    /// A count of faults: it rises where a call fails, or stands still at the last value of a `u64`, and no other call
+    /// changes it.
     ghost faults: { Self → ℕ };
 
     /// Reads into the front of a slice, and answers how many bytes it took.
