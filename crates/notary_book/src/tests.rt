@@ -172,6 +172,7 @@ fn the_laws(_rt: HostRuntime) {
     conflicts_name_consumers();
     signed_is_never_refused();
     refused_is_never_signed();
+    requests_agree();
 }
 
 #[test]
