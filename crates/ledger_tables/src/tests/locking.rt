@@ -1,10 +1,13 @@
 //! Coins that a flow locks, and that are free again where it ends.
 
+ghost use Rattle.std.specs.Prelude.{◌≡◌, IfOk};
+ghost use Rattle.vault.specs.Holdings.{references_of};
+
 use crate::Tables;
 use crate::tests::{output, record, spell, token};
-use ledger_types::LedgerChange;
+use ledger_types::{HeldList, LedgerChange, RefList};
 use net_base::{ListOf, Party, StateRef};
-use std::alloc::Global;
+use std::alloc::{AllocError, Global};
 use std::test::Fail;
 use vault::ReserveFault;
 
@@ -19,7 +22,7 @@ fn two_coins(alloc: Global, tables: &mut Tables) -> Result<[StateRef; 2], Fail> 
 
 /// Locks one state for a flow, where it is a coin.
 fn lock(alloc: Global, tables: &mut Tables, flow: u32, coin: StateRef) -> Result<bool, Fail> {
-    if !tables.vault().is_coin(&coin) || tables.store().count() > 9 {
+    if !tables.vault().is_coin(&coin) {
         return Ok(false);
     }
     let change = LedgerChange {
@@ -34,11 +37,34 @@ fn lock(alloc: Global, tables: &mut Tables, flow: u32, coin: StateRef) -> Result
     Ok(true)
 }
 
+/// The references of states.
+fn references(alloc: Global, states: &HeldList) -> Result<RefList, AllocError>
+    ensures { IfOk result (λ refs. refs ≡ references_of states.now) }
+{
+    let mut refs = ListOf::new(alloc);
+    for held in states.as_slice() {
+        refs.push(held.reference)?;
+    }
+    Ok(refs)
+}
+
+/// Reserves 120 and locks the coins that are named, for a flow: how many they are.
+fn pay(alloc: Global, tables: &mut Tables, flow: u32) -> Result<usize, Fail> {
+    let coins = tables.vault().reserve(alloc, &token(), 120)?;
+    let change = LedgerChange {
+        recorded: None,
+        locked: references(alloc, &coins)?,
+        owner: flow,
+        ended: false,
+        booked: None,
+    };
+    tables.make_room(alloc, &change)?;
+    tables.apply(change);
+    Ok(coins.len())
+}
+
 /// Ends a flow.
 fn end(alloc: Global, tables: &mut Tables, flow: u32) -> Result<(), Fail> {
-    if tables.store().count() > 9 {
-        return Ok(());
-    }
     let change = LedgerChange {
         recorded: None,
         locked: ListOf::new(alloc),
@@ -87,5 +113,15 @@ fn locks_and_releases_at_the_end(rt: HostRuntime) -> Result<(), Fail> {
     end(alloc, &mut tables, 7)?;
     assert_eq!(rt; lockers(alloc, &tables)?, [None, None]);
     assert_eq!(rt; reserve(alloc, &tables), (1, 0));
+    Ok(())
+}
+
+/// What is reserved may be locked.
+#[test]
+fn locks_what_is_reserved(rt: HostRuntime) -> Result<(), Fail> {
+    let mut tables = Tables::new(rt.alloc(), Party(1));
+    two_coins(rt.alloc(), &mut tables)?;
+    assert_eq!(rt; pay(rt.alloc(), &mut tables, 7)?, 2);
+    assert_eq!(rt; lockers(rt.alloc(), &tables)?, [Some(7), Some(7)]);
     Ok(())
 }
