@@ -54,13 +54,7 @@ fn node(is_notary: bool) -> Identity
 }
 
 /// A request for a tear-off, with the tag of the party `signer`.
-fn request_of(
-    alloc: Global,
-    torn: &str,
-    party: u8,
-    flow: u32,
-    signer: u8,
-) -> Result<Request, Fail>
+fn request_of(alloc: Global, torn: &str, party: u8, flow: u32, signer: u8) -> Result<Request, Fail>
     ensures { IfOk result (λ q. IsTornTx q.torn) }
 {
     let bytes = hex::decode(alloc, torn)?;

@@ -58,8 +58,7 @@ pub note_held : (me : Party) (id : Hash32) (tx : Tx) (states : List Held) → Is
 note_held me id tx states hash within h =
     let left = λ (s : Held). not (has_ref s.reference tx.inputs) in
     let mine = λ (s : Held). is_relevant me s.state.body in
-    let new = outputs_from [] id 0 tx.outputs in
-    (
+    let new = outputs_from [] id 0 tx.outputs in (
       all_append IsHeld (filter left states) (filter mine new) (all_kept IsHeld left states h.0) (all_kept IsHeld mine new (outputs_held id 0 tx.outputs hash (omega (arith, within.0)) within.1)),
       list_all-append (is_own me) (filter left states) (filter mine new) ∙ and_from _ _ (all_filter (is_own me) left states h.1) (filter_passes mine new),
     )
