@@ -100,8 +100,8 @@ fn at_most_one<T: Copy + Spelt>(items: &ListOf<T>) -> Result<Option<T>, TearFaul
     }
 }
 
-/// What a tear-off shows: the inputs, the references, the notary and the time window of its transaction. Of a tear-off
-/// within its limits it is within the limits of `IsVisible`: at most 64 inputs and 64 references.
+/// What a tear-off shows: the inputs, the references, the notary and the time window of its transaction. Where the
+/// tear-off is within its limits, so is what it shows: at most 64 inputs and 64 references, and each value.
 ///
 /// # Errors
 ///
