@@ -1,7 +1,9 @@
 //! Coins that a flow locks, and that are free again where it ends.
 
-ghost use Rattle.std.specs.Prelude.{◌≡◌, IfOk};
-ghost use Rattle.vault.specs.Holdings.{references_of};
+ghost use Rattle.std.specs.Prelude.{◌≡◌, true, false, IfOk};
+ghost use Rattle.std.specs.List.{list_all};
+ghost use Rattle.ledger_types.specs.Names.{ref_eq, has_repeat};
+ghost use Rattle.vault.specs.Holdings.{has_coin, references_of};
 
 use crate::Tables;
 use crate::tests::{output, record, spell, token};
@@ -48,19 +50,36 @@ fn references(alloc: Global, states: &HeldList) -> Result<RefList, AllocError>
     Ok(refs)
 }
 
-/// Reserves 120 and locks the coins that are named, for a flow: how many they are.
-fn pay(alloc: Global, tables: &mut Tables, flow: u32) -> Result<usize, Fail> {
+/// The coins that a reservation of 120 names, as `lock_all` asks for them.
+fn named(alloc: Global, tables: &Tables) -> Result<RefList, ReserveFault>
+    ensures coins { IfOk result (λ refs. list_all (has_coin tables.now.vault.held) refs ≡ true) }
+    ensures once { IfOk result (λ refs. has_repeat ref_eq refs ≡ false) }
+{
     let coins = tables.vault().reserve(alloc, &token(), 120)?;
+    Ok(references(alloc, &coins)?)
+}
+
+/// Locks coins for a flow.
+fn lock_all(alloc: Global, tables: &mut Tables, flow: u32, locked: RefList) -> Result<(), AllocError>
+    requires coins { list_all (has_coin tables.old.vault.held) locked ≡ true }
+    requires once { has_repeat ref_eq locked ≡ false }
+{
     let change = LedgerChange {
         recorded: None,
-        locked: references(alloc, &coins)?,
+        locked,
         owner: flow,
         ended: false,
         booked: None,
     };
     tables.make_room(alloc, &change)?;
     tables.apply(change);
-    Ok(coins.len())
+    Ok(())
+}
+
+/// Locks for a flow what a reservation of 120 names.
+fn pay(alloc: Global, tables: &mut Tables, flow: u32) -> Result<(), Fail> {
+    let locked = named(alloc, tables)?;
+    Ok(lock_all(alloc, tables, flow, locked)?)
 }
 
 /// Ends a flow.
@@ -121,7 +140,7 @@ fn locks_and_releases_at_the_end(rt: HostRuntime) -> Result<(), Fail> {
 fn locks_what_is_reserved(rt: HostRuntime) -> Result<(), Fail> {
     let mut tables = Tables::new(rt.alloc(), Party(1));
     two_coins(rt.alloc(), &mut tables)?;
-    assert_eq!(rt; pay(rt.alloc(), &mut tables, 7)?, 2);
+    pay(rt.alloc(), &mut tables, 7)?;
     assert_eq!(rt; lockers(rt.alloc(), &tables)?, [Some(7), Some(7)]);
     Ok(())
 }
