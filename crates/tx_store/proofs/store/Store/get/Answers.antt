@@ -1,8 +1,7 @@
-use Rattle.std.proofs.Common.{◌≡◌, List, ap, subst, ◌∙◌}
+use Rattle.std.proofs.Common.{◌≡◌, List, ap, ◌∙◌}
 use Rattle.net_base.specs.declared.values.Hash32.{Hash32}
 use Rattle.ledger_types.specs.declared.tx.SignedTx.{SignedTx}
 use Rattle.ledger_types.specs.Stores.{stored_of}
-use Rattle.tx_store.specs.Stored.{AreWithin}
 use Rattle.tx_store.proofs.Limits.{stored_within, lent_within}
 use Rattle.tx_store.proofs.Ordered.{lookup_is}
 use Rattle.tx_store.proofs.store.Store.get.Goals as goal
