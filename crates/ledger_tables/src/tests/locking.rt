@@ -60,7 +60,12 @@ fn named(alloc: Global, tables: &Tables) -> Result<RefList, ReserveFault>
 }
 
 /// Locks coins for a flow.
-fn lock_all(alloc: Global, tables: &mut Tables, flow: u32, locked: RefList) -> Result<(), AllocError>
+fn lock_all(
+    alloc: Global,
+    tables: &mut Tables,
+    flow: u32,
+    locked: RefList,
+) -> Result<(), AllocError>
     requires coins { list_all (has_coin tables.old.vault.held) locked ≡ true }
     requires once { has_repeat ref_eq locked ≡ false }
 {
