@@ -1,5 +1,5 @@
 -- What contracts see of a node's ledger, and what one change makes of it.
-use Rattle.std.specs.Prelude.{ℕ, ◌<◌, ◌≤◌, Bool, true, not, ◌&&◌, List, [], ◌∷◌, ◌++◌, Option, Some, None, IfSome, length, map, if◌then◌else◌}
+use Rattle.std.specs.Prelude.{ℕ, ◌+◌, ◌<◌, ◌≤◌, ◌^◌, Bool, true, not, ◌&&◌, List, [], ◌∷◌, ◌++◌, Option, Some, None, IfSome, length, map, if◌then◌else◌}
 use Rattle.net_base.specs.declared.values.Hash32.{Hash32}
 use Rattle.net_base.specs.declared.values.Party.{Party}
 use Rattle.ledger_types.specs.declared.tx.Tx.{Tx}
@@ -32,6 +32,10 @@ abbrev pub may_record : List (Hash32 × SignedTx) → Option SignedTx → Bool
 may_record store None = true
 may_record store (Some stx) = not (is_stored store (tx_id stx.tx)) && has_dependencies store stx.tx
 
+-- where there is a transaction, the store has fewer than 2^32 with it
+abbrev pub HasPlace : Option SignedTx → List (Hash32 × SignedTx) → Type 0
+HasPlace recorded store = IfSome recorded (λ _. length store + 1 < 2 ^ 32)
+
 -- room for the transaction of a change, in the store and in the vault
 abbrev pub HasRecordRoom : Option SignedTx → Stored → Holding → Type 0
 HasRecordRoom recorded store vault = IfSome recorded (λ stx. (0 < store.room) × (length stx.tx.outputs ≤ vault.room))
@@ -46,6 +50,11 @@ HasEntryRoom booked book = IfSome booked (λ _. 0 < book.room)
 abbrev pub recorded_in : Option SignedTx → List (Hash32 × SignedTx)
 recorded_in None = []
 recorded_in (Some stx) = (tx_id stx.tx, stx) ∷ []
+
+-- how many states the transaction of a change makes
+abbrev pub outputs_in : Option SignedTx → ℕ
+outputs_in None = 0
+outputs_in (Some stx) = length stx.tx.outputs
 
 -- the states of a vault behind the transaction of a change
 abbrev pub held_with : Party → Option SignedTx → List Held → List Held

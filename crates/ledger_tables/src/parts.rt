@@ -3,12 +3,12 @@
 ghost use Rattle.std.specs.Prelude.{◌≡◌, ◌≤◌, ◌<◌, ◌+◌, ◌++◌, ◌^◌, true, not, List, length, option_to_list, IfSome, OnOk};
 ghost use Rattle.net_base.specs.declared.values.Hash32.{Hash32 as Id};
 ghost use Rattle.ledger_types.specs.declared.tx.Tx.{Tx as Recorded};
-ghost use Rattle.ledger_types.specs.Txs.{IsTx};
+ghost use Rattle.ledger_types.specs.Txs.{IsSignedTx};
 ghost use Rattle.ledger_types.specs.Requests.{IsEntry};
 ghost use Rattle.ledger_types.specs.Stores.{untagged, is_stored};
 ghost use Rattle.ledger_types.specs.Vaults.{Lock};
 ghost use Rattle.vault.specs.Holdings.{IsVault};
-ghost use Rattle.ledger_tables.specs.Ledgers.{may_record, recorded_in, held_with, freed_at_end, released_at_end, HasRecordRoom, HasEntryRoom};
+ghost use Rattle.ledger_tables.specs.Ledgers.{may_record, recorded_in, outputs_in, held_with, freed_at_end, released_at_end, HasPlace, HasRecordRoom, HasEntryRoom};
 
 use ledger_types::{Entry, SignedTx};
 use net_base::Hash32;
@@ -62,13 +62,15 @@ pub fn make_entry_room(
 
 /// Stores a transaction, and notes it in the vault.
 pub fn record_next(store: &mut Store, vault: &mut Vault, recorded: Option<SignedTx>)
-    requires limits { IfSome recorded (λ stx. IsTx stx.tx) }
+    requires limits { IfSome recorded IsSignedTx }
     requires next { may_record store.old.list recorded ≡ true }
-    requires few { length store.old.list + 1 < 2 ^ 32 }
+    requires few { HasPlace recorded store.old.list }
     requires room { HasRecordRoom recorded store.old vault.old }
     ensures store { store.new.list ≡ store.old.list ++ recorded_in recorded }
     ensures party { vault.new.party ≡ vault.old.party }
     ensures held { vault.new.held ≡ held_with vault.old.party recorded vault.old.held }
+    ensures store_room { store.old.room ≤ store.new.room + length (recorded_in recorded) }
+    ensures vault_room { vault.old.room ≤ vault.new.room + outputs_in recorded }
     ensures vault { (locks : List Lock) → IsVault vault.old.party (untagged store.old.list) locks vault.old.held → IsVault vault.old.party (untagged store.new.list) locks vault.new.held }
 {
     if let Some(stx) = recorded {
@@ -81,7 +83,8 @@ pub fn record_next(store: &mut Store, vault: &mut Vault, recorded: Option<Signed
 pub fn add_entry(book: &mut Book, booked: Option<Entry>)
     requires limits { IfSome booked IsEntry }
     requires room { HasEntryRoom booked book.old }
-    ensures { book.new.entries ≡ book.old.entries ++ option_to_list booked }
+    ensures entries { book.new.entries ≡ book.old.entries ++ option_to_list booked }
+    ensures room { book.old.room ≤ book.new.room + length (option_to_list booked) }
 {
     if let Some(entry) = booked {
         book.add(entry);
@@ -92,6 +95,7 @@ pub fn add_entry(book: &mut Book, booked: Option<Entry>)
 pub fn release_ended(vault: &mut Vault, flow: u32, ended: bool)
     ensures party { vault.new.party ≡ vault.old.party }
     ensures held { vault.new.held ≡ freed_at_end flow ended vault.old.held }
+    ensures room { vault.old.room ≤ vault.new.room }
     ensures vault { (recorded : List (Id × Recorded)) (locks : List Lock) → IsVault vault.old.party recorded locks vault.old.held → IsVault vault.old.party recorded (released_at_end flow ended locks) vault.new.held }
 {
     if ended {

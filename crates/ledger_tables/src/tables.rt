@@ -1,14 +1,14 @@
 //! The tables of a node's ledger.
 
 ghost use Rattle.std.specs.Prelude.{◌≡◌, ◌≤◌, ◌<◌, ◌+◌, ◌++◌, ◌^◌, [], true, false, List, length, option_to_list, IfSome, OnOk};
-ghost use Rattle.std.specs.List.{list_all};
-ghost use Rattle.ledger_types.specs.Txs.{IsTx};
+ghost use Rattle.std.specs.List.{list_all, AllByRecursion};
+ghost use Rattle.ledger_types.specs.Txs.{IsTx, IsSignedTx};
 ghost use Rattle.ledger_types.specs.Requests.{IsEntry};
 ghost use Rattle.ledger_types.specs.Names.{ref_eq, has_repeat};
 ghost use Rattle.ledger_types.specs.Stores.{untagged};
 ghost use Rattle.ledger_types.specs.Vaults.{Lock};
-ghost use Rattle.vault.specs.Holdings.{has_coin, IsVault};
-ghost use Rattle.ledger_tables.specs.Ledgers.{HasVault, may_record, recorded_in, held_with, held_by, locks_by, HasRecordRoom, HasEntryRoom};
+ghost use Rattle.vault.specs.Holdings.{has_coin, references_of, IsVault};
+ghost use Rattle.ledger_tables.specs.Ledgers.{HasVault, may_record, recorded_in, outputs_in, HasPlace, held_with, held_by, locks_by, HasRecordRoom, HasEntryRoom};
 
 use crate::parts::{
     add_entry, is_new, make_entry_room, make_record_room, record_next, release_ended,
@@ -19,10 +19,10 @@ use notary_book::Book;
 use std::alloc::{AllocError, Global};
 use std::marker::Model;
 use tx_store::Store;
-use vault::Vault;
+use vault::{Vault, holds_each_once};
 
 /// The recorded transactions, the vault over them and the notary's book. At every moment the vault holds exactly what the
-/// recorded transactions leave its party.
+/// recorded transactions leave its party, and each entry of the book is within its limits.
 #[derive(Drop)]
 pub struct Tables {
     store: Store,
@@ -31,6 +31,8 @@ pub struct Tables {
 }
 
 impl Model for Tables {
+    ghost use Rattle.std.specs.List.{AllByRecursion};
+    ghost use Rattle.ledger_types.specs.Requests.{IsEntry};
     ghost use Rattle.ledger_types.specs.Stores.{untagged};
     ghost use Rattle.ledger_tables.specs.Ledgers.{Ledger, HasVault};
 
@@ -38,7 +40,7 @@ impl Model for Tables {
 
     ghost view = { λ t. record { store = t.store; vault = t.vault; book = t.book } };
 
-    ghost invariant = { λ t. HasVault t.vault.party (untagged t.store.list) t.vault.held };
+    ghost invariant = { λ t. HasVault t.vault.party (untagged t.store.list) t.vault.held × AllByRecursion IsEntry t.book.entries };
 }
 
 impl Tables {
@@ -48,6 +50,7 @@ impl Tables {
         ensures party { result.vault.party ≡ party }
         ensures held { result.vault.held ≡ [] }
         ensures book { result.book.entries ≡ [] }
+        ensures vault { IsVault party [] [] result.vault.held }
     {
         Tables {
             store: Store::new(alloc),
@@ -63,17 +66,21 @@ impl Tables {
         &self.store
     }
 
-    /// The vault, which is the party's over the recorded transactions, by some soft locks: those that the changes made.
+    /// The vault, which is the party's over the recorded transactions, by some soft locks, and holds no state twice. Which locks
+    /// these are is told by the changes (`apply`).
     pub fn vault(&self) -> &Vault
         ensures lent { result.now ≡ self.now.vault }
         ensures over_store { HasVault self.now.vault.party (untagged self.now.store.list) self.now.vault.held }
+        ensures once { has_repeat ref_eq (references_of self.now.vault.held) ≡ false }
     {
+        holds_each_once();
         &self.vault
     }
 
-    /// The notary's book.
+    /// The notary's book, of which each entry is within its limits.
     pub fn book(&self) -> &Book
-        ensures { result.now ≡ self.now.book }
+        ensures lent { result.now ≡ self.now.book }
+        ensures limits { AllByRecursion IsEntry self.now.book.entries }
     {
         &self.book
     }
@@ -111,10 +118,10 @@ impl Tables {
     /// `may_record` tells whether its transaction may be recorded, and `Vault::is_coin` which states are coins: those that it locks
     /// are coins behind its transaction.
     pub fn apply(&mut self, change: LedgerChange)
-        requires transaction { IfSome change.recorded (λ stx. IsTx stx.tx) }
+        requires transaction { IfSome change.recorded IsSignedTx }
         requires entry { IfSome change.booked IsEntry }
         requires next { may_record self.old.store.list change.recorded ≡ true }
-        requires few { length self.old.store.list + 1 < 2 ^ 32 }
+        requires few { HasPlace change.recorded self.old.store.list }
         requires coins { list_all (has_coin (held_with self.old.vault.party change.recorded self.old.vault.held)) change.locked ≡ true }
         requires once { has_repeat ref_eq change.locked ≡ false }
         requires record_room { HasRecordRoom change.recorded self.old.store self.old.vault }
@@ -123,6 +130,9 @@ impl Tables {
         ensures party { self.new.vault.party ≡ self.old.vault.party }
         ensures held { self.new.vault.held ≡ held_by self.old.vault.party change self.old.vault.held }
         ensures book { self.new.book.entries ≡ self.old.book.entries ++ option_to_list change.booked }
+        ensures store_room { self.old.store.room ≤ self.new.store.room + length (recorded_in change.recorded) }
+        ensures vault_room { self.old.vault.room ≤ self.new.vault.room + outputs_in change.recorded }
+        ensures book_room { self.old.book.room ≤ self.new.book.room + length (option_to_list change.booked) }
         ensures vault { (locks : List Lock) → IsVault self.old.vault.party (untagged self.old.store.list) locks self.old.vault.held → IsVault self.old.vault.party (untagged self.new.store.list) (locks_by change locks) self.new.vault.held }
     {
         record_next(&mut self.store, &mut self.vault, change.recorded);

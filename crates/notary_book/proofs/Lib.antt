@@ -3,3 +3,4 @@ pub mod Once
 pub mod Caused
 pub mod Places
 pub mod Refused
+pub mod Agreeing

@@ -135,12 +135,12 @@ first_by before id v n =
 
 -- ---- an id that was refused
 
--- what each good request of the id shows names a reference that another id consumes, and no entry signed the id
-record Blocked (id : Hash32) (before : List Entry) : Type 0 where
+-- what each good request of the id that names me shows names a reference that another id consumes, and no entry signed the id
+record Blocked (me : Party) (id : Hash32) (before : List Entry) : Type 0 where
   pub seen : Visible
   pub named : Named before id seen.inputs seen.references
   pub unsigned : list_any (signs id) before ≡ false
-  pub shown : (q : Request) → id ≡ q.torn.id → AgreesWith q before → (v : Visible) → visible_of q.torn ≡ Some v → v ≡ seen
+  pub shown : (q : Request) → id ≡ q.torn.id → AgreesWith me q before → (v : Visible) → visible_of q.torn ≡ Some v → is_party me v.notary ≡ true → v ≡ seen
 
 blocked_shown : (mark : Party → Hash32 → Hash32) (me : Party) (before : List Entry) (q : Request) (now : Moment) (v : Visible) → Named before q.torn.id v.inputs v.references → list_any (signs q.torn.id) before ≡ false → is_signature (answer_shown mark me before q now v) ≡ false
 blocked_shown mark me before q now v n k =
@@ -148,34 +148,36 @@ blocked_shown mark me before q now v n k =
     if_no (not (has_good_tag mark q)) answer.BadRequestTag (cond (list_any (signs q.torn.id) before) (answer.Signed (tag_by mark me q.torn.id)) (answer_unsigned mark me q.torn.id now v.window (conflicts before q.torn.id v))) refl
     (rw k free)
 
-blocked_torn : (mark : Party → Hash32 → Hash32) (me : Party) (before : List Entry) (q : Request) (now : Moment) (b : Blocked q.torn.id before) (o : Option Visible) → ((v : Visible) → o ≡ Some v → v ≡ b.seen) → is_signature (answer_torn mark me before q now o) ≡ false
+blocked_torn : (mark : Party → Hash32 → Hash32) (me : Party) (before : List Entry) (q : Request) (now : Moment) (b : Blocked me q.torn.id before) (o : Option Visible) → ((v : Visible) → o ≡ Some v → is_party me v.notary ≡ true → v ≡ b.seen) → is_signature (answer_torn mark me before q now o) ≡ false
 blocked_torn mark me before q now b None f = refl
-blocked_torn mark me before q now b (Some v) f =
-    let named = subst (λ (x : Visible). Named before q.torn.id x.inputs x.references) (sym (f v refl)) b.named in
-    if_no (is_party me v.notary) (answer_shown mark me before q now v) answer.WrongNotary (blocked_shown mark me before q now v named b.unsigned) refl
+blocked_torn mark me before q now b (Some v) f = by (is_party me v.notary) refl
+  where
+    by : (t : Bool) → is_party me v.notary ≡ t → is_signature (cond t (answer_shown mark me before q now v) answer.WrongNotary) ≡ false
+    by true e = blocked_shown mark me before q now v (subst (λ (x : Visible). Named before q.torn.id x.inputs x.references) (sym (f v refl e)) b.named) b.unsigned
+    by false e = refl
 
 -- a request of a refused id gets no signature
-blocked_new : (mark : Party → Hash32 → Hash32) (me : Identity) (before : List Entry) (q : Request) (now : Moment) → Blocked q.torn.id before → AgreesWith q before → is_signature (answer_new mark me before q now) ≡ false
+blocked_new : (mark : Party → Hash32 → Hash32) (me : Identity) (before : List Entry) (q : Request) (now : Moment) → Blocked me.party q.torn.id before → AgreesWith me.party q before → is_signature (answer_new mark me before q now) ≡ false
 blocked_new mark me before q now b agrees =
-    if_no (is_notary me) (answer_torn mark me.party before q now (visible_of q.torn)) answer.WrongNotary (blocked_torn mark me.party before q now b (visible_of q.torn) (λ v h. b.shown q refl agrees v h)) refl
+    if_no (is_notary me) (answer_torn mark me.party before q now (visible_of q.torn)) answer.WrongNotary (blocked_torn mark me.party before q now b (visible_of q.torn) (λ v h named. b.shown q refl agrees v h named)) refl
 
-blocked_booked : (mark : Party → Hash32 → Hash32) (me : Identity) (before : List Entry) (e : Entry) (id : Hash32) → IsBooked mark me before e → AgreesWith e.request before → Blocked id before → signs id e ≡ false
+blocked_booked : (mark : Party → Hash32 → Hash32) (me : Identity) (before : List Entry) (e : Entry) (id : Hash32) → IsBooked mark me before e → AgreesWith me.party e.request before → Blocked me.party id before → signs id e ≡ false
 blocked_booked mark me before e id booked agrees b =
     (elim (hash_eq id e.request.torn.id) as (λ t. hash_eq id e.request.torn.id ≡ t → (is_signature e.answer && t) ≡ false) [
       | true ↦ λ h.
-          let here : Blocked e.request.torn.id before = subst (λ (x : Hash32). Blocked x before) (hash_true id e.request.torn.id h) b in
+          let here : Blocked me.party e.request.torn.id before = subst (λ (x : Hash32). Blocked me.party x before) (hash_true id e.request.torn.id h) b in
           let a = (added mark me before e.request booked.0 e booked.1 booked.2).is in
           let given : answer_new mark me before e.request booked.0 ≡ e.answer = ap (λ (x : Entry). x.answer) a in
           no_and (is_signature e.answer) true (sym (ap is_signature given) ∙ blocked_new mark me before e.request booked.0 here agrees)
       | false ↦ λ h. no_and_right (is_signature e.answer) false refl
     ]) refl
 
-blocked_more : (mark : Party → Hash32 → Hash32) (me : Identity) (before : List Entry) (e : Entry) (id : Hash32) → IsBooked mark me before e → AgreesWith e.request before → Blocked id before → Blocked id (before ++ e ∷ [])
+blocked_more : (mark : Party → Hash32 → Hash32) (me : Identity) (before : List Entry) (e : Entry) (id : Hash32) → IsBooked mark me before e → AgreesWith me.party e.request before → Blocked me.party id before → Blocked me.party id (before ++ e ∷ [])
 blocked_more mark me before e id booked agrees b = record {
   seen = b.seen;
   named = record { ref = b.named.ref; has = b.named.has; taken = any_append (consumes id b.named.ref) before (e ∷ []) b.named.taken };
   unsigned = none_more (signs id) before e b.unsigned (blocked_booked mark me before e id booked agrees b);
-  shown = λ q is all v h. b.shown q is (all_front (λ d. Agree q d.request) before (e ∷ []) all) v h;
+  shown = λ q is all v h named. b.shown q is (all_front (λ d. Agree me.party q d.request) before (e ∷ []) all) v h named;
 }
 
 -- ---- how an id is refused
@@ -183,6 +185,10 @@ blocked_more mark me before e id booked agrees b = record {
 conflict_first : (b : Bool) (x y : NotaryAnswer) → is_conflict (cond b x y) ≡ true → is_conflict y ≡ false → is_conflict x ≡ true
 conflict_first true x y h k = h
 conflict_first false x y h k = absurd (both_ways _ k h)
+
+conflict_then : (b : Bool) (x y : NotaryAnswer) → is_conflict (cond b x y) ≡ true → is_conflict y ≡ false → b ≡ true
+conflict_then true x y h k = refl
+conflict_then false x y h k = absurd (both_ways _ k h)
 
 conflict_else : (b : Bool) (x y : NotaryAnswer) → is_conflict (cond b x y) ≡ true → is_conflict x ≡ false → (b ≡ false) × (is_conflict y ≡ true)
 conflict_else true x y h k = absurd (both_ways _ k h)
@@ -193,13 +199,14 @@ conflict_list mark me id now window [] h = absurd (both_ways _ (no_if (is_inside
 conflict_list mark me id now window (c ∷ cs) h = record { first = c; rest = cs; is = refl }
 
 -- what stood when a request was answered a conflict
-record Refusal (before : List Entry) (q : Request) : Type 0 where
+record Refusal (me : Party) (before : List Entry) (q : Request) : Type 0 where
   pub seen : Visible
   pub good : visible_of q.torn ≡ Some seen
+  pub mine : is_party me seen.notary ≡ true
   pub named : Named before q.torn.id seen.inputs seen.references
   pub unsigned : list_any (signs q.torn.id) before ≡ false
 
-refusal_torn : (mark : Party → Hash32 → Hash32) (me : Party) (before : List Entry) (q : Request) (now : Moment) (o : Option Visible) → visible_of q.torn ≡ o → is_conflict (answer_torn mark me before q now o) ≡ true → Refusal before q
+refusal_torn : (mark : Party → Hash32 → Hash32) (me : Party) (before : List Entry) (q : Request) (now : Moment) (o : Option Visible) → visible_of q.torn ≡ o → is_conflict (answer_torn mark me before q now o) ≡ true → Refusal me before q
 refusal_torn mark me before q now None good h = absurd (true≢false (sym h))
 refusal_torn mark me before q now (Some v) good h =
     let id = q.torn.id in
@@ -207,7 +214,8 @@ refusal_torn mark me before q now (Some v) good h =
     let shown = conflict_first (is_party me v.notary) (answer_shown mark me before q now v) answer.WrongNotary h refl in
     let tagged = conflict_else (not (has_good_tag mark q)) answer.BadRequestTag (cond (list_any (signs id) before) (answer.Signed (tag_by mark me id)) free) shown refl in
     let unsigned = conflict_else (list_any (signs id) before) (answer.Signed (tag_by mark me id)) free tagged.1 refl in
-    record { seen = v; good = good; named = named_by before id v (conflict_list mark me id now v.window (conflicts before id v) unsigned.1); unsigned = unsigned.0 }
+    let mine = conflict_then (is_party me v.notary) (answer_shown mark me before q now v) answer.WrongNotary h refl in
+    record { seen = v; good = good; mine = mine; named = named_by before id v (conflict_list mark me id now v.window (conflicts before id v) unsigned.1); unsigned = unsigned.0 }
 
 conflict_unsigned : (a : NotaryAnswer) → is_conflict a ≡ true → is_signature a ≡ false
 conflict_unsigned (answer.Signed tag) h = absurd (true≢false (sym h))
@@ -217,7 +225,7 @@ conflict_unsigned answer.BadRequestTag h = refl
 conflict_unsigned (answer.Conflict list) h = refl
 conflict_unsigned (answer.OutsideWindow now) h = refl
 
-refusal_blocks : (mark : Party → Hash32 → Hash32) (me : Identity) (before : List Entry) (e : Entry) → IsBooked mark me before e → is_conflict e.answer ≡ true → Blocked e.request.torn.id (before ++ e ∷ [])
+refusal_blocks : (mark : Party → Hash32 → Hash32) (me : Identity) (before : List Entry) (e : Entry) → IsBooked mark me before e → is_conflict e.answer ≡ true → Blocked me.party e.request.torn.id (before ++ e ∷ [])
 refusal_blocks mark me before e booked h =
     let q = e.request in
     let a = (added mark me before q booked.0 e booked.1 booked.2).is in
@@ -228,24 +236,24 @@ refusal_blocks mark me before e booked h =
       seen = r.seen;
       named = record { ref = r.named.ref; has = r.named.has; taken = any_append (consumes q.torn.id r.named.ref) before (e ∷ []) r.named.taken };
       unsigned = none_more (signs q.torn.id) before e r.unsigned (no_and (is_signature e.answer) (hash_eq q.torn.id e.request.torn.id) (conflict_unsigned e.answer h));
-      shown = λ p is all v good. all_last (λ d. Agree p d.request) before e all (sym is) v r.seen good r.good;
+      shown = λ p is all v good named. all_last (λ d. Agree me.party p d.request) before e all (sym is) v r.seen good r.good named r.mine;
     }
 
 -- ---- the whole book
 
-blocked_after : (mark : Party → Hash32 → Hash32) (me : Identity) (before es : List Entry) (id : Hash32) → IsBookAfter mark me before es → AgreeAfter before es → Blocked id before ⊎ (list_any (refuses id) es ≡ true) → Blocked id (before ++ es)
+blocked_after : (mark : Party → Hash32 → Hash32) (me : Identity) (before es : List Entry) (id : Hash32) → IsBookAfter mark me before es → AgreeAfter me.party before es → Blocked me.party id before ⊎ (list_any (refuses id) es ≡ true) → Blocked me.party id (before ++ es)
 blocked_after mark me before [] id book agree h =
-    ⊎_elim (λ b. subst (λ (l : List Entry). Blocked id l) (sym (append-nil before)) b) (λ k. absurd (true≢false (sym k))) h
+    ⊎_elim (λ b. subst (λ (l : List Entry). Blocked me.party id l) (sym (append-nil before)) b) (λ k. absurd (true≢false (sym k))) h
 blocked_after mark me before (e ∷ es) id book agree h =
-    let next : Blocked id (before ++ e ∷ []) ⊎ (list_any (refuses id) es ≡ true) =
+    let next : Blocked me.party id (before ++ e ∷ []) ⊎ (list_any (refuses id) es ≡ true) =
     ⊎_elim
     (λ b. inl (blocked_more mark me before e id book.0 agree.0 b))
     (λ k. ⊎_elim
-    (λ p. let both = and_parts (is_conflict e.answer) (hash_eq id e.request.torn.id) p in inl (subst (λ (x : Hash32). Blocked x (before ++ e ∷ [])) (sym (hash_true id e.request.torn.id both.1)) (refusal_blocks mark me before e book.0 both.0)))
+    (λ p. let both = and_parts (is_conflict e.answer) (hash_eq id e.request.torn.id) p in inl (subst (λ (x : Hash32). Blocked me.party x (before ++ e ∷ [])) (sym (hash_true id e.request.torn.id both.1)) (refusal_blocks mark me before e book.0 both.0)))
     (λ p. inr p) (or_cases _ _ k)) h in
-    subst (λ (l : List Entry). Blocked id l) (append_assoc before (e ∷ []) es) (blocked_after mark me (before ++ e ∷ []) es id book.1 agree.1 next)
+    subst (λ (l : List Entry). Blocked me.party id l) (append_assoc before (e ∷ []) es) (blocked_after mark me (before ++ e ∷ []) es id book.1 agree.1 next)
 
-blocked_by : (mark : Party → Hash32 → Hash32) (me : Identity) (book : List Entry) (id : Hash32) → IsBook mark me book → AllAgree book → list_any (refuses id) book ≡ true → Blocked id book
+blocked_by : (mark : Party → Hash32 → Hash32) (me : Identity) (book : List Entry) (id : Hash32) → IsBook mark me book → AllAgree me.party book → list_any (refuses id) book ≡ true → Blocked me.party id book
 unfolding IsBook
 blocked_by mark me book id h agree refused = blocked_after mark me [] book id h agree (inr refused)
 
@@ -275,11 +283,11 @@ repeated_refuses q (x ∷ xs) e h k =
     ]) refl h
 
 -- an id that was answered a conflict is never signed
-pub refused_unsigned : (mark : Party → Hash32 → Hash32) (me : Identity) (book : List Entry) (q : Request) (now : Moment) → IsBook mark me book → AllAgree book → AgreesWith q book → list_any (refuses q.torn.id) book ≡ true → is_signature (reply mark book q me now).answer ≡ false
+pub refused_unsigned : (mark : Party → Hash32 → Hash32) (me : Identity) (book : List Entry) (q : Request) (now : Moment) → IsBook mark me book → AllAgree me.party book → AgreesWith me.party q book → list_any (refuses q.torn.id) book ≡ true → is_signature (reply mark book q me now).answer ≡ false
 unfolding reply
 refused_unsigned mark me book q now h agree agrees refused = by (find (repeats q) book) refl
   where
-    b : Blocked q.torn.id book
+    b : Blocked me.party q.torn.id book
     b = blocked_by mark me book q.torn.id h agree refused
 
     by : (o : Option Entry) → find (repeats q) book ≡ o → is_signature (reply_over mark me book q now o).answer ≡ false
@@ -291,7 +299,7 @@ not_refused true h = absurd (h refl)
 not_refused false h = refl
 
 -- an id that was signed is never answered a conflict
-pub signed_unrefused : (mark : Party → Hash32 → Hash32) (me : Identity) (book : List Entry) (q : Request) (now : Moment) → IsBook mark me book → AllAgree book → list_any (signs q.torn.id) book ≡ true → is_conflict (reply mark book q me now).answer ≡ false
+pub signed_unrefused : (mark : Party → Hash32 → Hash32) (me : Identity) (book : List Entry) (q : Request) (now : Moment) → IsBook mark me book → AllAgree me.party book → list_any (signs q.torn.id) book ≡ true → is_conflict (reply mark book q me now).answer ≡ false
 unfolding reply
 signed_unrefused mark me book q now h agree signed = by (find (repeats q) book) refl
   where

@@ -193,8 +193,8 @@ impl Book {
     /// first of these that applies:
     ///
     /// 1. An entry of the same party, flow and id has its answer repeated, which is not fresh.
-    /// 2. `WrongNotary` where this node is not its network's notary (which is not fresh), or the transaction names
-    ///    another one.
+    /// 2. `WrongNotary` where this node is not its network's notary (which is not fresh), or a good tear-off names none
+    ///    or another one.
     /// 3. `BadTear` where the tear-off is bad.
     /// 4. `BadRequestTag` where the request's tag isn't the asking party's over the id, or doesn't check.
     /// 5. `Signed` where an entry signed this id already.
@@ -203,7 +203,7 @@ impl Book {
     /// 7. `OutsideWindow` where there is a time window that doesn't hold the moment.
     /// 8. `Signed` with the notary's tag.
     ///
-    /// It looks each of these up and goes through no entries, whatever the book holds.
+    /// It is built on look-ups in the book's indices, and goes through no entries.
     #[tactic(auto, unfolding(ledger_types::specs::Notary::reply))]
     pub fn decide<S: Signer>(
         &self,

@@ -12,5 +12,6 @@ mod tests;
 pub use book::Book;
 pub use deciding::Decision;
 pub use laws::{
-    conflicts_name_consumers, one_consumer, refused_is_never_signed, signed_is_never_refused,
+    conflicts_name_consumers, one_consumer, refused_is_never_signed, requests_agree,
+    signed_is_never_refused,
 };

@@ -1,10 +1,12 @@
 //! The decisions of a notary, worked out by hand from the order of its cases. The tear-offs were computed by another
 //! implementation.
 
-ghost use Rattle.std.specs.Prelude.{IfOk};
+ghost use Rattle.std.specs.Prelude.{◌≤◌, IfOk, length};
 ghost use Rattle.net_base.specs.Values.{IsParty};
 ghost use Rattle.ledger_types.specs.Requests.{IsNotaryAnswer};
+ghost use Rattle.ledger_types.specs.Torn.{IsTornTx};
 
+mod cases;
 mod plain;
 
 use super::*;
@@ -39,14 +41,22 @@ const ELSEWHERE: &str =
 const BAD: &str =
     "09090909090909090909090909090909090909090909090909090909090909090501011010101010101010101010101010101010101010101010101010101010101010002401010101010101010101010101010101010101010101010101010101010101010000000000ffffffffffffffffffffffffffffffffffffffffffffffffffffffffffffffff00ffffffffffffffffffffffffffffffffffffffffffffffffffffffffffffffff00ffffffffffffffffffffffffffffffffffffffffffffffffffffffffffffffff01012020202020202020202020202020202020202020202020202020202020202020000100";
 
+/// A node of the network: its notary, or another.
+fn node(is_notary: bool) -> Identity
+    ensures { IsParty result.party }
+{
+    let party = if is_notary { Party(0) } else { Party(2) };
+    Identity {
+        party,
+        nodes: 3,
+        notary: Party(0),
+    }
+}
+
 /// A request for a tear-off, with the tag of the party `signer`.
-fn request_of(
-    alloc: Global,
-    torn: &str,
-    party: u8,
-    flow: u32,
-    signer: u8,
-) -> Result<Request, Fail> {
+fn request_of(alloc: Global, torn: &str, party: u8, flow: u32, signer: u8) -> Result<Request, Fail>
+    ensures { IfOk result (λ q. IsTornTx q.torn) }
+{
     let bytes = hex::decode(alloc, torn)?;
     let torn = TornTx::decode(alloc, &mut Reader::new(&bytes))?;
     let by = Party(signer);
@@ -71,7 +81,8 @@ fn decide(
     me: &Identity,
     now: Moment,
 ) -> Result<(RefList, Decision), TearFault>
-    ensures { IsParty me.now.party → IfOk result (λ p. IsNotaryAnswer p.1.answer) }
+    ensures inputs { IsTornTx request.now.torn → IfOk result (λ p. length p.0 ≤ 64) }
+    ensures answer { IsParty me.now.party → IfOk result (λ p. IsNotaryAnswer p.1.answer) }
 {
     match visible(alloc, &request.torn) {
         Ok(seen) => {
@@ -93,13 +104,13 @@ fn answer(
     request: Request,
     me: &Identity,
     now: Moment,
-) -> Result<(u8, bool), TearFault> {
+) -> Result<(u8, bool), TearFault>
+    requires torn { IsTornTx request.torn }
+    requires me { IsParty me.now.party }
+{
     let (inputs, decision) = decide(alloc, book, &request, me, now)?;
     let Decision { answer, fresh } = decision;
     let code = answer.code();
-    if inputs.len() > 64 || me.party.0 > 15 {
-        return Err(TearFault::BadTear);
-    }
     if fresh {
         book.make_room(alloc)?;
         book.add(Entry {
@@ -111,23 +122,18 @@ fn answer(
     Ok((code, fresh))
 }
 
-/// What the node `node` replies to a party's flow with the tag of a signer.
+/// What the notary, or another node, replies to a party's flow with the tag of a signer.
 fn reply_to(
     alloc: Global,
     book: &mut Book,
     torn: &str,
     asked: (u8, u32, u8),
-    node: u8,
+    is_notary: bool,
     now: Moment,
 ) -> Result<(u8, bool), Fail> {
     let (party, flow, signer) = asked;
     let request = request_of(alloc, torn, party, flow, signer)?;
-    let me = Identity {
-        party: Party(node),
-        nodes: 3,
-        notary: Party(0),
-    };
-    Ok(answer(alloc, book, request, &me, now)?)
+    Ok(answer(alloc, book, request, &node(is_notary), now)?)
 }
 
 /// The only item of a conflict, its kind as the number 0 for an input and 1 for a reference.
@@ -172,14 +178,15 @@ fn the_laws(_rt: HostRuntime) {
     conflicts_name_consumers();
     signed_is_never_refused();
     refused_is_never_signed();
+    requests_agree();
 }
 
 #[test]
 fn the_eight_cases(rt: HostRuntime) -> Result<(), Fail> {
     let table = [
-        ("signed", 1, 0, PAY, 1, 0, 0, (0, true)),
-        ("asked again", 1, 0, PAY, 1, 7, 0, (0, false)),
-        ("signed already", 2, 0, PAY, 2, 0, 0, (0, true)),
+        ("signed", 1, 0, PAY, 1, 0, true, (0, true)),
+        ("asked again", 1, 0, PAY, 1, 7, true, (0, false)),
+        ("signed already", 2, 0, PAY, 2, 0, true, (0, true)),
         (
             "its input is consumed",
             1,
@@ -187,10 +194,10 @@ fn the_eight_cases(rt: HostRuntime) -> Result<(), Fail> {
             PAY_AGAIN,
             1,
             0,
-            0,
+            true,
             (44, true),
         ),
-        ("refused again", 1, 1, PAY_AGAIN, 1, 0, 0, (44, false)),
+        ("refused again", 1, 1, PAY_AGAIN, 1, 0, true, (44, false)),
         (
             "its reference is consumed",
             1,
@@ -198,10 +205,10 @@ fn the_eight_cases(rt: HostRuntime) -> Result<(), Fail> {
             REFER,
             1,
             0,
-            0,
+            true,
             (44, true),
         ),
-        ("before its window", 1, 3, IN_TIME, 1, 4, 0, (45, true)),
+        ("before its window", 1, 3, IN_TIME, 1, 4, true, (45, true)),
         (
             "at the end of its window",
             1,
@@ -209,10 +216,10 @@ fn the_eight_cases(rt: HostRuntime) -> Result<(), Fail> {
             IN_TIME,
             1,
             9,
-            0,
+            true,
             (45, true),
         ),
-        ("in its window", 1, 5, IN_TIME, 1, 5, 0, (0, true)),
+        ("in its window", 1, 5, IN_TIME, 1, 5, true, (0, true)),
         (
             "past its window, signed already",
             1,
@@ -220,18 +227,18 @@ fn the_eight_cases(rt: HostRuntime) -> Result<(), Fail> {
             IN_TIME,
             1,
             9,
-            0,
+            true,
             (0, true),
         ),
-        ("another notary", 1, 7, ELSEWHERE, 1, 0, 0, (41, true)),
-        ("not at the notary", 1, 8, PAY, 1, 0, 2, (41, false)),
-        ("a bad tear-off", 1, 9, BAD, 1, 0, 0, (42, true)),
-        ("the tag of another", 1, 10, PAY, 2, 0, 0, (43, true)),
+        ("another notary", 1, 7, ELSEWHERE, 1, 0, true, (41, true)),
+        ("not at the notary", 1, 8, PAY, 1, 0, false, (41, false)),
+        ("a bad tear-off", 1, 9, BAD, 1, 0, true, (42, true)),
+        ("the tag of another", 1, 10, PAY, 2, 0, true, (43, true)),
     ];
     let mut book = Book::new(rt.alloc());
-    for (name, party, flow, torn, signer, now, node, wanted) in table {
+    for (name, party, flow, torn, signer, now, is_notary, wanted) in table {
         let asked = (party, flow, signer);
-        let given = reply_to(rt.alloc(), &mut book, torn, asked, node, Moment(now))?;
+        let given = reply_to(rt.alloc(), &mut book, torn, asked, is_notary, Moment(now))?;
         assert_eq!(rt; given, wanted, "{name}");
     }
     assert_eq!(rt; names_the_consumers(book.entries()), true);
@@ -245,25 +252,21 @@ fn agrees_and_signs(
     book: &mut Book,
     request: Request,
     now: Moment,
-) -> Result<bool, TearFault> {
-    let me = Identity {
-        party: Party(0),
-        nodes: 3,
-        notary: Party(0),
-    };
+) -> Result<bool, TearFault>
+    requires { IsTornTx request.torn }
+{
+    let me = node(true);
     let seen = visible(alloc, &request.torn)?;
     let found = book.decide(alloc, &request, Some(&seen), &me, now, &KeyedDigest)?;
     let scanned = plain::decide(alloc, book.entries(), &request, &seen, me.party, now)?;
     let same = plain::is_same(&found.answer, &scanned.answer) && found.fresh == scanned.fresh;
-    if seen.inputs.len() <= 64 {
-        let answer = signed_by(me.party, request.torn.id);
-        book.make_room(alloc)?;
-        book.add(Entry {
-            request,
-            inputs: seen.inputs,
-            answer,
-        });
-    }
+    let answer = signed_by(me.party, request.torn.id);
+    book.make_room(alloc)?;
+    book.add(Entry {
+        request,
+        inputs: seen.inputs,
+        answer,
+    });
     Ok(same)
 }
 

@@ -1,3 +1,4 @@
 pub mod Found
+pub mod Limits
 pub mod Ordered
 pub mod Resolving

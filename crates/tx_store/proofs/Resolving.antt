@@ -17,7 +17,7 @@ none_some : {X : Type 0} {x : X} → None ≡ Some x → ⊥
 none_some e = true≢false (sym (ap is_some e))
 
 -- what joins a state to states, taken apart
-joined_parts : (s : Option TxState) (rest : Option (List TxState)) (all : List TxState) → joined s rest ≡ Some all → (state : TxState) × ((states : List TxState) × ((s ≡ Some state) × ((rest ≡ Some states) × (all ≡ state ∷ states))))
+pub joined_parts : (s : Option TxState) (rest : Option (List TxState)) (all : List TxState) → joined s rest ≡ Some all → (state : TxState) × ((states : List TxState) × ((s ≡ Some state) × ((rest ≡ Some states) × (all ≡ state ∷ states))))
 joined_parts None rest all e = absurd (none_some e)
 joined_parts (Some s) None all e = absurd (none_some e)
 joined_parts (Some s) (Some states) all e = (s, (states, (refl, (refl, cc e))))

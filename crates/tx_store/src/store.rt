@@ -1,14 +1,14 @@
 //! The store.
 
-ghost use Rattle.std.specs.Prelude.{◌≡◌, ◌≢◌, ◌<◌, ◌≤◌, ◌+◌, ◌^◌, ◌++◌, ◌∷◌, [], List, length, IsOk, OnOk, IfOk, IfErr, Some, None, not, true, false, Bool, option_copied, option_map, slice_get, map, if◌then◌else◌, Contains};
+ghost use Rattle.std.specs.Prelude.{◌≡◌, ◌≢◌, ◌<◌, ◌≤◌, ◌+◌, ◌^◌, ◌++◌, ◌∷◌, [], List, length, IsOk, OnOk, IfOk, IfErr, IfSome, Some, None, not, true, false, Bool, option_copied, option_map, slice_get, map, if◌then◌else◌, Contains};
 ghost use Rattle.std.specs.List.{list_all};
 ghost use Rattle.std.specs.Map.Iter.{deref_pair};
 ghost use Rattle.net_base.specs.declared.values.Hash32.{Hash32 as Id};
-ghost use Rattle.ledger_types.specs.Txs.{IsTx};
+ghost use Rattle.ledger_types.specs.Txs.{IsSignedTx};
 ghost use Rattle.ledger_types.specs.Signatures.{tx_id};
 ghost use Rattle.ledger_types.specs.Stores.{stored_of, is_stored, state_of, states_of, resolved_of, missing_ids};
 ghost use Rattle.tx_store.specs.declared.fault.ResolveFault.TheVariants.{Memory};
-ghost use Rattle.tx_store.specs.Stored.{refs_of, all_stored, has_dependencies, is_in_order, leads_back, found_with, found_in};
+ghost use Rattle.tx_store.specs.Stored.{AreWithin, IsResolved, refs_of, all_stored, has_dependencies, is_in_order, leads_back, found_with, found_in};
 ghost use Rattle.tx_store.specs.Faults.{fault_of, state_or_fault};
 
 use crate::fault::ResolveFault;
@@ -19,7 +19,8 @@ use std::alloc::{AllocError, Global};
 use std::marker::Model;
 
 /// The recorded transactions. Contracts see them as a list of ids and transactions in order of recording: each
-/// stands under its own id, once, behind all that it depends on, so that its whole back-chain is stored.
+/// stands under its own id, once, behind all that it depends on, so that its whole back-chain is stored, and is within its
+/// limits.
 #[derive(Drop)]
 pub struct Store {
     map: IndexMap<Hash32, SignedTx>,
@@ -28,13 +29,13 @@ pub struct Store {
 impl Model for Store {
     ghost use Rattle.std.specs.Prelude.{◌≡◌, ◌<◌, ◌^◌, true, length};
     ghost use Rattle.indexmap.specs.IndexMap.{spare};
-    ghost use Rattle.tx_store.specs.Stored.{Stored, is_in_order};
+    ghost use Rattle.tx_store.specs.Stored.{Stored, is_in_order, AreWithin};
 
     ghost Value = { Stored };
 
     ghost view = { λ s. record { list = s.map.entries; room = spare s.map } };
 
-    ghost invariant = { λ s. (is_in_order s.map.entries ≡ true) × (length s.map.entries < 2 ^ 32) };
+    ghost invariant = { λ s. (is_in_order s.map.entries ≡ true) × (length s.map.entries < 2 ^ 32) × AreWithin s.map.entries };
 }
 
 impl Store {
@@ -56,14 +57,16 @@ impl Store {
 
     /// The transaction of this id, where it is stored.
     pub fn get(&self, id: &Hash32) -> Option<&SignedTx>
-        ensures { option_copied result ≡ stored_of self.now.list id.now }
+        ensures stored { option_copied result ≡ stored_of self.now.list id.now }
+        ensures limits { IfSome result (λ stx. IsSignedTx stx.now) }
     {
         self.map.get(id)
     }
 
     /// The transaction at place `k` in order of recording, counted from 0, with its id.
     pub fn at(&self, k: u32) -> Option<(&Hash32, &SignedTx)>
-        ensures { option_map deref_pair result ≡ slice_get self.now.list k }
+        ensures stored { option_map deref_pair result ≡ slice_get self.now.list k }
+        ensures limits { IfSome result (λ p. IsSignedTx p.1.now) }
     {
         self.map.get_index(k as usize)
     }
@@ -131,7 +134,9 @@ impl Store {
     pub fn resolve(&self, alloc: Global, tx: &Tx) -> Result<Resolved, ResolveFault>
         ensures resolved { IfOk result (λ states. resolved_of self.now.list tx.now ≡ Some states) }
         ensures fault { IfErr result (λ e. e ≢ Memory → fault_of self.now.list (refs_of tx.now) ≡ Some e) }
+        ensures limits { IfOk result IsResolved }
     {
+        self.keeps_limits();
         Ok(Resolved {
             inputs: self.states(alloc, tx.inputs.as_slice())?,
             references: self.states(alloc, tx.references.as_slice())?,
@@ -176,7 +181,7 @@ impl Store {
     /// id is stored already. It takes no memory.
     pub fn put(&mut self, stx: SignedTx) -> bool
         requires room { 0 < self.old.room }
-        requires limits { IsTx stx.tx }
+        requires limits { IsSignedTx stx }
         requires dependencies { has_dependencies self.old.list stx.tx ≡ true }
         requires few { length self.old.list + 1 < 2 ^ 32 }
         ensures fresh { result ≡ not (is_stored self.old.list (tx_id stx.tx)) }
@@ -196,6 +201,14 @@ impl Store {
     pub fn keeps_back_chains(&self)
         ensures in_order { is_in_order self.now.list ≡ true }
         ensures back_chains { (id : Id) (ids : List Id) → leads_back self.now.list (stored_of self.now.list id) ids ≡ true → list_all (is_stored self.now.list) ids ≡ true }
+    {
+        let _ = &self.map;
+    }
+
+    /// The law that each transaction of the store is within its limits, with its tags, so that it can be spelt. It takes no
+    /// work.
+    pub fn keeps_limits(&self)
+        ensures { AreWithin self.now.list }
     {
         let _ = &self.map;
     }

@@ -1,3 +1,4 @@
+pub mod Sizes
 pub mod Groups
 pub mod Spelling
 pub mod Shows

@@ -1,4 +1,5 @@
 pub mod Tearing
 pub mod Telling
+pub mod Limits
 pub mod Hashed
 pub mod Agreement

@@ -13,14 +13,14 @@ pub fn equal_roots_have_equal_leaves()
 {}
 
 /// A good tear-off that has the id of a transaction with a command, and that names a notary, shows what the
-/// transaction's own tear-off shows: its inputs, references, notary and time window. This holds where no digests of what
-/// is hashed for the two collide.
+/// transaction's own tear-off shows: its inputs, references, notary and time window. This holds where both are within
+/// their limits, and no digests of what is hashed for the two collide.
 pub fn good_tear_off_shows_transaction()
     ensures { GoodTearShowsTransaction }
 {}
 
 /// Two good tear-offs that have one id, and that name a notary each, show the same inputs, references, notary and time
-/// window, where no digests of what is hashed for the two collide.
+/// window, where both are within their limits, and no digests of what is hashed for the two collide.
 pub fn good_tear_offs_agree()
     ensures { GoodTearsAgree }
 {}

@@ -1,8 +1,12 @@
 //! Reading a tear-off.
 
-ghost use Rattle.std.specs.Prelude.{◌≡◌, List, option_and_then};
+ghost use Rattle.std.specs.Prelude.{◌≡◌, List, option_and_then, IfOk, IfSome};
+ghost use Rattle.std.specs.List.{AllByRecursion};
+ghost use Rattle.net_base.specs.Forms.{ListWithin};
+ghost use Rattle.ledger_types.specs.Torn.{IsTornTx};
 ghost use Rattle.tx_tear.specs.declared.reading.TearFault.TheVariants.{Memory};
 ghost use Rattle.tx_tear.specs.Telling.{Tells};
+ghost use Rattle.tx_tear.specs.Limits.{IsVisible};
 ghost use Rattle.ledger_types.specs.Tears.{whole, spelt_by, parts_at, at_most_one, visible_of};
 
 use crate::values::group_values;
@@ -40,7 +44,8 @@ impl<T: Drop> From<AllocFailed<T>> for TearFault {
 
 /// The value whose spelling all of the bytes are.
 fn read_whole<T: Spelt>(alloc: Global, bytes: &[u8]) -> Result<T, TearFault>
-    ensures { Tells result (whole (T.reading bytes.now)) }
+    ensures tells { Tells result (whole (T.reading bytes.now)) }
+    ensures limits { IfOk result T.within }
 {
     let mut from = Reader::new(bytes);
     match T::read_part(alloc, &mut from) {
@@ -58,7 +63,8 @@ fn read_whole<T: Spelt>(alloc: Global, bytes: &[u8]) -> Result<T, TearFault>
 
 /// The values that the parts spell.
 fn read_parts<T: Spelt>(alloc: Global, parts: &[TornPart]) -> Result<ListOf<T>, TearFault>
-    ensures { Tells result (spelt_by T.reading parts.now) }
+    ensures tells { Tells result (spelt_by T.reading parts.now) }
+    ensures limits { IfOk result (AllByRecursion T.within) }
 {
     let mut items = Vec::with_capacity(alloc, parts.len())?;
     for part in parts {
@@ -73,7 +79,8 @@ fn read_shown<T: Spelt>(
     torn: &TornTx,
     ordinal: usize,
 ) -> Result<ListOf<T>, TearFault>
-    ensures { Tells result (option_and_then (spelt_by T.reading) (parts_at torn.now ordinal)) }
+    ensures tells { Tells result (option_and_then (spelt_by T.reading) (parts_at torn.now ordinal)) }
+    ensures limits { IsTornTx torn.now → IfOk result (ListWithin 64 T.within) }
 {
     match torn.groups.as_slice().get(ordinal) {
         None => Ok(ListOf::new(alloc)),
@@ -82,8 +89,9 @@ fn read_shown<T: Spelt>(
     }
 }
 
-fn at_most_one<T: Copy>(items: &ListOf<T>) -> Result<Option<T>, TearFault>
-    ensures { Tells result (at_most_one items.now) }
+fn at_most_one<T: Copy + Spelt>(items: &ListOf<T>) -> Result<Option<T>, TearFault>
+    ensures tells { Tells result (at_most_one items.now) }
+    ensures limits { AllByRecursion T.within items.now → IfOk result (λ o. IfSome o T.within) }
 {
     match items.as_slice() {
         [] => Ok(None),
@@ -92,7 +100,8 @@ fn at_most_one<T: Copy>(items: &ListOf<T>) -> Result<Option<T>, TearFault>
     }
 }
 
-/// What a tear-off shows: the inputs, the references, the notary and the time window of its transaction.
+/// What a tear-off shows: the inputs, the references, the notary and the time window of its transaction. Where the
+/// tear-off is within its limits, so is what it shows: at most 64 inputs and 64 references, and each value.
 ///
 /// # Errors
 ///
@@ -102,7 +111,8 @@ fn at_most_one<T: Copy>(items: &ListOf<T>) -> Result<Option<T>, TearFault>
 /// `Memory` where memory runs out.
 #[tactic(auto, unfolding(ledger_types::specs::Tears::visible_of))]
 pub fn visible(alloc: Global, torn: &TornTx) -> Result<Visible, TearFault>
-    ensures { Tells result (visible_of torn.now) }
+    ensures tells { Tells result (visible_of torn.now) }
+    ensures limits { IsTornTx torn.now → IfOk result IsVisible }
 {
     let mut values = group_values(alloc, torn.groups.as_slice())?;
     if root(&mut values) != torn.id.0 {

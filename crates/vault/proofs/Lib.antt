@@ -2,5 +2,8 @@ pub mod Marking
 pub mod Coins
 pub mod Names
 pub mod Passing
+pub mod Limits
+pub mod Chosen
 pub mod Locking
+pub mod Distinct
 pub mod Vaults

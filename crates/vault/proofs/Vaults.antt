@@ -1,7 +1,7 @@
 -- The states of a vault, as transactions are recorded and states are locked and released.
 use Rattle.std.proofs.Common.{◌≡◌, ◌+◌, ◌<◌, ◌==◌, ℕ, zero, suc, Bool, true, false, cond, not, is_none, ◌&&◌, ◌||◌, List, [], ◌∷◌, ◌++◌, Option, Some, None, length, take, get_or, map, filter, refl, sym, ◌∙◌, ap, subst, true≢false, arith, append-nil, append_assoc, if◌then◌else◌}
 use Rattle.std.specs.List.{list_all}
-use Rattle.std.proofs.lemmas.Bool.{and_parts, and_from, or_parts, not-true}
+use Rattle.std.proofs.lemmas.Bool.{and_parts, and_from, or_parts, not_from_false, not-true}
 use Rattle.std.proofs.lemmas.Grind.{flat_map-append}
 use Rattle.std.proofs.lemmas.Simd.{map-map}
 use Rattle.std.proofs.lemmas.List.{map-append, append-nil}
@@ -18,6 +18,7 @@ use Rattle.ledger_types.specs.Vaults.{Lock, is_relevant, locked_by, held, output
 use Rattle.vault.specs.Holdings.{held_after, has_coin, locked_in, is_flow, freed_of, is_noted, has_sources, may_note, locks_of, released, are_apart, IsVault}
 use Rattle.vault.proofs.Names.{hash_swapped, ref_exact}
 use Rattle.vault.proofs.Passing.{filter_twice, filter_changed, map_same, any_filter, all_filter, all_weaker, true_or_false}
+use Rattle.vault.proofs.Distinct.{once_more}
 use Rattle.vault.proofs.Locking.{absent_unlocked, locked_more, locked_less, apart_more, apart_less}
 
 -- a transaction with its id
@@ -139,6 +140,7 @@ lock_keeps me recorded locks states flow refs v coins once =
     let free : (r : StateRef) → has_ref r refs ≡ true → locked_by locks r ≡ None = λ r there. coin_unlocked me recorded locks r (each_of (has_coin vault) refs r all there) in
     record {
       states = ap (map (locked_in flow refs)) v.states ∙ sym (vault_changed me recorded locks (locks ++ locks_of flow refs) (locked_in flow refs) (λ h. changed h (free h.reference)));
+      once = v.once;
       sources = v.sources;
       known = list_all-append (λ l. is_noted recorded l.reference.id) locks (locks_of flow refs) ∙ and_from _ _ v.known (list_all-map (λ l. is_noted recorded l.reference.id) (λ r. record { reference = r; flow = flow }) refs ∙ all_weaker (has_coin vault) (λ r. is_noted recorded r.id) (λ r coin. coin_noted me recorded locks r coin) refs all);
       apart = apart_more locks flow refs v.apart once free;
@@ -155,6 +157,7 @@ pub release_keeps : (me : Party) (recorded : List Noted) (locks : List Lock) (st
 release_keeps me recorded locks states flow v =
     record {
       states = ap (map (freed_of flow)) v.states ∙ sym (vault_changed me recorded locks (released flow locks) (freed_of flow) (λ h. changed h v.apart));
+      once = v.once;
       sources = v.sources;
       known = all_filter (λ l. is_noted recorded l.reference.id) (λ l. not (l.flow == flow)) locks v.known;
       apart = apart_less flow locks v.apart;
@@ -172,7 +175,7 @@ release_keeps me recorded locks states flow v =
 -- nothing is held where nothing is recorded
 pub vault_none : (me : Party) → IsVault me [] [] []
 unfolding vault_of
-vault_none me = record { states = refl; sources = refl; known = refl; apart = refl }
+vault_none me = record { states = refl; once = refl; sources = refl; known = refl; apart = refl }
 
 noted_more : (recorded : List Noted) (t : Noted) (id : Hash32) → is_noted recorded id ≡ true → is_noted (recorded ++ t ∷ []) id ≡ true
 noted_more recorded t id there = list_any-append (λ u. hash_eq id u.0) recorded (t ∷ []) ∙ ap (λ b. b || is_noted (t ∷ []) id) there
@@ -241,6 +244,7 @@ note_keeps me recorded locks states id tx v may =
     let free : (k : ℕ) → locked_by locks (record { id = id; index = k }) ≡ None = λ k. let r : StateRef = record { id = id; index = k } in absent_unlocked locks r (not_locked recorded locks r none v.known) in
     record {
       states = ap (held_after me id tx) v.states ∙ sym (vault_noted me recorded locks id tx unspent free);
+      once = not_from_false _ (once_more recorded (id, tx) (not-true _ v.once) none);
       sources = list_all-append (λ (t : Noted). has_sources (recorded ++ (id, tx) ∷ []) t.1) recorded ((id, tx) ∷ []) ∙ and_from _ _ (all_weaker (λ (t : Noted). has_sources recorded t.1) (λ t. has_sources (recorded ++ (id, tx) ∷ []) t.1) (λ t h. sources_more recorded (id, tx) t.1 h) recorded v.sources) (and_from _ _ (sources_more recorded (id, tx) tx both.1) refl);
       known = all_weaker (λ (l : Lock). is_noted recorded l.reference.id) (λ l. is_noted (recorded ++ (id, tx) ∷ []) l.reference.id) (λ l h. noted_more recorded (id, tx) l.reference.id h) locks v.known;
       apart = v.apart;

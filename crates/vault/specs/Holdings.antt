@@ -1,19 +1,42 @@
 -- What contracts see of a vault, what each call makes of it, and how that goes with the list of recorded transactions.
-use Rattle.std.specs.Prelude.{◌≡◌, ℕ, Bool, true, false, not, ◌==◌, ◌&&◌, List, [], ◌++◌, Option, Some, None, map, filter, if◌then◌else◌}
-use Rattle.std.specs.List.{list_any, list_all}
+use Rattle.std.specs.Prelude.{◌≡◌, ◌<◌, ◌^◌, ℕ, Bool, true, false, not, ◌==◌, ◌&&◌, List, [], ◌++◌, Option, Some, None, IfSome, map, filter, if◌then◌else◌}
+use Rattle.std.specs.List.{list_any, list_all, AllByRecursion}
 use Rattle.net_base.specs.declared.values.Hash32.{Hash32}
 use Rattle.net_base.specs.declared.values.Party.{Party}
 use Rattle.net_base.specs.declared.names.StateRef.{StateRef}
+use Rattle.net_base.specs.declared.names.Token.{Token}
+use Rattle.net_base.specs.Names.{IsStateRef}
 use Rattle.ledger_types.specs.declared.tx.Tx.{Tx}
 use Rattle.ledger_types.specs.declared.held.Held.{Held}
 use Rattle.ledger_types.specs.Names.{hash_eq, ref_eq, has_ref, has_repeat}
-use Rattle.ledger_types.specs.Vaults.{Lock, is_relevant, outputs_from, vault_of, is_coin}
+use Rattle.ledger_types.specs.States.{IsTxState}
+use Rattle.ledger_types.specs.Vaults.{Lock, is_relevant, outputs_from, vault_of, is_coin, is_coin_of}
 
 -- what contracts see of a vault: whose it is, what it holds in order of recording, and for how many more states there is room
 pub record Holding : Type 0 where
   pub party : Party
   pub held : List Held
   pub room : ℕ
+
+-- the limits of a state that is held
+abbrev pub IsHeld : Held → Type 0
+IsHeld h = IsStateRef h.reference × (IsTxState h.state × IfSome h.locked (λ flow. flow < 2 ^ 32))
+
+-- whether a state is relevant to the party
+abbrev pub is_own : Party → Held → Bool
+is_own me h = is_relevant me h.state.body
+
+-- each of these states is within its limits and relevant to the party
+abbrev pub AreHeld : Party → List Held → Type 0
+AreHeld me states = AllByRecursion IsHeld states × (list_all (is_own me) states ≡ true)
+
+-- the references of states
+abbrev pub references_of : List Held → List StateRef
+references_of states = map (λ h. h.reference) states
+
+-- whether a state is a coin of the token, and relevant to the party: its owner is this party
+abbrev pub is_own_coin : Party → Token → Held → Bool
+is_own_coin me token h = is_own me h && is_coin_of token h
 
 -- ---- what each call makes of the states
 
@@ -56,6 +79,10 @@ has_sources recorded tx = list_all (λ r. is_noted recorded r.id) tx.inputs
 abbrev pub may_note : List (Hash32 × Tx) → Hash32 → Tx → Bool
 may_note recorded id tx = not (is_noted recorded id) && has_sources recorded tx
 
+-- whether no id is recorded twice
+abbrev pub are_once : List (Hash32 × Tx) → Bool
+are_once recorded = not (has_repeat (λ u t. hash_eq t.0 u.0) recorded)
+
 -- the locks of these states by a flow
 abbrev pub locks_of : ℕ → List StateRef → List Lock
 locks_of flow refs = map (λ r. record { reference = r; flow = flow }) refs
@@ -68,10 +95,11 @@ released flow locks = filter (λ l. not (l.flow == flow)) locks
 abbrev pub are_apart : List Lock → Bool
 are_apart locks = not (has_repeat ref_eq (map (λ l. l.reference) locks))
 
--- these states are the party's vault over the recorded transactions and the soft locks. Each recorded transaction consumes outputs of recorded
--- ones, each lock is on one of these, and none is locked twice
+-- these states are the party's vault over the recorded transactions and the soft locks. No id is recorded twice, each recorded transaction
+-- consumes outputs of recorded ones, each lock is on one of these, and none is locked twice
 pub record IsVault (me : Party) (recorded : List (Hash32 × Tx)) (locks : List Lock) (held : List Held) : Type 0 where
   pub states : held ≡ vault_of me recorded locks
+  pub once : are_once recorded ≡ true
   pub sources : list_all (λ t. has_sources recorded t.1) recorded ≡ true
   pub known : list_all (λ l. is_noted recorded l.reference.id) locks ≡ true
   pub apart : are_apart locks ≡ true

@@ -3,10 +3,12 @@
 #![tactic(auto)]
 
 mod fault;
+mod laws;
 mod states;
 #[cfg(test)]
 mod tests;
 mod vault;
 
 pub use fault::ReserveFault;
+pub use laws::holds_each_once;
 pub use vault::Vault;

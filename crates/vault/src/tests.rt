@@ -1,8 +1,12 @@
 //! What is relevant, what is reserved, and each call once.
 
-ghost use Rattle.std.specs.Prelude.{◌≡◌, ◌≤◌, IfOk, length};
+ghost use Rattle.std.specs.Prelude.{◌≡◌, IfOk};
+ghost use Rattle.net_base.specs.Forms.{ListWithin};
+ghost use Rattle.net_base.specs.Values.{IsParty};
+ghost use Rattle.net_base.specs.Names.{IsToken};
+ghost use Rattle.ledger_types.specs.States.{IsStateData, IsTxState};
 
-use crate::{ReserveFault, Vault};
+use crate::{ReserveFault, Vault, holds_each_once};
 use ledger_types::{HeldList, StateData, Tx, TxState};
 use net_base::{Hash32, ListOf, Moment, Party, StateRef, Token};
 use std::alloc::Global;
@@ -12,14 +16,19 @@ const ME: Party = Party(1);
 
 const OTHER: Party = Party(2);
 
-fn token() -> Token {
+fn token() -> Token
+    ensures { IsToken result }
+{
     Token {
         issuer: Party(3),
         code: *b"EUR",
     }
 }
 
-fn state(body: StateData) -> TxState {
+fn state(body: StateData) -> TxState
+    requires { IsStateData body }
+    ensures { IsTxState result }
+{
     TxState {
         body,
         notary: Party(0),
@@ -27,7 +36,10 @@ fn state(body: StateData) -> TxState {
     }
 }
 
-fn cash(amount: u64, owner: Party) -> TxState {
+fn cash(amount: u64, owner: Party) -> TxState
+    requires { IsParty owner }
+    ensures { IsTxState result }
+{
     state(StateData::Cash {
         token: token(),
         amount,
@@ -35,14 +47,20 @@ fn cash(amount: u64, owner: Party) -> TxState {
     })
 }
 
-fn lock_until(owner: Party) -> TxState {
+fn lock_until(owner: Party) -> TxState
+    requires { IsParty owner }
+    ensures { IsTxState result }
+{
     state(StateData::TimeLock {
         owner,
         until: Moment(9),
     })
 }
 
-fn fact(issuer: Party) -> TxState {
+fn fact(issuer: Party) -> TxState
+    requires { IsParty issuer }
+    ensures { IsTxState result }
+{
     state(StateData::Fact {
         issuer,
         name: 7,
@@ -50,7 +68,11 @@ fn fact(issuer: Party) -> TxState {
     })
 }
 
-fn iou(lender: Party, borrower: Party) -> TxState {
+fn iou(lender: Party, borrower: Party) -> TxState
+    requires lender { IsParty lender }
+    requires borrower { IsParty borrower }
+    ensures { IsTxState result }
+{
     state(StateData::Iou {
         lender,
         borrower,
@@ -60,7 +82,9 @@ fn iou(lender: Party, borrower: Party) -> TxState {
 }
 
 /// Cash of this party that only who opens the lock at output 1 may move.
-fn encumbered(amount: u64) -> TxState {
+fn encumbered(amount: u64) -> TxState
+    ensures { IsTxState result }
+{
     TxState {
         encumbrance: Some(1),
         ..cash(amount, ME)
@@ -101,7 +125,7 @@ fn note(
     inputs: &[StateRef],
     outputs: &[TxState],
 ) -> Result<(), Fail>
-    requires { length outputs.now ≤ 9 }
+    requires { ListWithin 9 IsTxState outputs.now }
 {
     let tx = tx(alloc, inputs, outputs)?;
     vault.make_room(alloc, &tx)?;
@@ -205,6 +229,13 @@ fn keeps_what_is_relevant(rt: HostRuntime) -> Result<(), Fail> {
     note(alloc, &mut vault, 2, &[b], &[fact(OTHER), cash(1, ME)])?;
     assert!(rt; holds(alloc, &vault, &[a, c, d, e, output(2, 1)])?);
     Ok(())
+}
+
+/// The laws can be called.
+#[test]
+fn laws(rt: HostRuntime) {
+    holds_each_once();
+    Vault::new(rt.alloc(), ME).keeps_limits();
 }
 
 /// Encumbered cash belongs to the balance, and is never reserved.

@@ -1,12 +1,14 @@
 //! The vault.
 
 ghost use Rattle.std.specs.Prelude.{◌≡◌, ◌≤◌, ◌+◌, ◌++◌, ◌∷◌, [], true, false, List, length, map, Some, OnOk, IfOk, IfErr};
-ghost use Rattle.std.specs.List.{list_all};
+ghost use Rattle.std.specs.List.{list_all, AllByRecursion};
+ghost use Rattle.net_base.specs.Forms.{ListWithin};
 ghost use Rattle.net_base.specs.declared.values.Hash32.{Hash32 as Id};
 ghost use Rattle.ledger_types.specs.declared.tx.Tx.{Tx as Recorded};
+ghost use Rattle.ledger_types.specs.States.{IsTxState};
 ghost use Rattle.ledger_types.specs.Names.{ref_eq, has_repeat};
 ghost use Rattle.ledger_types.specs.Vaults.{Lock, balance_of, reserved};
-ghost use Rattle.vault.specs.Holdings.{held_after, has_coin, locked_in, freed_of, may_note, locks_of, released, IsVault};
+ghost use Rattle.vault.specs.Holdings.{IsHeld, AreHeld, is_own, is_own_coin, references_of, held_after, has_coin, locked_in, freed_of, may_note, locks_of, released, IsVault};
 ghost use Rattle.vault.specs.Faults.{Refuses};
 
 use crate::fault::ReserveFault;
@@ -15,12 +17,12 @@ use crate::states::{
 };
 use coin_select::pick;
 use ledger_types::{Held, HeldList, RefList, Tx};
-use net_base::{Hash32, ListOf, Party, StateRef, Token};
+use net_base::{Hash32, ListOf, Party, StateRef, Token, Unlimited};
 use std::alloc::{AllocError, Global};
 use std::marker::Model;
 
 /// The unconsumed states that are relevant to a party, in order of recording and then of place, each with the flow that has it
-/// soft-locked. What was consumed is not kept, so no call's work grows with it.
+/// soft-locked, and each within its limits. What was consumed is not kept: the list is of unconsumed states alone.
 #[derive(Drop)]
 pub struct Vault {
     party: Party,
@@ -29,11 +31,13 @@ pub struct Vault {
 
 impl Model for Vault {
     ghost use Rattle.std.specs.Prelude.{◌-◌, vec_len, vec_capacity};
-    ghost use Rattle.vault.specs.Holdings.{Holding};
+    ghost use Rattle.vault.specs.Holdings.{Holding, AreHeld};
 
     ghost Value = { Holding };
 
     ghost view = { λ v. record { party = v.party; held = v.states.items; room = vec_capacity v.states - vec_len v.states } };
+
+    ghost invariant = { λ v. AreHeld v.party v.states.items };
 }
 
 impl Vault {
@@ -65,20 +69,22 @@ impl Vault {
     /// Where the states were the party's vault over some recorded transactions and locks, and this transaction may be recorded
     /// behind them, they are its vault over these and this one.
     pub fn note(&mut self, id: &Hash32, tx: &Tx)
-        requires few { length tx.now.outputs ≤ 64 }
+        requires limits { ListWithin 64 IsTxState tx.now.outputs }
         requires room { length tx.now.outputs ≤ self.old.room }
         ensures party { self.new.party ≡ self.old.party }
         ensures held { self.new.held ≡ held_after self.old.party id.now tx.now self.old.held }
         ensures room { self.old.room ≤ self.new.room + length tx.now.outputs }
         ensures vault { (recorded : List (Id × Recorded)) (locks : List Lock) → IsVault self.old.party recorded locks self.old.held → may_note recorded id.now tx.now ≡ true → IsVault self.old.party (recorded ++ (id.now, tx.now) ∷ []) locks self.new.held }
     {
+        id.known();
         remove_consumed(&mut self.states, tx.inputs.as_slice());
         add_relevant(&mut self.states, self.party, id, tx.outputs.as_slice());
     }
 
     /// The unconsumed states, in order of recording and then of place.
     pub fn unconsumed(&self, alloc: Global) -> Result<HeldList, AllocError>
-        ensures { IfOk result (λ list. list ≡ self.now.held) }
+        ensures held { IfOk result (λ list. list ≡ self.now.held) }
+        ensures limits { IfOk result (AllByRecursion IsHeld) }
     {
         ListOf::from_slice(alloc, self.states.as_slice())
     }
@@ -90,13 +96,8 @@ impl Vault {
         balance(self.states.as_slice(), token)
     }
 
-    /// Names the first coins of a token that are worth the amount, of the first 64, and no more than are needed. It locks
-    /// nothing, and goes through the states until it has found 64 coins.
-    ///
-    /// # Errors
-    ///
-    /// `Short` exactly where the first 64 coins are worth less than the amount, with their sum.
-    pub fn reserve(
+    /// The coins that a reservation names.
+    fn first_worth(
         &self,
         alloc: Global,
         token: &Token,
@@ -110,6 +111,32 @@ impl Vault {
         let count = pick(amounts.as_slice(), amount)?;
         coins.truncate(count);
         Ok(ListOf::from_vec(coins))
+    }
+
+    /// Names the first coins of a token that are worth the amount, of the first 64, and no more than are needed. It locks
+    /// nothing, and goes through the states until it has found 64 coins.
+    ///
+    /// Each of the coins is unconsumed Cash of the token that the party owns, that nothing encumbers and no flow has locked.
+    /// Where no state is held twice, none is named twice: so `lock` may be asked to lock all of them.
+    ///
+    /// # Errors
+    ///
+    /// `Short` exactly where the first 64 coins are worth less than the amount, with their sum.
+    pub fn reserve(
+        &self,
+        alloc: Global,
+        token: &Token,
+        amount: u64,
+    ) -> Result<HeldList, ReserveFault>
+        ensures reserved { IfOk result (λ list. reserved token.now amount self.now.held ≡ Some list) }
+        ensures coins { IfOk result (λ list. list_all (has_coin self.now.held) (references_of list) ≡ true) }
+        ensures own { IfOk result (λ list. list_all (is_own_coin self.now.party token.now) list ≡ true) }
+        ensures once { has_repeat ref_eq (references_of self.now.held) ≡ false → IfOk result (λ list. has_repeat ref_eq (references_of list) ≡ false) }
+        ensures limits { IfOk result (ListWithin 64 IsHeld) }
+        ensures fault { IfErr result (Refuses token.now amount self.now.held) }
+    {
+        self.keeps_limits();
+        self.first_worth(alloc, token, amount)
     }
 
     /// Whether the reference names a coin of some token: unconsumed Cash that nothing encumbers and no flow has locked. It
@@ -140,5 +167,13 @@ impl Vault {
         ensures vault { (recorded : List (Id × Recorded)) (locks : List Lock) → IsVault self.old.party recorded locks self.old.held → IsVault self.old.party recorded (released flow locks) self.new.held }
     {
         free_each(&mut self.states, flow);
+    }
+
+    /// The law that each state of the vault is within its limits and relevant to the party. It takes no work.
+    pub fn keeps_limits(&self)
+        ensures limits { AllByRecursion IsHeld self.now.held }
+        ensures relevant { list_all (is_own self.now.party) self.now.held ≡ true }
+    {
+        let _ = &self.states;
     }
 }

@@ -9,7 +9,7 @@ ghost use Rattle.ledger_types.specs.Requests.{IsRequest, IsEntry, IsNotaryAnswer
 use crate::Tables;
 use crate::tests::{hash, read};
 use ledger_types::{Entry, LedgerChange, NotaryAnswer, RefList, Request, Tx};
-use net_base::{ByteList, Identity, ListOf, Moment, Party, Tag, Writer, known_items};
+use net_base::{ByteList, Identity, ListOf, Moment, Party, Tag, Writer};
 use notary_book::Decision;
 use signing::{KeyedDigest, Signer};
 use std::alloc::{AllocError, Global};
@@ -54,14 +54,11 @@ fn decide(
     request: &Request,
     now: Moment,
 ) -> Result<(RefList, Decision), TearFault>
+    requires { IsRequest request.now }
     ensures inputs { IfOk result (λ p. ListWithin 64 IsStateRef p.0) }
     ensures answer { IfOk result (λ p. IsNotaryAnswer p.1.answer) }
 {
     let seen = visible(alloc, &request.torn)?;
-    if seen.inputs.len() > 64 {
-        return Err(TearFault::BadTear);
-    }
-    known_items(seen.inputs.as_slice());
     let me = Identity {
         party: Party(0),
         nodes: 2,
@@ -97,10 +94,6 @@ fn entry_of(request: Request, inputs: RefList, answer: NotaryAnswer, fresh: bool
 fn book(alloc: Global, tables: &mut Tables, booked: Option<Entry>) -> Result<(), AllocError>
     requires { IfSome booked IsEntry }
 {
-    if tables.store().count() > 9 {
-        forget(booked);
-        return Ok(());
-    }
     let change = LedgerChange {
         recorded: None,
         locked: ListOf::new(alloc),

@@ -12,4 +12,4 @@ returns c =
     let store = c.args.store.now.list in
     let id = c.args.id.now in
     let none : c.is_none.result ≡ is_none c.get.result = search rules in
-    none ∙ copied c.get.result ∙ ap is_none c.get.ensures ∙ ap not (ap is_some (sym (lookup_is id store)) ∙ lookup_some id store)
+    none ∙ copied c.get.result ∙ ap is_none c.get.ensures.stored ∙ ap not (ap is_some (sym (lookup_is id store)) ∙ lookup_some id store)

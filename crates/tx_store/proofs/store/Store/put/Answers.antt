@@ -6,7 +6,8 @@ use Rattle.ledger_types.specs.declared.tx.SignedTx.{SignedTx}
 use Rattle.ledger_types.specs.Names.{hash_eq}
 use Rattle.ledger_types.specs.Signatures.{tx_id}
 use Rattle.ledger_types.specs.Stores.{is_stored}
-use Rattle.tx_store.specs.Stored.{is_in_order, may_follow}
+use Rattle.tx_store.specs.Stored.{AreWithin, is_in_order, may_follow}
+use Rattle.tx_store.proofs.Limits.{within_more}
 use Rattle.tx_store.proofs.Ordered.{lookup_some, none_is, on_ok, in_order_push, hash_same}
 use Rattle.tx_store.proofs.store.Store.put.Goals as goal
 
@@ -31,7 +32,8 @@ invariant_of-self c =
     let ordered : is_in_order old ≡ true = subst (λ (l : List (Hash32 × SignedTx)). is_in_order l ≡ true) same c.self.invariant.0 in
     let follows : may_follow old (tx_id stx.tx, stx) ≡ true = and_from _ _ (hash_same (tx_id stx.tx).0) (and_from _ _ (ap not absent) c.requires.dependencies) in
     let small : length (old ++ (tx_id stx.tx, stx) ∷ []) < 4294967296 = omega (arith, length-append old ((tx_id stx.tx, stx) ∷ []), c.requires.few) in
-    subst (λ (l : List (Hash32 × SignedTx)). (is_in_order l ≡ true) × (length l < 4294967296)) (sym (pushed c)) (in_order_push [] old (tx_id stx.tx, stx) ordered follows, small)
+    let within : AreWithin old = subst AreWithin same c.self.invariant.2 in
+    subst (λ (l : List (Hash32 × SignedTx)). (is_in_order l ≡ true) × (length l < 4294967296) × AreWithin l) (sym (pushed c)) (in_order_push [] old (tx_id stx.tx, stx) ordered follows, small, within_more old (tx_id stx.tx, stx) within c.requires.limits)
 
 pub returns-clause-list : goal.returns-clause-list
 returns-clause-list c = pushed c

@@ -2,6 +2,7 @@ use Rattle.std.proofs.Common.{sym, ◌∙◌, ap}
 use Rattle.std.proofs.lemmas.Result.{err_from_is_err_and}
 use Rattle.ledger_types.specs.Stores.{states_of}
 use Rattle.tx_store.specs.Faults.{fault_of}
+use Rattle.tx_store.proofs.Limits.{states_within}
 use Rattle.tx_store.proofs.Resolving.{fault_first, fault_second}
 use Rattle.tx_store.proofs.store.Store.resolve.Goals as goal
 
@@ -21,3 +22,12 @@ returns-in_err-states-2-clause-fault c =
     let e = c.in_err-states-2.field-0.0 in
     let had = ap (states_of store) (sym c.as_slice.ensures) ∙ c.in_ok-states.ensures.had in
     rw (p.1, p.2) (λ other. fault_second store tx.inputs tx.references c.in_ok-states.field-0 e had (ap (fault_of store) (sym c.as_slice-2.ensures) ∙ c.in_err-states-2.ensures.fault other))
+
+pub returns-clause-limits : goal.returns-clause-limits
+returns-clause-limits c =
+    let store = c.args.self.now.list in
+    let tx = c.args.tx.now in
+    let within = c.keeps_limits.ensures in (
+      states_within store tx.inputs c.in_ok-states.field-0 within (ap (states_of store) (sym c.as_slice.ensures) ∙ c.in_ok-states.ensures.had),
+      states_within store tx.references c.in_ok-states-2.field-0 within (ap (states_of store) (sym c.as_slice-2.ensures) ∙ c.in_ok-states-2.ensures.had),
+    )
