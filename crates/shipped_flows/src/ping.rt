@@ -113,7 +113,7 @@ impl Ping {
     /// `BadArgs` exactly where they aren't five bytes, P isn't another node, or K isn't 1 to 1,000.
     #[tactic(auto, unfolding(crate::specs::Ping::made))]
     pub fn make<F>(args: &ByteList, place: &Place) -> Result<(Ping, Act<F>), MakeFault>
-        ensures { GivesMade result (made args.now place.entry.now) }
+        ensures { result ≡ made args.now place.entry.now }
     {
         let Some((to, count)) = args_of(args.as_slice()) else {
             return Err(MakeFault::BadArgs);

@@ -105,7 +105,7 @@ impl Probe {
     /// `BadArgs` exactly where they aren't three bytes or P isn't another node.
     #[tactic(auto, unfolding(crate::specs::Probe::made))]
     pub fn make<F>(args: &ByteList, place: &Place) -> Result<(Probe, Act<F>), MakeFault>
-        ensures { GivesMade result (made args.now place.entry.now) }
+        ensures { result ≡ made args.now place.entry.now }
     {
         let Some((to, class)) = args_of(args.as_slice()) else {
             return Err(MakeFault::BadArgs);

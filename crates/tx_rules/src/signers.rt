@@ -2,9 +2,9 @@
 
 ghost use Rattle.std.specs.Prelude.{◌≡◌, ◌<◌, ◌&&◌, ℕ};
 ghost use Rattle.std.specs.List.{list_any};
-ghost use Rattle.net_base.specs.Parties.{has_party};
+ghost use Rattle.net_base.specs.Parties.{has_party, members};
 ghost use Rattle.ledger_types.specs.Txs.{IsTx};
-ghost use Rattle.ledger_types.specs.Signatures.{needs, signs_command, signs_as_notary, is_tag, checks, is_missing, has_signed};
+ghost use Rattle.ledger_types.specs.Signatures.{needs, needed, missing_signers, signs_command, signs_as_notary, is_tag, checks, is_missing, has_signed};
 ghost use Rattle.ledger_types.specs.Names.{hash_eq};
 
 use crate::shape::asks_notary;
@@ -23,9 +23,7 @@ fn signers_of(commands: &[Command]) -> PartySet
     signers
 }
 
-/// The parties that have to sign the transaction: each signer of a command, and the notary where there is an input, a
-/// reference or a time window (Corda 4 documentation, "Transactions", "Signatures").
-pub fn needed_signers(tx: &Tx) -> PartySet
+fn needed_set(tx: &Tx) -> PartySet
     ensures { (p : ℕ) → p < 16 → has_party result p ≡ needs tx.now p }
 {
     let signers = signers_of(tx.commands.as_slice());
@@ -33,6 +31,15 @@ pub fn needed_signers(tx: &Tx) -> PartySet
         Some(notary) if notary.0 < 16 && asks_notary(tx) => signers.with(notary),
         _ => signers,
     }
+}
+
+/// The parties that have to sign the transaction: each signer of a command, and the notary where there is an input, a
+/// reference or a time window (Corda 4 documentation, "Transactions", "Signatures").
+pub fn needed_signers(tx: &Tx) -> PartySet
+    ensures each { (p : ℕ) → p < 16 → has_party result p ≡ needs tx.now p }
+    ensures all { members result ≡ needed tx.now }
+{
+    needed_set(tx)
 }
 
 /// Whether the tag is over the id and checks.
@@ -56,12 +63,20 @@ fn signed_by<S: Signer>(tags: &[Tag], id: &Hash32, signer: &S) -> PartySet
     signed
 }
 
-/// The parties that have to sign the transaction of whom no tag stands here that is over its id and checks.
 #[tactic(auto)]
-pub fn missing_tags<S: Signer>(stx: &SignedTx, signer: &S) -> PartySet
+fn missing_set<S: Signer>(stx: &SignedTx, signer: &S) -> PartySet
     requires { IsTx stx.now.tx }
     ensures { (p : ℕ) → p < 16 → has_party result p ≡ is_missing (S.mark_of signer.now) stx.now p }
 {
     let id = stx.tx.id();
-    needed_signers(&stx.tx).without(signed_by(stx.tags.as_slice(), &id, signer))
+    needed_set(&stx.tx).without(signed_by(stx.tags.as_slice(), &id, signer))
+}
+
+/// The parties that have to sign the transaction of whom no tag stands here that is over its id and checks.
+pub fn missing_tags<S: Signer>(stx: &SignedTx, signer: &S) -> PartySet
+    requires { IsTx stx.now.tx }
+    ensures each { (p : ℕ) → p < 16 → has_party result p ≡ is_missing (S.mark_of signer.now) stx.now p }
+    ensures all { members result ≡ missing_signers (S.mark_of signer.now) stx.now }
+{
+    missing_set(stx, signer)
 }
