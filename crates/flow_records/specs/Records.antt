@@ -9,8 +9,7 @@ use Rattle.flow_machine.specs.declared.flows.FlowState.{FlowState}
 use Rattle.flow_machine.specs.declared.flows.FlowState.TheVariants as state
 use Rattle.flow_machine.specs.Checkpoints.{IsCheckpoint, checkpoint_at}
 use Rattle.transition_record.specs.Records.{record_at}
-use Rattle.net_model.specs.State.{FlowPart, no_flow, now_live, now_ended, now_failed, Change, Effect, nothing, Record}
-use Rattle.net_model.specs.Enabled.{part_of}
+use Rattle.net_model.specs.State.{FlowPart, no_flow, now_live, now_ended, now_failed, Change, Record}
 
 -- ---- reading
 

@@ -116,7 +116,7 @@ fn part_after<F: FlowSet>(
 }
 
 /// The bytes of the record of a step. They are at most 524,288, since what changes in the sessions is spelt in at most 50,000: an act
-/// opens one session at most, sends one item of its own, and ends no more than 65 sessions.
+/// opens one session at most, and sends one item of its own or one to each of the 64 sessions at most that its flow owns.
 ///
 /// # Errors
 ///

@@ -1,5 +1,5 @@
 -- What stands in the sent lists stays there, and what is new bears the stamp of its cause.
-use Rattle.std.proofs.Common.{◌≡◌, ℕ, ◌<◌, ⊎_elim, List, [], ◌∷◌, ◌++◌, Option, Some, None, true, false, cond, ◌==◌, map, find, option_map, option_to_list, slice_get, refl, ap, arith}
+use Rattle.std.proofs.Common.{◌≡◌, ℕ, ⊎_elim, List, [], ◌∷◌, ◌++◌, Option, Some, None, true, false, cond, ◌==◌, map, find, option_map, option_to_list, slice_get, refl, sym, ap}
 use Rattle.net_base.specs.declared.names.Key.{Key}
 use Rattle.net_base.specs.declared.values.Party.{Party}
 use Rattle.net_base.specs.declared.causes.Cause.{Cause}
@@ -15,10 +15,10 @@ use Rattle.net_model.proofs.Basics.{find_map, find_before, find_last, get_before
 abbrev pub item_in : List Session → ℕ → Key → ℕ → Option Sent
 item_in sessions me key n = sent_to me n (session_of key sessions)
 
--- no item is lost or changed, and items of stamps below t are old
+-- no item is lost or changed, and items of other stamps than t are old
 pub record Grows (t : ℕ) (old new : List Session) : Type 0 where
   pub on : (me n : ℕ) (key : Key) (item : Sent) → item_in old me key n ≡ Some item → item_in new me key n ≡ Some item
-  pub back : (me n : ℕ) (key : Key) (item : Sent) → item_in new me key n ≡ Some item → item.stamp < t → item_in old me key n ≡ Some item
+  pub back : (me n : ℕ) (key : Key) (item : Sent) → item_in new me key n ≡ Some item → (item.stamp ≡ t → ⊥) → item_in old me key n ≡ Some item
 
 pub grows_same : (t : ℕ) (ss : List Session) → Grows t ss ss
 grows_same t ss = record { on = λ me n key item h. h; back = λ me n key item h k. h }
@@ -53,12 +53,12 @@ pub record Extends (t : ℕ) (old new : Session) : Type 0 where
   pub key : new.key ≡ old.key
   pub peer : new.peer ≡ old.peer
   pub on : (n : ℕ) (item : Sent) → slice_get old.sent n ≡ Some item → slice_get new.sent n ≡ Some item
-  pub back : (n : ℕ) (item : Sent) → slice_get new.sent n ≡ Some item → item.stamp < t → slice_get old.sent n ≡ Some item
+  pub back : (n : ℕ) (item : Sent) → slice_get new.sent n ≡ Some item → (item.stamp ≡ t → ⊥) → slice_get old.sent n ≡ Some item
 
 extends_on : (t me n : ℕ) (old new : Session) (item : Sent) → Extends t old new → sent_to me n (Some old) ≡ Some item → sent_to me n (Some new) ≡ Some item
 extends_on t me n old new item x h = rw x.peer ((elim (old.peer.0 == me) as (λ b. cond b (slice_get old.sent n) None ≡ Some item → cond b (slice_get new.sent n) None ≡ Some item) [ true ↦ λ k. x.on n item k | false ↦ λ k. k ]) h)
 
-extends_back : (t me n : ℕ) (old new : Session) (item : Sent) → Extends t old new → sent_to me n (Some new) ≡ Some item → item.stamp < t → sent_to me n (Some old) ≡ Some item
+extends_back : (t me n : ℕ) (old new : Session) (item : Sent) → Extends t old new → sent_to me n (Some new) ≡ Some item → (item.stamp ≡ t → ⊥) → sent_to me n (Some old) ≡ Some item
 extends_back t me n old new item x h l = (elim (old.peer.0 == me) as (λ b. cond b (slice_get new.sent n) None ≡ Some item → cond b (slice_get old.sent n) None ≡ Some item) [ true ↦ λ k. x.back n item k l | false ↦ λ k. k ]) (rw x.peer at h)
 
 module _ (t : ℕ) (change : Session → Session) (keeps : (s : Session) → Extends t s (change s)) where
@@ -69,7 +69,7 @@ module _ (t : ℕ) (change : Session → Session) (keeps : (s : Session) → Ext
   mapped_on None me n item h = cc
   mapped_on (Some s) me n item h = extends_on t me n s (change s) item (keeps s) h
 
-  mapped_back : (o : Option Session) (me n : ℕ) (item : Sent) → sent_to me n (option_map change o) ≡ Some item → item.stamp < t → sent_to me n o ≡ Some item
+  mapped_back : (o : Option Session) (me n : ℕ) (item : Sent) → sent_to me n (option_map change o) ≡ Some item → (item.stamp ≡ t → ⊥) → sent_to me n o ≡ Some item
   mapped_back None me n item h l = cc
   mapped_back (Some s) me n item h l = extends_back t me n s (change s) item (keeps s) h l
 
@@ -87,7 +87,7 @@ extends_sent t body s = record {
   key = refl;
   peer = refl;
   on = λ n item h. get_before s.sent _ n item h;
-  back = λ n item h l. ⊎_elim (λ k. k) (λ k. let e : t ≡ item.stamp = ap (λ i. i.stamp) k in absurd (omega arith)) (get_last s.sent (record { body = body; stamp = t }) n item h);
+  back = λ n item h l. ⊎_elim (λ k. k) (λ k. let e : t ≡ item.stamp = ap (λ i. i.stamp) k in absurd (l (sym e))) (get_last s.sent (record { body = body; stamp = t }) n item h);
 }
 
 pub grows_changed : (t : ℕ) (key : Key) (change : Session → Session) (ss : List Session) → ((s : Session) → Extends t s (change s)) → Grows t ss (changed_at key change ss)

@@ -26,5 +26,6 @@ pub mod Proven
 pub mod Spent
 pub mod BookKept
 mod Ordered
+mod Kept
 mod Stamps
 mod Rows

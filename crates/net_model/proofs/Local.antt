@@ -56,6 +56,16 @@ same_net : {F : Type 0} (old new : List (NodeState F)) (q me n : ℕ) (key : Key
 unfolding item_from
 same_net old new q me n key e = rw e
 
+-- what a cause makes new bears its stamp
+set_stamped : {F : Type 0} (net : List (NodeState F)) (p : ℕ) (s : NodeState F) (cause : Cause) (e : Effect F) → slice_get net p ≡ Some s
+    → (q me n : ℕ) (key : Key) (item : Sent) → item_from (slice_set net p (apply_effect s cause e)) me q key n ≡ Some item → (item.stamp ≡ cause.stamp → ⊥) → item_from net me q key n ≡ Some item
+set_stamped net p s cause e is q me n key item h l =
+    let new = slice_set net p (apply_effect s cause e) in
+    ⊎_elim
+    (λ k. at_node net q me n key s (ap (slice_get net) k.0 ∙ is) ∙ (apply_grows s cause e).back me n key item (sym (at_node new q me n key _ k.1) ∙ h) l)
+    (λ k. sym (same_net net new q me n key k) ∙ h)
+    (get_set net p s (apply_effect s cause e) q is)
+
 pub set_grows : {F : Type 0} (net : List (NodeState F)) (p : ℕ) (s : NodeState F) (cause : Cause) (e : Effect F) → slice_get net p ≡ Some s → NetGrows cause.stamp net (slice_set net p (apply_effect s cause e))
 set_grows net p s cause e is =
     let new = slice_set net p (apply_effect s cause e) in
@@ -65,10 +75,7 @@ set_grows net p s cause e is =
           (λ k. at_node new q me n key _ k.1 ∙ g.on me n key item (sym (at_node net q me n key s (ap (slice_get net) k.0 ∙ is)) ∙ h))
           (λ k. same_net net new q me n key k ∙ h)
           (get_set net p s (apply_effect s cause e) q is);
-      back = λ q me n key item h l. ⊎_elim
-          (λ k. at_node net q me n key s (ap (slice_get net) k.0 ∙ is) ∙ g.back me n key item (sym (at_node new q me n key _ k.1) ∙ h) l)
-          (λ k. sym (same_net net new q me n key k) ∙ h)
-          (get_set net p s (apply_effect s cause e) q is);
+      back = λ q me n key item h l. set_stamped net p s cause e is q me n key item h (λ k. omega (arith, k, l));
     }
 
 applied_grows_at : {F : Type 0} (net : List (NodeState F)) (x : ℕ × Record F) (o : Option (NodeState F)) → slice_get net x.0 ≡ o → NetGrows (record_stamp x.1) net (applied_at net x o)
@@ -337,4 +344,7 @@ pub items_stay : {F : Type 0} → ItemsStay F
 items_stay w net next p cause e h = (step_grows w net next p cause e h).on
 
 pub items_are_stamped : {F : Type 0} → ItemsAreStamped F
-items_are_stamped w net next p cause e h = (step_grows w net next p cause e h).back
+items_are_stamped {F} w net next p cause e h q me n key item there other =
+    let k = net_taken w net next p cause e h in
+    let new : item_from (slice_set net p (apply_effect k.old cause e)) me q key n ≡ Some item = subst (λ (l : List (NodeState F)). item_from l me q key n ≡ Some item) k.new there in
+    set_stamped net p k.old cause e k.is q me n key item new other

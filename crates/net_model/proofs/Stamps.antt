@@ -1,11 +1,11 @@
 -- Along a run the stamps of each node rise.
-use Rattle.std.proofs.Common.{◌≡◌, ℕ, zero, suc, ◌<◌, ◌==◌, List, [], ◌∷◌, Option, Some, None, true, false, IsSome, option_and_then, slice_get, slice_set, replicate, ⊎_elim, refl, sym, ap, subst}
+use Rattle.std.proofs.Common.{◌≡◌, ℕ, zero, suc, ◌<◌, ◌==◌, List, [], ◌∷◌, ◌++◌, Option, Some, None, true, false, IsSome, option_and_then, slice_get, slice_set, replicate, ⊎_elim, refl, sym, ap, subst}
 use Rattle.std.proofs.lemmas.Bool.{eqb-true, eqb-false}
 use Rattle.net_base.specs.declared.causes.Cause.{Cause}
 use Rattle.net_model.specs.Environment.{Environment}
 use Rattle.net_model.specs.State.{NodeState, Effect, fresh}
 use Rattle.net_model.specs.Steps.{node_step}
-use Rattle.net_model.specs.Runs.{item_for, net_step_at, net_step, run_from, fresh_net, run_of, stamp_of, AreRising, causes_at, StampsRise}
+use Rattle.net_model.specs.Runs.{item_for, net_step_at, net_step, run_from, fresh_net, run_of, stamp_of, AreRising, causes_at, StampsRise, PrefixesAreRuns}
 use Rattle.net_model.proofs.Basics.{from_map, from_then, get_set, set_same}
 use Rattle.net_model.proofs.Steps.{step_stamp}
 
@@ -47,6 +47,12 @@ module _ {F : Type 0} (w : Environment F) where
         | false ↦ λ other. subst (λ n. AreRising stamp_of n (causes_at p causes)) (sym (step_other net x.0 p x.1 done here other)) (rising done.0 causes rest p)
       ]) refl)
 
+  prefix_from : (net : List (NodeState F)) (first rest : List (ℕ × Cause)) → IsSome (run_from w net (first ++ rest)) → IsSome (run_from w net first)
+  prefix_from net [] rest h = refl
+  prefix_from net (x ∷ first) rest h =
+      from_is_some (IsSome (run_from w net (x ∷ first))) (λ done. run_from w done.0 (first ++ rest)) (net_step w net x.0 x.1) h (λ done here more.
+      subst (λ o. IsSome (option_and_then (λ done. run_from w done.0 first) o)) (sym here) (prefix_from done.0 first rest more))
+
   fresh_stamp : (n p : ℕ) → stamp_at (slice_get (replicate n (fresh {F = F})) p) ≡ 0
   fresh_stamp zero p = refl
   fresh_stamp (suc n) zero = refl
@@ -58,3 +64,7 @@ module _ {F : Type 0} (w : Environment F) where
 
 pub stamps_rise : {F : Type 0} → StampsRise F
 stamps_rise w causes h p = stamps_of w causes h p
+
+pub prefixes_are_runs : {F : Type 0} → PrefixesAreRuns F
+unfolding run_of
+prefixes_are_runs w first rest h = prefix_from w (fresh_net w) first rest h

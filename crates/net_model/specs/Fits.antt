@@ -120,7 +120,8 @@ FitsBooked w me book (Some e) = (is_notary (identity w me) ≡ true) × (find (r
 pub record FitsChange {F : Type 0} (w : Environment F) (me : ℕ) (s : NodeState F) (stamp : ℕ) (before : List Session) (owner : Option ℕ) (change : Change) : Type 0 where
   pub opened : FitsOpened w me s (opened_on change.opened owner before) owner change.sent change.opened
   pub sent : FitsSent (party me) stamp (opened_on change.opened owner before) change.sent
-  pub taken : FitsTaken (opened_on change.opened owner before) change.taken
+  -- the session stands before the record
+  pub taken : FitsTaken s.sessions change.taken
   pub recorded : FitsRecorded s.stored change.recorded
   pub locked : list_all (names_coin (vault_of (party me) (untagged (with_ids (s.stored ++ option_to_list change.recorded))) s.locked)) change.locked ≡ true
   pub once : are_distinct change.locked ≡ true

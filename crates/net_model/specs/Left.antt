@@ -98,7 +98,7 @@ AreFair {F} w net = (q : ℕ) (s : NodeState F) → slice_get net q ≡ Some s �
 
 -- ---- laws
 
--- in a run what is left falls at each cause but Start
+-- in a run what is left falls at each cause but Start, where the weights of frames fall, loads are enough, and frames are over where they return or fail
 abbrev pub LeftFalls : (F : Type 0) → Type 0
 LeftFalls F = (w : Environment F) (causes : List (ℕ × Cause)) (net next : List (NodeState F)) (p : ℕ) (cause : Cause) (e : Effect F)
     → Falls w.machine → LoadHolds w.machine → OversHold w.machine → run_of w causes ≡ Some net → net_step w net p cause ≡ Some (next, e)

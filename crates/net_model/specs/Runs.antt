@@ -1,5 +1,5 @@
 -- Runs of the whole network, and which journals are those of a run.
-use Rattle.std.specs.Prelude.{◌≡◌, ℕ, ◌+◌, ◌<◌, ◌==◌, ◌&&◌, ◌||◌, List, [], ◌∷◌, ◌++◌, Option, Some, None, Bool, true, false, if◌then◌else◌, IsSome, length, map, max, option_map, option_and_then, nat_lt, replicate, slice_get, slice_set, ⊤, ◌↔◌}
+use Rattle.std.specs.Prelude.{◌≡◌, ℕ, ◌+◌, ◌<◌, ◌==◌, ◌&&◌, ◌||◌, get_or, List, [], ◌∷◌, ◌++◌, Option, Some, None, Bool, true, false, if◌then◌else◌, IsSome, length, map, max, option_map, option_and_then, nat_lt, replicate, slice_get, slice_set, ⊤, ◌↔◌}
 use Rattle.std.specs.List.{AllByRecursion}
 use Rattle.net_base.specs.declared.names.Key.{Key}
 use Rattle.net_base.specs.declared.causes.Cause.{Cause}
@@ -179,6 +179,14 @@ abbrev pub causes_at : ℕ → List (ℕ × Cause) → List Cause
 causes_at p [] = []
 causes_at p (x ∷ xs) = elim (x.0 == p) [ true ↦ x.1 ∷ causes_at p xs | false ↦ causes_at p xs ]
 
+-- the merged journals hold the causes of each node as its journal has them, and none of other nodes
+abbrev pub MergesEach : Type 0
+MergesEach = (journals : List (List Cause)) (p : ℕ) → causes_at p (merged journals) ≡ get_or journals p []
+
+-- each prefix of a run is a run
+abbrev pub PrefixesAreRuns : (F : Type 0) → Type 0
+PrefixesAreRuns F = (w : Environment F) (first rest : List (ℕ × Cause)) → IsLegal w (first ++ rest) → IsLegal w first
+
 -- along a run the stamps of each node rise
 abbrev pub StampsRise : (F : Type 0) → Type 0
 StampsRise F = (w : Environment F) (causes : List (ℕ × Cause)) → IsLegal w causes → (p : ℕ) → AreRising stamp_of 0 (causes_at p causes)
@@ -192,10 +200,10 @@ abbrev pub ItemsStay : (F : Type 0) → Type 0
 ItemsStay F = (w : Environment F) (net next : List (NodeState F)) (p : ℕ) (cause : Cause) (e : Effect F) → net_step w net p cause ≡ Some (next, e)
     → (q me n : ℕ) (key : Key) (item : Sent) → item_from net me q key n ≡ Some item → item_from next me q key n ≡ Some item
 
--- an item with a stamp below that of a step was sent before it
+-- what a step sends bears its stamp: an item of another stamp was sent before it
 abbrev pub ItemsAreStamped : (F : Type 0) → Type 0
 ItemsAreStamped F = (w : Environment F) (net next : List (NodeState F)) (p : ℕ) (cause : Cause) (e : Effect F) → net_step w net p cause ≡ Some (next, e)
-    → (q me n : ℕ) (key : Key) (item : Sent) → item_from next me q key n ≡ Some item → item.stamp < cause.stamp → item_from net me q key n ≡ Some item
+    → (q me n : ℕ) (key : Key) (item : Sent) → item_from next me q key n ≡ Some item → (item.stamp ≡ cause.stamp → ⊥) → item_from net me q key n ≡ Some item
 
 -- journals, one of each node, are those of a run exactly where each record is a step of its node alone and each accepted item is its sender's
 abbrev pub FaithfulExactly : (F : Type 0) → Type 0

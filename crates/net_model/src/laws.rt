@@ -4,7 +4,7 @@ ghost use Rattle.net_model.specs.Left.{LeftFalls};
 ghost use Rattle.net_model.specs.Tags.{NotaryTagsHold};
 ghost use Rattle.net_model.specs.Stores.{RunsHoldStores, StoredIsSigned};
 ghost use Rattle.net_model.specs.Books.{BooksOfRuns, BooksOfJournals};
-ghost use Rattle.net_model.specs.Runs.{MergesInOrder, StampsRise, StepIsItsEffect, ItemsStay, ItemsAreStamped, FaithfulExactly, FaithfulRun, CommitsKeepLocal, CommitsKeepMatched};
+ghost use Rattle.net_model.specs.Runs.{MergesInOrder, MergesEach, PrefixesAreRuns, StampsRise, StepIsItsEffect, ItemsStay, ItemsAreStamped, FaithfulExactly, FaithfulRun, CommitsKeepLocal, CommitsKeepMatched};
 
 /// The law that a flow which keeps its own number goes on, by the event that performs its act, exactly where that event has an effect.
 #[tactic(auto, using(crate::proofs::Enabled::enabled_is_defined))]
@@ -18,10 +18,23 @@ pub fn stamps_rise<F>()
     ensures { StampsRise F }
 {}
 
-/// The law that lists with rising stamps are merged by stamp and then by node.
+/// The law that lists whose stamps rise from above 0 are merged in order, by stamp and then by node. That each cause of each list is
+/// there, and no other, is `merges_each`.
 #[tactic(auto, using(crate::proofs::Ordered::merges_in_order))]
 pub fn merges_in_order<X>()
     ensures { MergesInOrder X }
+{}
+
+/// The law that the merged journals hold each node's causes, all of them, once each and in their order, and no others.
+#[tactic(auto, using(crate::proofs::Kept::merges_each))]
+pub fn merges_each()
+    ensures { MergesEach }
+{}
+
+/// The law that each prefix of a run is a run.
+#[tactic(auto, using(crate::proofs::Stamps::prefixes_are_runs))]
+pub fn prefixes_are_runs<F>()
+    ensures { PrefixesAreRuns F }
 {}
 
 /// The law that the state after a step is what its effect makes of the state before.
@@ -30,7 +43,8 @@ pub fn step_is_its_effect<F>()
     ensures { StepIsItsEffect F }
 {}
 
-/// The law that a step of a network loses and changes no item that was sent, and that what it sends bears its stamp.
+/// The law that a step of a network loses and changes no item that was sent, and that what it sends bears its stamp: an item of
+/// another stamp was sent before it.
 #[tactic(auto, using(crate::proofs::Local::items_stay, crate::proofs::Local::items_are_stamped))]
 pub fn items_stay<F>()
     ensures stay { ItemsStay F }
@@ -66,7 +80,8 @@ pub fn steps_fit<F>()
     ensures fresh { FreshIsSound F }
 {}
 
-/// The law that in a run what is left falls at each cause but Start, for every flow set whose frames' weights fall.
+/// The law that in a run what is left falls at each cause but Start, for every flow set in which the weights of frames fall, a class's
+/// load is enough for the flow that answers its `Init`, and a frame is over exactly where its act is Return or Fail.
 #[tactic(auto, using(crate::proofs::LeftFalls::left_falls))]
 pub fn left_falls<F>()
     ensures { LeftFalls F }
@@ -86,7 +101,9 @@ pub fn stores_hold<F>()
     ensures { RunsHoldStores F }
 {}
 
-/// The law that in a run the id of each recorded transaction with an input, a reference or a time window is signed in the notary's book.
+/// The law that in a run the id of each recorded transaction with an input, a reference or a time window is signed in the notary's book,
+/// where the flow set makes no tags, a transaction that is accepted with one of these names a notary, and the network's notary is one
+/// of the parties 0 to 15.
 #[tactic(auto, using(crate::proofs::Spent::stored_is_signed))]
 pub fn stored_is_signed<F>()
     ensures { StoredIsSigned F }

@@ -14,6 +14,8 @@ fn the_laws_hold_of_the_counting_flow() {
     items_stay::<Counter>();
     stamps_rise::<Counter>();
     merges_in_order::<Cause>();
+    merges_each();
+    prefixes_are_runs::<Counter>();
     faithful_exactly::<Counter>();
     faithful_run::<Counter>();
     commits_keep::<Counter>();

@@ -25,7 +25,7 @@ use Rattle.flow_records.specs.Steps.{part_after, effect_by, step_record, IsStep}
 use Rattle.node_tables.specs.Journals.{Reads, state_of, lone}
 use Rattle.node_tables.specs.Fits.{rises, only_accepts, is_lawful_item, arrives_in, fits_event, opens_next, owns_few, may_open, made_by, fits_opened, begun_by, fits}
 use Rattle.node_tables.specs.Seen.{Keeps}
-use Rattle.node_tables.proofs.Linking.{IsOwn, owner_is, change_fits, sent_there, taken_there}
+use Rattle.node_tables.proofs.Linking.{IsOwn, owner_is, change_fits, sent_there}
 use Rattle.node_tables.proofs.Ruled.{Parts, parts_of, fits_of, event_to, opened_to, opens_from, sent_from, sent_to, taken_from, taken_to}
 use Rattle.node_tables.proofs.Runs.{some_world, own_of}
 
@@ -142,14 +142,13 @@ module _ {F : Type 0} (nodes : ℕ) (me : Party) (f : Reads F) (is_frame : F →
       let on = event_to (some_world nodes) me.0 here step.cause.event effect refl event in
       let opens = opened_to (some_world nodes) me.0 here later (flow_of (part_after step.flow)) step.session.sent step.session.opened opened in
       let sent = sent_there (some_world nodes) me.0 (255 * length bodies) (length bodies) here step.flow step.session kept.small owned step.cause limits.2.1.1 on opens step.cause.stamp fitting in
-      let taken = taken_there (some_world nodes) me.0 (255 * length bodies) (length bodies) here step.flow step.session kept.small owned step.cause limits.2.1.1 on opens step.cause.stamp fitting in
-      fits_of nodes me here step.cause effect (record { still = refl; in_order = order; event = event; opened = opened; sent = sent_from me step.cause.stamp later step.session.sent sent; taken = taken_from later step.session.taken taken })
+      fits_of nodes me here step.cause effect (record { still = refl; in_order = order; event = event; opened = opened; sent = sent_from me step.cause.stamp later step.session.sent sent; taken = taken_from ss step.session.taken fitting.taken })
 
   fitting_of : Parts nodes me here step.cause effect → IsFitting me step.cause.stamp ss step.session
   fitting_of p =
       let on = event_to (some_world nodes) me.0 here step.cause.event effect p.still p.event in
       let opens = opened_to (some_world nodes) me.0 here later (flow_of (part_after step.flow)) step.session.sent step.session.opened p.opened in
-      change_fits (some_world nodes) me.0 (255 * length bodies) (length bodies) here step.flow step.session kept.small owned step.cause limits.2.1.1 on opens step.cause.stamp (sent_to me step.cause.stamp later step.session.sent p.sent) (taken_to later step.session.taken p.taken)
+      change_fits (some_world nodes) me.0 (255 * length bodies) (length bodies) here step.flow step.session kept.small owned step.cause limits.2.1.1 on opens step.cause.stamp (sent_to me step.cause.stamp later step.session.sent p.sent) (taken_to ss step.session.taken p.taken)
 
   decided : (a b c d : Bool) → a ≡ rises here step.cause → b ≡ fits_event nodes me here step.cause.event effect → c ≡ may_open nodes later (flow_of (part_after step.flow)) step.session.opened → (IsTrue d ↔ IsFitting me step.cause.stamp ss step.session) → all_hold a b c d ≡ fits nodes me here (step_record step)
   decided a b c d order event few fitting =

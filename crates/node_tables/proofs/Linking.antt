@@ -209,17 +209,14 @@ module _ {F : Type 0} (w : Environment F) (me a c : ℕ) (s : NodeState F) (flow
     sessions_same = ap (λ (ss : List Session). taken_on change.taken (sent_on cause.stamp change.sent ss)) begun_same
 
     -- the change fits
-    pub change_fits : (stamp : ℕ) → FitsSent (party me) stamp (begun_by cause (effect_by flow change) s.sessions) change.sent → FitsTaken (begun_by cause (effect_by flow change) s.sessions) change.taken → IsFitting (party me) stamp s.sessions change
+    pub change_fits : (stamp : ℕ) → FitsSent (party me) stamp (begun_by cause (effect_by flow change) s.sessions) change.sent → FitsTaken s.sessions change.taken → IsFitting (party me) stamp s.sessions change
     change_fits stamp sent taken = record {
       came = subst (λ (k : Option Key). FitsCame (party me) s.sessions change k change.came) (sym key) (came_fits cause.event event);
       opened = opened_in (begun_by cause (effect_by flow change) s.sessions) change.opened opened;
       sent = subst (λ (ss : List Session). FitsSent (party me) stamp ss change.sent) (sym begun_same) sent;
-      taken = subst (λ (ss : List Session). FitsTaken ss change.taken) (sym begun_same) taken;
+      taken = taken;
     }
 
-    -- what a change that fits says of what is sent and taken
+    -- what a change that fits says of what is sent
     pub sent_there : (stamp : ℕ) → IsFitting (party me) stamp s.sessions change → FitsSent (party me) stamp (begun_by cause (effect_by flow change) s.sessions) change.sent
     sent_there stamp h = subst (λ (ss : List Session). FitsSent (party me) stamp ss change.sent) begun_same h.sent
-
-    pub taken_there : (stamp : ℕ) → IsFitting (party me) stamp s.sessions change → FitsTaken (begun_by cause (effect_by flow change) s.sessions) change.taken
-    taken_there stamp h = subst (λ (ss : List Session). FitsTaken ss change.taken) begun_same h.taken

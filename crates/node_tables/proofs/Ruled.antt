@@ -275,7 +275,7 @@ pub record Parts {F : Type 0} (nodes : ℕ) (me : Party) (s : NodeState F) (caus
   pub event : fits_event nodes me s cause.event e ≡ true
   pub opened : fits_opened nodes me s.sessions (begun_by cause e s.sessions) (flow_of e.flow) e.change.sent e.change.opened ≡ true
   pub sent : fits_sent me cause.stamp (begun_by cause e s.sessions) e.change.sent ≡ true
-  pub taken : fits_taken (begun_by cause e s.sessions) e.change.taken ≡ true
+  pub taken : fits_taken s.sessions e.change.taken ≡ true
 
 pub parts_of : {F : Type 0} (nodes : ℕ) (me : Party) (s : NodeState F) (cause : Cause) (e : Effect F) → fits nodes me s (record { cause = cause; effect = e }) ≡ true → Parts nodes me s cause e
 unfolding fits
@@ -285,8 +285,8 @@ parts_of nodes me s cause e h =
     let p = and_parts (leaves_ledger e.change) (rises s cause && (fits_event nodes me s cause.event e && sessions)) h in
     let q = and_parts (rises s cause) (fits_event nodes me s cause.event e && sessions) p.1 in
     let r = and_parts (fits_event nodes me s cause.event e) sessions q.1 in
-    let t = and_parts (fits_opened nodes me s.sessions later (flow_of e.flow) e.change.sent e.change.opened) (fits_sent me cause.stamp later e.change.sent && fits_taken later e.change.taken) r.1 in
-    let u = and_parts (fits_sent me cause.stamp later e.change.sent) (fits_taken later e.change.taken) t.1 in
+    let t = and_parts (fits_opened nodes me s.sessions later (flow_of e.flow) e.change.sent e.change.opened) (fits_sent me cause.stamp later e.change.sent && fits_taken s.sessions e.change.taken) r.1 in
+    let u = and_parts (fits_sent me cause.stamp later e.change.sent) (fits_taken s.sessions e.change.taken) t.1 in
     record { still = p.0; in_order = q.0; event = r.0; opened = t.0; sent = u.0; taken = u.1 }
 
 pub fits_of : {F : Type 0} (nodes : ℕ) (me : Party) (s : NodeState F) (cause : Cause) (e : Effect F) → Parts nodes me s cause e → fits nodes me s (record { cause = cause; effect = e }) ≡ true
@@ -302,11 +302,11 @@ fits_from w me s cause e still h =
       event = event_from w me s cause.event e h.event;
       opened = opened_from w me s later (flow_of e.flow) e.change.sent e.change.opened h.change.opened;
       sent = sent_from (party me) cause.stamp later e.change.sent h.change.sent;
-      taken = taken_from later e.change.taken h.change.taken;
+      taken = taken_from s.sessions e.change.taken h.change.taken;
     })
 
 -- what is said of the ledger of a change that leaves it alone
-still_fits : {F : Type 0} (w : Environment F) (me : ℕ) (s : NodeState F) (stamp : ℕ) (before : List Session) (owner : Option ℕ) (c : Change) → leaves_ledger c ≡ true → FitsOpened w me s (opened_on c.opened owner before) owner c.sent c.opened → FitsSent (party me) stamp (opened_on c.opened owner before) c.sent → FitsTaken (opened_on c.opened owner before) c.taken → FitsChange w me s stamp before owner c
+still_fits : {F : Type 0} (w : Environment F) (me : ℕ) (s : NodeState F) (stamp : ℕ) (before : List Session) (owner : Option ℕ) (c : Change) → leaves_ledger c ≡ true → FitsOpened w me s (opened_on c.opened owner before) owner c.sent c.opened → FitsSent (party me) stamp (opened_on c.opened owner before) c.sent → FitsTaken s.sessions c.taken → FitsChange w me s stamp before owner c
 still_fits w me s stamp before owner c still opened sent taken =
     subst (λ (x : Change). FitsChange w me s stamp before owner x) (sym (unledgered c still)) (record { opened = opened; sent = sent; taken = taken; recorded = tt; locked = refl; once = refl; booked = tt })
 
@@ -323,7 +323,7 @@ fits_to w me s cause e h =
       event = event_to w me s cause.event e p.still p.event;
       change =
           still_fits w me s cause.stamp (came_on cause.event (option_to_list e.change.came) (flow_of e.flow) s.sessions) (flow_of e.flow) e.change p.still (opened_to w me s later (flow_of e.flow) e.change.sent e.change.opened p.opened) (sent_to (party me) cause.stamp later e.change.sent p.sent)
-          (taken_to later e.change.taken p.taken);
+          (taken_to s.sessions e.change.taken p.taken);
     }
 
 pub fits_as_ruled : {F : Type 0} → FitsAsRuled F

@@ -139,9 +139,9 @@ abbrev pub fits_taken : List Session → Option (Key × ℕ) → Bool
 fits_taken sessions None = true
 fits_taken sessions (Some taken) = takes_up_to taken.1 (session_of taken.0 sessions)
 
--- whether what is opened, sent and taken fits; the earlier sessions are those before the record, and later are those once an item was accepted and a session opened
+-- whether what is opened, sent and taken fits; the earlier sessions are those before the record, and later are those once an item was accepted and a session opened; what is taken is of an earlier one
 abbrev pub fits_sessions : ℕ → Party → List Session → List Session → ℕ → Option ℕ → Change → Bool
-fits_sessions nodes me earlier later stamp owner change = fits_opened nodes me earlier later owner change.sent change.opened && (fits_sent me stamp later change.sent && fits_taken later change.taken)
+fits_sessions nodes me earlier later stamp owner change = fits_opened nodes me earlier later owner change.sent change.opened && (fits_sent me stamp later change.sent && fits_taken earlier change.taken)
 
 -- the sessions once an item was accepted and a session opened
 abbrev pub begun_by : {F : Type 0} → Cause → Effect F → List Session → List Session

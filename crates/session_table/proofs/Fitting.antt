@@ -1,6 +1,6 @@
 -- What a change makes of the sessions before it sends and takes items, and when these fit.
 use Rattle.std.proofs.Common.{◌≡◌, ℕ, suc, is_some, ◌+◌, ◌≤◌, Bool, true, false, ◌&&◌, ◌||◌, List, [], ◌∷◌, ◌++◌, Option, Some, None, refl, sym, ◌∙◌, ap, subst, cond, filter, length, option_map, arith, true≢false, length-append, ◌↔◌, IsTrue, zero, ◌<◌, take, drop, get_or}
-use Rattle.std.specs.Option.{option_or, IsSome}
+use Rattle.std.specs.Option.{option_or}
 use Rattle.net_base.specs.declared.names.Key.{Key}
 use Rattle.net_base.specs.declared.values.Party.{Party}
 use Rattle.session_wire.specs.declared.body.Body.{Body}
@@ -8,7 +8,7 @@ use Rattle.session_wire.specs.declared.change.SentItem.{SentItem}
 use Rattle.session_wire.specs.declared.change.SessionChange.{SessionChange}
 use Rattle.session_wire.specs.Sessions.{Session, Sent, key_eq, session_of, changed_at, new_session, with_came, with_sent, opened_on, sent_on}
 use Rattle.session_wire.specs.Rules.{is_init, is_lawful, direction_out, Continues, FitsSent, TakesUpTo}
-use Rattle.session_table.specs.Changes.{FitsCame, came_on, begun_on, is_answered, is_opened, count_of, taken_and_came, answered_for}
+use Rattle.session_table.specs.Changes.{came_on, begun_on, is_answered, is_opened, count_of, taken_and_came, answered_for}
 use Rattle.session_table.proofs.Found.{key_exact}
 use Rattle.session_table.proofs.Items.{or_none}
 
@@ -213,32 +213,13 @@ none_fits me stamp begun items slice k x result A same less is one refused befor
 
 -- ---- the items that are taken
 
--- where items are taken, what is accepted is an Init or nothing
-taking_came : (me : Party) (change : SessionChange) (q : Key) (k : Option Key) (o : Option Body) (owner : Option ℕ) (list : List Session) → FitsCame me list change k o → IsSome change.taken
-    → option_map taken_and_came (session_of q (came_on k o owner list)) ≡ option_or (option_map taken_and_came (session_of q list)) (cond (is_answered q k o) (Some (0, 1)) None)
-taking_came me change q None None owner list fits takes = sym (or_none (option_map taken_and_came (session_of q list)))
-taking_came me change q None (Some body) owner list fits takes = absurd fits
-taking_came me change q (Some k) None owner list fits takes = absurd fits
-taking_came me change q (Some k) (Some body) owner list fits takes = by (is_init body) (key_eq q k) refl refl
+-- a session that stands before the change stands once it was begun
+pub stands_begun : (q : Key) (change : SessionChange) (list : List Session) (s : Session) → session_of q list ≡ Some s → is_some (session_of q (begun_on change list)) ≡ true
+stands_begun q change list s stands = counted (session_of q (begun_on change list)) (ap is_some (sent_before q change list ∙ ap (λ o. option_or (option_map (λ t. length t.sent) o) (cond (is_answered q change.came_key change.came) (Some 0) (cond (is_opened q change.opened) (Some 0) None))) stands))
   where
-    by : (a b : Bool) → is_init body ≡ a → key_eq q k ≡ b → option_map taken_and_came (session_of q (came_on (Some k) (Some body) owner list)) ≡ option_or (option_map taken_and_came (session_of q list)) (cond (key_eq q k && is_init body) (Some (0, 1)) None)
-    by true true is at = rw (is, at) (added taken_and_came q list (new_session k k.initiator owner (body ∷ [])) ∙ rw at refl)
-    by true false is at = rw (is, at) (added taken_and_came q list (new_session k k.initiator owner (body ∷ [])) ∙ rw at refl)
-    by false b is at = let goes = fits.goes_on is in absurd (true≢false (sym takes ∙ ap is_some goes.takes_none))
-
--- how many items of the session of a key were taken and arrived, before the change takes some
-taken_before : (me : Party) (q : Key) (change : SessionChange) (list : List Session) → FitsCame me list change change.came_key change.came → IsSome change.taken
-    → option_map taken_and_came (session_of q (begun_on change list)) ≡ option_or (option_map taken_and_came (session_of q list)) (cond (is_answered q change.came_key change.came) (Some (0, 1)) (cond (is_opened q change.opened) (Some (0, 0)) None))
-taken_before me q change list fits takes =
-    let owner = answered_for change.owner change.sent in
-    opened_more taken_and_came (0, 0) (λ k p owner. refl) q change.opened (Some change.owner) (came_on change.came_key change.came owner list)
-    ∙ ap (λ o. option_or o (cond (is_opened q change.opened) (Some (0, 0)) None)) (taking_came me change q change.came_key change.came owner list fits takes)
-    ∙ or_twice (option_map taken_and_came (session_of q list)) (is_answered q change.came_key change.came) (is_opened q change.opened) (0, 1) (0, 0)
-
--- what the table has of it, or else what the change makes
-pub taken_begun : (me : Party) (q : Key) (change : SessionChange) (list : List Session) (o : Option (ℕ × ℕ)) (a b : Bool) → FitsCame me list change change.came_key change.came → IsSome change.taken → o ≡ option_map taken_and_came (session_of q list)
-    → a ≡ is_answered q change.came_key change.came → b ≡ is_opened q change.opened → option_or o (cond a (Some (0, 1)) (cond b (Some (0, 0)) None)) ≡ option_map taken_and_came (session_of q (begun_on change list))
-taken_begun me q change list o a b fits takes has answered opened = (λ i. option_or (has i) (cond (answered i) (Some (0, 1)) (cond (opened i) (Some (0, 0)) None))) ∙ sym (taken_before me q change list fits takes)
+    counted : (o : Option Session) → is_some (option_map (λ t. length t.sent) o) ≡ true → is_some o ≡ true
+    counted None h = h
+    counted (Some t) h = refl
 
 -- items may be taken up to a number that is neither below the one nor above the other
 pub takes_from : (list : List Session) (q : Key) (n taken came : ℕ) → option_map taken_and_came (session_of q list) ≡ Some (taken, came) → taken ≤ n → n ≤ came → TakesUpTo list q n

@@ -73,7 +73,8 @@ pub record IsFitting (me : Party) (stamp : ℕ) (sessions : List Session) (chang
   pub came : FitsCame me sessions change change.came_key change.came
   pub opened : FitsOpened me sessions change.sent change.opened
   pub sent : FitsSent me stamp (begun_on change sessions) change.sent
-  pub taken : FitsTaken (begun_on change sessions) change.taken
+  -- the session stands before the change
+  pub taken : FitsTaken sessions change.taken
 
 -- the sessions after a change: the item is accepted, the session opened, items are sent, and one is taken
 abbrev pub changed_by : ℕ → SessionChange → List Session → List Session

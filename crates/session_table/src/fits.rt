@@ -1,10 +1,10 @@
 //! Whether a change is one that a transition may make.
 
-ghost use Rattle.std.specs.Prelude.{◌≡◌, ◌==◌, ◌+◌, ◌↔◌, ◌||◌, ℕ, true, IsTrue, IsSome, length, option_map};
+ghost use Rattle.std.specs.Prelude.{◌≡◌, ◌==◌, ◌+◌, ◌↔◌, ◌||◌, ℕ, true, IsTrue, length, option_map};
 ghost use Rattle.std.specs.List.{list_any};
 ghost use Rattle.session_wire.specs.Sessions.{session_of, sent_on};
 ghost use Rattle.session_wire.specs.Rules.{is_lawful, is_init_of, OpensNext, Continues, FitsSent, TakesUpTo, FitsTaken};
-ghost use Rattle.session_table.specs.Changes.{AnswersFirst, AcceptsInit, AcceptsNext, AcceptsItem, FitsCame, FitsOpened, IsFitting, begun_on, is_answered, is_opened, count_of, taken_and_came};
+ghost use Rattle.session_table.specs.Changes.{AnswersFirst, AcceptsInit, AcceptsNext, AcceptsItem, FitsCame, FitsOpened, IsFitting, begun_on, is_answered, is_opened, count_of};
 
 use crate::sessions::Sessions;
 use crate::standing::{is_init, is_lawful, is_opened_by};
@@ -135,49 +135,24 @@ impl Sessions {
         }
     }
 
-    /// Whether the number of taken items fits, if there is one.
+    /// Whether the number of taken items fits, if there is one: its session stands before the change, which makes none that it
+    /// takes from.
     fn fits_taken(&self, change: &SessionChange) -> bool
-        requires { FitsCame self.now.party self.now.list change.now change.now.came_key change.now.came }
-        ensures { IsTrue result ↔ FitsTaken (begun_on change.now self.now.list) change.now.taken }
+        ensures { IsTrue result ↔ FitsTaken self.now.list change.now.taken }
     {
         match &change.taken {
             None => true,
-            Some((key, number)) => self.takes_up_to(change, key, *number),
+            Some((key, number)) => self.takes_up_to(key, *number),
         }
     }
 
-    /// Whether so many items of the session may be taken: no fewer than were, and no more than arrived. The change takes items, so
-    /// what it accepts is an `Init` or nothing.
-    fn takes_up_to(&self, change: &SessionChange, key: &Key, number: u32) -> bool
-        requires came { FitsCame self.now.party self.now.list change.now change.now.came_key change.now.came }
-        requires takes { IsSome change.now.taken }
-        ensures { IsTrue result ↔ TakesUpTo (begun_on change.now self.now.list) key.now number }
-    {
-        match self.taken_begun(change, key) {
-            None => false,
-            Some((taken, came)) => taken <= number && number <= came,
-        }
-    }
-
-    /// How many items of the session were taken before, and how many arrived: one in a session of which the change accepts the `Init`,
-    /// none in the one that it opens.
-    fn taken_begun(&self, change: &SessionChange, key: &Key) -> Option<(u32, u32)>
-        requires came { FitsCame self.now.party self.now.list change.now change.now.came_key change.now.came }
-        requires takes { IsSome change.now.taken }
-        ensures { result ≡ option_map taken_and_came (session_of key.now (begun_on change.now self.now.list)) }
+    /// Whether so many items of the session may be taken: no fewer than were, and no more than arrived.
+    fn takes_up_to(&self, key: &Key, number: u32) -> bool
+        ensures { IsTrue result ↔ TakesUpTo self.now.list key.now number }
     {
         match self.taken_and_came(key) {
-            Some(counts) => Some(counts),
-            None => {
-                if is_answered(key, change) {
-                    return Some((0, 1));
-                }
-                if is_opened(key, change) {
-                    Some((0, 0))
-                } else {
-                    None
-                }
-            }
+            None => false,
+            Some((taken, came)) => taken <= number && number <= came,
         }
     }
 }

@@ -5,6 +5,7 @@ use Rattle.session_wire.specs.Sessions.{Session, session_of, opened_on, sent_on,
 use Rattle.session_wire.specs.Rules.{opened_by, FitsSent, FitsTaken}
 use Rattle.session_table.specs.Changes.{came_on, acks_of_opened, FitsOpened, begun_on, answered_for}
 use Rattle.session_table.proofs.Stepping.{opened_came, opens_next, few_acks, few_opened, stands_sent}
+use Rattle.session_table.proofs.Fitting.{stands_begun}
 use Rattle.session_table.proofs.sessions.Sessions.apply.Goals as goal
 
 pub accept-requires-clause-fits : goal.accept-requires-clause-fits
@@ -53,8 +54,9 @@ take-requires c = λ key n is.
     let owner = c.owner_of_answer-owner.ensures ∙ ap (answered_for c.args.change.owner) c.as_slice.ensures in
     let came = c.accept.ensures.list ∙ ap (λ (o : Option ℕ). came_on c.args.change.came_key c.args.change.came o c.args.self.now.list) owner in
     let begun : c.open.new.self.list ≡ begun_on c.args.change c.args.self.now.list = c.open.ensures.list ∙ ap (opened_on c.args.change.opened (Some c.args.change.owner)) came in
-    let taken = subst (λ (o : Option (Key × ℕ)). FitsTaken (begun_on c.args.change c.args.self.now.list) o) is c.requires.fits.taken in
-    ap (λ (l : List Session). is_some (session_of key l)) c.send.ensures.list ∙ stands_sent key c.args.stamp c.args.change.sent c.open.new.self.list ∙ ap (λ (l : List Session). is_some (session_of key l)) begun ∙ ap is_some taken.stands
+    let taken = subst (λ (o : Option (Key × ℕ)). FitsTaken c.args.self.now.list o) is c.requires.fits.taken in
+    ap (λ (l : List Session). is_some (session_of key l)) c.send.ensures.list ∙ stands_sent key c.args.stamp c.args.change.sent c.open.new.self.list ∙ ap (λ (l : List Session). is_some (session_of key l)) begun
+    ∙ stands_begun key c.args.change c.args.self.now.list taken.session taken.stands
 
 pub returns-clause-party : goal.returns-clause-party
 returns-clause-party c = c.take.ensures.party ∙ c.send.ensures.party ∙ c.open.ensures.party ∙ c.accept.ensures.party
