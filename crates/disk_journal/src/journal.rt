@@ -88,6 +88,9 @@ impl<D: Disk> Journal<D> {
         ensures begun { (D.seen disk).tells ≡ true → IsYoung identity (D.seen disk).state.kept → IfErr result (λ r. GivesUp r.why) }
         ensures kept { IfErr result (λ r. (r.why ≡ OpenFault.Fault → ⊥) → IfTold (D.seen disk) (D.seen r.disk) (λ d e. journal_of e.kept ≡ journal_of d.kept)) }
 
+        // What was kept as the call began was one of the images then.
+        ensures was { (D.seen disk).tells ≡ true → IsImage (D.seen disk).state.now (D.seen disk).state.kept }
+
         // At each moment each image spells a list that an image spelt as the call began,
         ensures moments { MatchResult result
             (λ r. IfTold (D.seen disk) r.0.disk (λ d e. EachImage d e (WasSpelt d)))

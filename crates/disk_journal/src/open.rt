@@ -150,6 +150,9 @@ pub fn prepare<D: Disk>(alloc: Global, disk: &mut D, id: &Identity) -> Result<Re
     ensures refused { (D.seen disk.old).tells ≡ true → IfErr result (λ why. GivesUp why ⊎ (refusal id.now (D.seen disk.old).state.kept ≡ Some why)) }
     ensures same { (IsErrOf result OpenFault.Fault → ⊥) → IfTold (D.seen disk.old) (D.seen disk.new) (λ d e. journal_of e.kept ≡ journal_of d.kept) }
 
+    // What is kept was one of the images.
+    ensures was { (D.seen disk.old).tells ≡ true → IsImage (D.seen disk.old).state.now (D.seen disk.old).state.kept }
+
     // At each moment each image spells a list that an image spelt as the call began,
     ensures moments { IfTold (D.seen disk.old) (D.seen disk.new) (λ d e. EachImage d e (WasSpelt d)) }
     ensures kept { IfTold (D.seen disk.old) (D.seen disk.new) (λ d e. WasSpelt d e.kept) }

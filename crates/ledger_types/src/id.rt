@@ -1,78 +1,16 @@
 //! The id of a transaction.
 
-ghost use Rattle.std.specs.Prelude.{◌≡◌, ◌+◌, ◌≤◌, ℕ, List, length, map, option_to_list};
+ghost use Rattle.std.specs.Prelude.{◌≡◌, ◌+◌, ◌≤◌, ℕ, List, length, map};
 ghost use Rattle.std.specs.List.{AllByRecursion};
-ghost use Rattle.std.specs.Mem.{FitsInMemory};
 ghost use Rattle.component_merkle.specs.Merkle.{nonce_of, leaf_of, group_of, root_of};
 ghost use Rattle.ledger_types.specs.Ids.{value_of, leaves_from, id_of, groups, present};
-ghost use Rattle.net_base.specs.Parties.{party_set, IsPartySet};
-ghost use Rattle.ledger_types.specs.Txs.{deed, IsDeed, IsTx};
+ghost use Rattle.ledger_types.specs.Txs.{IsTx};
 
+use crate::parts::{ItsDeed, ItsSigners, Part, Whole};
 use crate::state::TxState;
 use crate::tx::{Command, Tx, Window};
 use component_merkle::{group, leaf, nonce, root};
-use net_base::{Block, Component, Hash32, Party, StateRef};
-
-/// Which component of an item is written.
-pub trait Part<T> {
-    ghost use Rattle.std.specs.Prelude.{◌≡◌, ◌++◌, ◌+◌, ◌≤◌, ℕ, List, length};
-
-    ghost text: { T → List ℕ };
-
-    ghost limits: { T → Type 0 };
-
-    ghost size: { ℕ };
-
-    fn put(item: &T, block: &mut Block)
-        requires room { length block.old + size ≤ 64 }
-        requires limits { limits item.now }
-        ensures { block.new ≡ block.old ++ text item.now };
-}
-
-/// The whole item.
-pub struct Whole;
-
-/// A command's deed.
-pub struct ItsDeed;
-
-/// A command's signers.
-pub struct ItsSigners;
-
-impl<T: Component> Part<T> for Whole {
-    ghost text = { T.text };
-
-    ghost limits = { T.limits };
-
-    ghost size = { T.size };
-
-    fn put(item: &T, block: &mut Block) {
-        item.put(block);
-    }
-}
-
-impl Part<Command> for ItsDeed {
-    ghost text = { λ c. deed c.deed };
-
-    ghost limits = { λ c. IsDeed c.deed };
-
-    ghost size = { 13 };
-
-    fn put(item: &Command, block: &mut Block) {
-        item.deed.put(block);
-    }
-}
-
-impl Part<Command> for ItsSigners {
-    ghost text = { λ c. party_set c.signers };
-
-    ghost limits = { λ c. IsPartySet c.signers };
-
-    ghost size = { 17 };
-
-    fn put(item: &Command, block: &mut Block) {
-        item.signers.put(block);
-    }
-}
+use net_base::{Block, Hash32, Party, StateRef};
 
 fn leaf_at<T, P: Part<T>>(salt: &[u8; 32], ordinal: u32, place: u32, item: &T) -> [u8; 32]
     requires size { P.size ≤ 64 }
@@ -100,40 +38,30 @@ fn group_value<T, P: Part<T>>(salt: &[u8; 32], ordinal: u32, items: &[T]) -> [u8
     group(&mut leaves[..count])
 }
 
-fn slice_of<T>(option: &Option<T>) -> &[T]
-    requires { FitsInMemory T.row }
-    ensures { result.now ≡ option_to_list option.now }
-{
-    match option {
-        Some(value) => std::slice::from_ref(value),
-        None => &[],
-    }
-}
-
-/// The greatest ordinal of a present group, and one more, by the lengths of the groups.
-fn count_groups(tx: &Tx) -> usize
-    ensures { result ≡ length (present (groups tx.now)) }
-{
-    if tx.references.len() > 0 {
-        8
-    } else if tx.commands.len() > 0 {
-        7
-    } else if tx.window.is_some() {
-        6
-    } else if tx.notary.is_some() {
-        5
-    } else if tx.attachments.len() > 0 {
-        4
-    } else if tx.outputs.len() > 0 {
-        2
-    } else if tx.inputs.len() > 0 {
-        1
-    } else {
-        0
-    }
-}
-
 impl Tx {
+    /// How many component groups its id is made of, 0 to 8: those up to the last that has a component.
+    pub fn group_count(&self) -> usize
+        ensures { result ≡ length (present (groups self.now)) }
+    {
+        if self.references.len() > 0 {
+            8
+        } else if self.commands.len() > 0 {
+            7
+        } else if self.window.is_some() {
+            6
+        } else if self.notary.is_some() {
+            5
+        } else if self.attachments.len() > 0 {
+            4
+        } else if self.outputs.len() > 0 {
+            2
+        } else if self.inputs.len() > 0 {
+            1
+        } else {
+            0
+        }
+    }
+
     /// The root over the values of the component groups. It takes no memory.
     #[tactic(auto, unfolding(crate::specs::Ids::id_of))]
     pub fn id(&self) -> Hash32
@@ -146,12 +74,12 @@ impl Tx {
             group_value::<TxState, Whole>(salt, 1, self.outputs.as_slice()),
             group_value::<Command, ItsDeed>(salt, 2, self.commands.as_slice()),
             group_value::<Hash32, Whole>(salt, 3, self.attachments.as_slice()),
-            group_value::<Party, Whole>(salt, 4, slice_of(&self.notary)),
-            group_value::<Window, Whole>(salt, 5, slice_of(&self.window)),
+            group_value::<Party, Whole>(salt, 4, self.notary.as_slice()),
+            group_value::<Window, Whole>(salt, 5, self.window.as_slice()),
             group_value::<Command, ItsSigners>(salt, 6, self.commands.as_slice()),
             group_value::<StateRef, Whole>(salt, 7, self.references.as_slice()),
         ];
-        let count = count_groups(self);
+        let count = self.group_count();
         Hash32(root(&mut values[..count]))
     }
 }

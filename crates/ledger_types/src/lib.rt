@@ -6,6 +6,7 @@ mod change;
 mod held;
 mod id;
 mod notary;
+pub mod parts;
 mod state;
 #[cfg(test)]
 mod tests;

@@ -1,11 +1,9 @@
 //! Making a tear-off.
 
-ghost use Rattle.std.specs.Prelude.{◌≡◌, ◌≤◌, Some, List, map, length, option_to_list, IfOk};
+ghost use Rattle.std.specs.Prelude.{◌≡◌, ◌≤◌, Some, List, map, length, IfOk};
 ghost use Rattle.std.specs.List.{AllByRecursion};
-ghost use Rattle.std.specs.Mem.{FitsInMemory};
-ghost use Rattle.net_base.specs.Parties.{party_set, IsPartySet};
-ghost use Rattle.ledger_types.specs.Ids.{groups, present};
-ghost use Rattle.ledger_types.specs.Txs.{deed, IsDeed, IsTx};
+ghost use Rattle.ledger_types.specs.Ids.{groups};
+ghost use Rattle.ledger_types.specs.Txs.{IsTx};
 ghost use Rattle.ledger_types.specs.Tears.{visible_of};
 ghost use Rattle.ledger_types.specs.Torn.{IsTornTx};
 ghost use Rattle.ledger_types.specs.declared.tx.Tx.{Tx};
@@ -13,70 +11,10 @@ ghost use Rattle.tx_tear.specs.Tearing.{part_of, shown_group, hidden_group, torn
 
 use crate::values::group_value;
 use component_merkle::nonce;
+use ledger_types::parts::{ItsDeed, ItsSigners, Part, Whole};
 use ledger_types::{Command, TornGroup, TornPart, TornTx, Tx, TxState, Window};
-use net_base::{Block, ByteList, Component, Hash32, ListOf, Party, StateRef};
+use net_base::{Block, ByteList, Hash32, ListOf, Party, StateRef};
 use std::alloc::{AllocError, Global};
-
-/// Which component of an item is meant.
-trait Part<T> {
-    ghost use Rattle.std.specs.Prelude.{◌≡◌, ◌++◌, ◌+◌, ◌≤◌, ℕ, List, length};
-
-    ghost text: { T → List ℕ };
-
-    ghost limits: { T → Type 0 };
-
-    ghost size: { ℕ };
-
-    fn put(item: &T, block: &mut Block)
-        requires room { length block.old + size ≤ 64 }
-        requires limits { limits item.now }
-        ensures { block.new ≡ block.old ++ text item.now };
-}
-
-/// The whole item.
-struct Whole;
-
-/// A command's deed.
-struct ItsDeed;
-
-/// A command's signers.
-struct ItsSigners;
-
-impl<T: Component> Part<T> for Whole {
-    ghost text = { T.text };
-
-    ghost limits = { T.limits };
-
-    ghost size = { T.size };
-
-    fn put(item: &T, block: &mut Block) {
-        item.put(block);
-    }
-}
-
-impl Part<Command> for ItsDeed {
-    ghost text = { λ c. deed c.deed };
-
-    ghost limits = { λ c. IsDeed c.deed };
-
-    ghost size = { 13 };
-
-    fn put(item: &Command, block: &mut Block) {
-        item.deed.put(block);
-    }
-}
-
-impl Part<Command> for ItsSigners {
-    ghost text = { λ c. party_set c.signers };
-
-    ghost limits = { λ c. IsPartySet c.signers };
-
-    ghost size = { 17 };
-
-    fn put(item: &Command, block: &mut Block) {
-        item.signers.put(block);
-    }
-}
 
 /// The component at a place of a group, with its nonce.
 fn part_at<T, P: Part<T>>(
@@ -139,39 +77,6 @@ fn hidden<T, P: Part<T>>(
     })
 }
 
-fn slice_of<T>(option: &Option<T>) -> &[T]
-    requires { FitsInMemory T.row }
-    ensures { result.now ≡ option_to_list option.now }
-{
-    match option {
-        Some(value) => std::slice::from_ref(value),
-        None => &[],
-    }
-}
-
-/// How many groups there are up to the last that has a component.
-fn count_groups(tx: &Tx) -> usize
-    ensures { result ≡ length (present (groups tx.now)) }
-{
-    if tx.references.len() > 0 {
-        8
-    } else if tx.commands.len() > 0 {
-        7
-    } else if tx.window.is_some() {
-        6
-    } else if tx.notary.is_some() {
-        5
-    } else if tx.attachments.len() > 0 {
-        4
-    } else if tx.outputs.len() > 0 {
-        2
-    } else if tx.inputs.len() > 0 {
-        1
-    } else {
-        0
-    }
-}
-
 /// All eight groups of a transaction, torn.
 fn torn_groups(alloc: Global, tx: &Tx) -> Result<Vec<TornGroup>, AllocError>
     requires { IsTx tx.now }
@@ -184,8 +89,8 @@ fn torn_groups(alloc: Global, tx: &Tx) -> Result<Vec<TornGroup>, AllocError>
     torn.push(hidden::<TxState, Whole>(alloc, salt, 1, tx.outputs.as_slice())?)?;
     torn.push(hidden::<Command, ItsDeed>(alloc, salt, 2, commands)?)?;
     torn.push(hidden::<Hash32, Whole>(alloc, salt, 3, tx.attachments.as_slice())?)?;
-    torn.push(shown::<Party, Whole>(alloc, salt, 4, slice_of(&tx.notary))?)?;
-    torn.push(shown::<Window, Whole>(alloc, salt, 5, slice_of(&tx.window))?)?;
+    torn.push(shown::<Party, Whole>(alloc, salt, 4, tx.notary.as_slice())?)?;
+    torn.push(shown::<Window, Whole>(alloc, salt, 5, tx.window.as_slice())?)?;
     torn.push(hidden::<Command, ItsSigners>(alloc, salt, 6, commands)?)?;
     torn.push(shown::<StateRef, Whole>(alloc, salt, 7, tx.references.as_slice())?)?;
     Ok(torn)
@@ -201,7 +106,7 @@ pub fn tear(alloc: Global, tx: &Tx) -> Result<TornTx, AllocError>
     ensures within { IfOk result IsTornTx }
 {
     let mut groups = torn_groups(alloc, tx)?;
-    groups.truncate(count_groups(tx));
+    groups.truncate(tx.group_count());
     Ok(TornTx {
         id: tx.id(),
         groups: ListOf::from_vec(groups),

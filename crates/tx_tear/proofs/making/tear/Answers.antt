@@ -4,4 +4,4 @@ use Rattle.tx_tear.proofs.making.tear.Goals as goal
 
 pub returns-clause-within : goal.returns-clause-within
 returns-clause-within c =
-    built_within c.args.tx.now c.id.result c.in_ok-groups.groups.items c.from_vec.result c.count_groups.result c.requires c.id.ensures c.in_ok-groups.ensures c.count_groups.ensures (c.from_vec.ensures ∙ c.truncate.ensures.items)
+    built_within c.args.tx.now c.id.result c.in_ok-groups.groups.items c.from_vec.result c.group_count.result c.requires c.id.ensures c.in_ok-groups.ensures c.group_count.ensures (c.from_vec.ensures ∙ c.truncate.ensures.items)
