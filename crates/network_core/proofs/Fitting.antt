@@ -1,7 +1,6 @@
 -- A journal of a node's own steps fits: none of its records is one that a boot refuses.
-use Rattle.std.proofs.Common.{◌≡◌, ℕ, suc, ◌+◌, ◌≤◌, List, [], ◌∷◌, ◌++◌, length, Option, Some, None, Result, Ok, Err, Bool, true, false, cond, option_and_then, option_map, option_to_list, refl, sym, ◌∙◌, ap, subst, arith}
+use Rattle.std.proofs.Common.{◌≡◌, ℕ, suc, ◌+◌, ◌≤◌, List, [], ◌∷◌, ◌++◌, length, Option, Some, None, Result, Ok, Err, Bool, true, false, cond, option_and_then, option_to_list, refl, subst, arith}
 use Rattle.std.specs.Prelude.{nat_lt, ◌==◌}
-use Rattle.net_base.specs.declared.causes.Cause.{Cause}
 use Rattle.net_base.specs.declared.causes.Event.{Event}
 use Rattle.net_base.specs.declared.causes.Event.TheVariants as event
 use Rattle.net_base.specs.declared.names.Key.{Key}
@@ -16,14 +15,12 @@ use Rattle.flow_machine.specs.declared.acts.Act.TheVariants as act
 use Rattle.flow_machine.specs.declared.acts.Resumed.TheVariants as resumed
 use Rattle.flow_machine.specs.declared.flow_set.MakeFault.{MakeFault}
 use Rattle.flow_machine.specs.declared.flows.Checkpoint.{Checkpoint}
-use Rattle.flow_machine.specs.Machine.{Machine}
 use Rattle.disk_journal.specs.Journal.{placed}
-use Rattle.net_base.specs.declared.names.Identity.{Identity}
-use Rattle.net_model.specs.Environment.{Environment, environment, is_act_built, party}
+use Rattle.net_model.specs.Environment.{Environment, is_act_built, party}
 use Rattle.net_model.specs.Fits.{IsSound}
 use Rattle.net_model.specs.Runs.{IsLocal, IsLocalFrom, stamped}
 use Rattle.net_model.specs.State.{NodeState, Effect, Record, nothing, apply_effect, fresh}
-use Rattle.net_model.specs.Steps.{Done, opens, opening, sends, receives, takes, goes_on, onwards, returns, fails, performed, lapsed, lapses, place, started, answering, answered_with, answered, arrived, meant_of, is_built, is_flow_built, effect_of, node_step, body_in, live_at}
+use Rattle.net_model.specs.Steps.{Done, opens, opening, sends, receives, takes, goes_on, onwards, returns, performed, lapsed, lapses, place, started, answering, answered_with, answered, arrived, meant_of, is_built, is_flow_built, effect_of, node_step, body_in, live_at}
 use Rattle.net_model.proofs.Basics.{from_some, from_map, from_then, from_cond, cond_all}
 use Rattle.net_model.proofs.Effects.{step_taken, step_is_its_effect}
 use Rattle.net_model.proofs.Fitting.{steps_fit}
