@@ -100,6 +100,9 @@ impl<D: Disk> Journal<D> {
         ensures fuse { (D.seen disk).tells ≡ true → IfOk result (λ r. r.0.disk.fuse ≡ burnt_by (opening_calls (D.seen disk).state.kept) (D.seen disk).fuse) }
         ensures power { IfOk result (λ r. ((D.seen disk).power ≡ true) × (r.0.disk.power ≡ true)) }
 
+        // What was kept as the call began was one of the images then.
+        ensures was { (D.seen disk).tells ≡ true → IsImage (D.seen disk).state.now (D.seen disk).state.kept }
+
         // At each moment each image spells a list that an image spelt as the call began,
         ensures moments { MatchResult result
             (λ r. IfTold (D.seen disk) r.0.disk (λ d e. EachImage d e (WasSpelt d)))

@@ -165,6 +165,9 @@ pub fn prepare<D: Disk>(alloc: Global, disk: &mut D, id: &Identity) -> Result<Re
     ensures fuse { (D.seen disk.old).tells ≡ true → OnOk result ((D.seen disk.new).fuse ≡ burnt_by (opening_calls (D.seen disk.old).state.kept) (D.seen disk.old).fuse) }
     ensures power { OnOk result (((D.seen disk.old).power ≡ true) × ((D.seen disk.new).power ≡ true)) }
 
+    // What is kept was one of the images.
+    ensures was { (D.seen disk.old).tells ≡ true → IsImage (D.seen disk.old).state.now (D.seen disk.old).state.kept }
+
     // At each moment each image spells a list that an image spelt as the call began,
     ensures moments { IfTold (D.seen disk.old) (D.seen disk.new) (λ d e. EachImage d e (WasSpelt d)) }
     ensures kept { IfTold (D.seen disk.old) (D.seen disk.new) (λ d e. WasSpelt d e.kept) }

@@ -177,7 +177,7 @@ module _ {F : Type 0} (e : Environment F) (w : World) (p : ℕ) (x y : NodeWorld
     boots_coherent None h = stays_down_coherent h.0
     boots_coherent (Some outcome.Booted) h = comes_up_coherent h
     boots_coherent (Some outcome.Fault) h = stays_down_coherent h.0
-    boots_coherent (Some (outcome.Refused code)) h = ⊎_elim (λ up. same_coherent up.2) (λ down. stays_down_coherent down.1) h
+    boots_coherent (Some (outcome.Refused code)) h = ⊎_elim (λ up. same_coherent up.2) (λ down. stays_down_coherent down.2) h
     boots_coherent (Some other) h = absurd h
 
     -- without one of them all is still said of each frame

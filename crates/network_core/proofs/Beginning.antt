@@ -14,13 +14,14 @@ use Rattle.node_core.specs.declared.faults.BootFault.{BootFault}
 use Rattle.node_core.specs.declared.faults.BootFault.TheVariants as boot_fault
 use Rattle.node_tables.specs.Journals.{Reads, state_of}
 use Rattle.node_core.specs.Disks.{roomless}
-use Rattle.node_core.specs.Seen.{NodeSeen, BootsAs, IsBy, acks_over}
+use Rattle.node_core.specs.Seen.{NodeSeen, BootsAs, GaveUp, IsBy, acks_over}
 use Rattle.network_core.proofs.Agreeing.{begun_coherent, stay_down_coherent}
 use Rattle.network_core.proofs.Mailing.{waits_in}
-use Rattle.network_core.specs.Worlds.{NodeWorld, World, NetSeen, MaySpell, ShowsJournal, NodeShows, Shows, Coherent}
+use Rattle.network_core.specs.Worlds.{NodeWorld, World, NetSeen, MaySpell, ShowsJournal, NodeShows, Shows, AreOpenable, Coherent}
 use Rattle.network_core.specs.Begins.{Begun, BeginsUp, LeavesDisk, member, came_up, no_boot, IsLast, BootsUpTo, BootStops, node_over, nodes_over, net_over, BeginsWorld, StayDown, IsRefused}
 use Rattle.network_core.proofs.Faithful.{get_beside, map_length}
-use Rattle.network_core.proofs.Booting.{down_world, same_kept, booted_world}
+use Rattle.network_core.proofs.Booting.{down_world, same_kept, booted_world, gives_up, coherent_fits}
+use Rattle.network_core.proofs.Stands.{AreYoung}
 
 -- ---- lists
 
@@ -115,7 +116,7 @@ module _ {F : Type 0} (e : Environment F) (p : ℕ) (n k : NodeSeen) (x : NodeWo
   up_world s =
       let up = booted_world e p n k x shows down s.0 s.1 s.2 s.3 s.4 in
       let y = up.0 in
-      let after = up.3.0 ∙ ap (λ w. record { up = true; journal = x.journal; other = None; faults = y.faults; calm = y.calm; file = x.file; acked = acks_over e [] x.journal; waiting = w }) empty in (
+      let after = up.3.0 ∙ ap (λ w. record { up = true; journal = x.journal; other = None; faults = y.faults; calm = y.calm; file = x.file; openable = true; acked = acks_over e [] x.journal; waiting = w }) empty in (
         y,
         (
           up.1,
@@ -135,10 +136,10 @@ module _ {F : Type 0} (e : Environment F) (p : ℕ) (n k : NodeSeen) (x : NodeWo
       let one : y.other ≡ None = ap (λ z. z.other) up.3.0 in
       let kept : y.journal ≡ x.journal = ap (λ z. z.journal) up.3.0 in
       let file : y.file ≡ x.file = ap (λ z. z.file) up.3.0 in (
-        record y { up = false; acked = [] },
+        record y { up = false; openable = x.openable; acked = [] },
         (
-          record { identity_is = up.1.identity_is; tells = up.1.tells; images = up.1.images; kept = up.1.kept; journal = refl; counts = up.1.counts; calm_is = up.1.calm_is; file_is = up.1.file_is; acked_is = refl },
-          record { down = refl; lists = λ l may. ⊎_elim (λ s. inl (s ∙ kept)) (λ s. absurd (none-some _ (sym one ∙ s))) may; kept = λ other. kept; later = up.3.1; file = file },
+          record { identity_is = up.1.identity_is; tells = up.1.tells; images = up.1.images; kept = up.1.kept; journal = refl; counts = up.1.counts; calm_is = up.1.calm_is; file_is = up.1.file_is; acked_is = refl; opens = λ on. up.1.opens (ap (λ z. z.openable) up.3.0) },
+          record { down = refl; lists = λ l may. ⊎_elim (λ s. inl (s ∙ kept)) (λ s. absurd (none-some _ (sym one ∙ s))) may; kept = λ other. kept; later = up.3.1; file = file; openable = refl },
           up.2 ∙ empty,
         ),
       )
@@ -146,13 +147,13 @@ module _ {F : Type 0} (e : Environment F) (p : ℕ) (n k : NodeSeen) (x : NodeWo
   -- the node's boot was refused
   left_down : (why : BootFault) → BootsAs e.frame_at n (no_boot why) k → Left why
   left_down why s =
-      let to = down_world e p n k x shows down s.0 s.1 s.2 s.3.moves in
+      let to = down_world e p n k x shows down s.0 s.1 s.2 s.3.moves s.3.form in
       let y = to.0 in
       let u = to.3 in (
         y,
         (
-          record { identity_is = to.1.identity_is; tells = to.1.tells; images = to.1.images; kept = to.1.kept; journal = u.down; counts = to.1.counts; calm_is = to.1.calm_is; file_is = to.1.file_is; acked_is = u.acked },
-          record { down = u.down; lists = u.lists; kept = λ other. same_kept e p n k x shows down y u (s.3.same other shows.tells); later = u.later; file = u.file },
+          record { identity_is = to.1.identity_is; tells = to.1.tells; images = to.1.images; kept = to.1.kept; journal = u.down; counts = to.1.counts; calm_is = to.1.calm_is; file_is = to.1.file_is; acked_is = u.acked; opens = to.1.opens },
+          record { down = u.down; lists = u.lists; kept = λ other. same_kept e p n k x shows down y u (s.3.same other shows.tells); later = u.later; file = u.file; openable = u.openable },
           to.2 ∙ empty,
         ),
       )
@@ -173,8 +174,9 @@ module _ {F : Type 0} (e : Environment F) (p : ℕ) (n k : NodeSeen) (x : NodeWo
             calm_is = shows.calm_is ∙ sym (ap (λ z. z.disk.calm) same);
             file_is = shows.file_is ∙ sym (ap (λ z. z.disk.of_file) same);
             acked_is = refl;
+            opens = subst (λ (z : NodeSeen). x.openable ≡ true → AreYoung z.identity z.disk) (sym same) shows.opens;
           },
-          record { down = was; lists = λ l h. h; kept = λ other. refl; later = omega arith; file = refl },
+          record { down = was; lists = λ l h. h; kept = λ other. refl; later = omega arith; file = refl; openable = refl },
           empty,
         ),
       )
@@ -287,6 +289,14 @@ module _ {F : Type 0} (m : Machine F) (f : Reads F) (nodes : ℕ) (notary : Part
         (cases_lt place p))
         (cases_lt p place)
 
+    stopped_so : (now : ℕ) (w : World) → Shows e (net_over nodes notary now disks) w → Coherent e w → AreOpenable w → GaveUp why
+    stopped_so now w shows coherent on =
+        let n = get_within olds place stops.within in
+        let k = get_beside olds news place n.0 (sym stops.count) n.1 in
+        let x = get_beside olds w.nodes place n.0 (sym shows.count) n.1 in
+        let s = stops.refused n.0 k.0 n.1 k.1 in
+        gives_up e place n.0 k.0 x.0 (shows.each place n.0 x.0 n.1 x.1) (over_down nodes notary 0 disks place n.0 n.1) (coherent_fits m f (member nodes notary 0) place w.now x.0 (coherent.each place x.0 x.1)) why s.3 (on place x.0 x.1)
+
     left_world : (now : ℕ) (w : World) → Shows e (net_over nodes notary now disks) w → Coherent e w → (v : World) × Shows e (net_over nodes notary now back) v × Coherent e v × StayDown why w v
     left_world now w shows coherent =
         let counts : length news ≡ length w.nodes = stops.count ∙ sym shows.count in
@@ -296,7 +306,7 @@ module _ {F : Type 0} (m : Machine F) (f : Reads F) (nodes : ℕ) (notary : Part
         let x = get_beside all.cs w.nodes p y all.count k in
         let n = get_beside w.nodes news p x.0 (sym counts) x.1 in
         (all.each p n.0 x.0 y n.1 x.1 k).2 in
-        let down : StayDown why w v = record { count = all.count; each = λ p x y j k. let n = get_beside w.nodes news p x (sym counts) j in (all.each p n.0 x y n.1 j k).1 } in (
+        let down : StayDown why w v = record { count = all.count; each = λ p x y j k. let n = get_beside w.nodes news p x (sym counts) j in (all.each p n.0 x y n.1 j k).1; gave_up = stopped_so now w shows coherent } in (
           v,
           record {
             count = all.count ∙ sym counts ∙ sym long ∙ sym (over_length nodes notary 0 back);
@@ -366,7 +376,8 @@ module _ {F : Type 0} (m : Machine F) (f : Reads F) (nodes : ℕ) (notary : Part
             let none = over_down nodes notary 0 disks p n.0 n.1 in
             let shown = shows.each p n.0 x n.1 j in
             let was : x.up ≡ false = rw none at shown.journal in
-            subst (λ (z : NodeWorld). LeavesDisk boot_fault.Memory x z) (same_Some _ _ (sym j ∙ k)) (record { down = was; lists = λ l h. h; kept = λ other. refl; later = omega arith; file = refl });
+            subst (λ (z : NodeWorld). LeavesDisk boot_fault.Memory x z) (same_Some _ _ (sym j ∙ k)) (record { down = was; lists = λ l h. h; kept = λ other. refl; later = omega arith; file = refl; openable = refl });
+        gave_up = λ on. tt;
       },
     );
   }

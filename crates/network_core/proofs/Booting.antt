@@ -3,27 +3,31 @@ use Rattle.std.proofs.Common.{◌≡◌, ◌⊎◌, inl, inr, ⊎_elim, ℕ, zer
 use Rattle.std.specs.List.{slice_get, AllByRecursion}
 use Rattle.std.specs.Option.{MatchOption}
 use Rattle.std.proofs.lemmas.Bool.{cases_lt}
-use Rattle.std.proofs.lemmas.Option.{same_Some}
+use Rattle.std.proofs.lemmas.Option.{same_Some, none-some}
 use Rattle.outside.specs.Disk.{DiskView, IsImage}
 use Rattle.outside.specs.Faults.{Rose}
+use Rattle.net_base.specs.declared.names.Identity.{Identity}
 use Rattle.flow_machine.specs.Machine.{Machine}
-use Rattle.disk_journal.specs.Journal.{journal_of, WasSpelt}
+use Rattle.disk_journal.specs.Journal.{journal_of, placed, WasSpelt}
 use Rattle.disk_journal.specs.declared.fault.OpenFault.TheVariants as open_fault
-use Rattle.net_model.specs.Environment.{Environment, environment}
+use Rattle.net_model.specs.Environment.{Environment, environment, party}
 use Rattle.node_core.specs.declared.faults.BootFault.{BootFault}
 use Rattle.node_core.specs.declared.faults.BootFault.TheVariants as boot_fault
+use Rattle.node_tables.specs.Fits.{misfit}
 use Rattle.node_tables.specs.Journals.{Reads, state_of}
 use Rattle.node_tables.specs.Seen.{padded}
-use Rattle.node_core.specs.Disks.{Moves}
-use Rattle.node_core.specs.Seen.{NodeSeen, BootsAs, Booted, Unbooted, Unopened, Unfit, IsBy, acks_over}
+use Rattle.node_core.specs.Disks.{Moves, KeepsForm}
+use Rattle.node_core.specs.Seen.{NodeSeen, BootsAs, Booted, Unbooted, Unopened, Unfit, GaveUp, IsBy, acks_over}
 use Rattle.network_core.specs.declared.steps.Outcome.{Outcome}
+use Rattle.network_core.specs.declared.steps.Outcome.TheVariants as outcome
 use Rattle.network_core.specs.Worlds.{NodeWorld, World, NetSeen, MaySpell, ShowsJournal, NodeShows, NodeCoherent, Shows, Coherent, KeepsWorld}
 use Rattle.network_core.specs.Answers.{said, boot_outcome, Restored, BootServes, BootClock, AtPlace}
 use Rattle.network_core.specs.Serves.{WorldPlace, WorldBoots, StaysDown}
 use Rattle.network_core.proofs.Agreeing.{boot_coherent}
-use Rattle.network_core.proofs.Stands.{Goes, shows_down, images_now}
+use Rattle.network_core.proofs.Stands.{Goes, AreYoung, shows_down, images_now, not_true, young_now}
 use Rattle.network_core.proofs.Faithful.{get_beside}
-use Rattle.network_core.proofs.Places.{place_world}
+use Rattle.network_core.proofs.Fitting.{local_fits}
+use Rattle.network_core.proofs.Places.{place_world_of}
 
 -- what a boot makes of a node that is down, whether or not its power came back
 pub record Unmoved (x y : NodeWorld) (k : NodeSeen) : Type 0 where
@@ -34,6 +38,7 @@ pub record Unmoved (x y : NodeWorld) (k : NodeSeen) : Type 0 where
   pub faults_are : y.faults ≡ k.disk.faults
   pub calm_is : y.calm ≡ k.disk.calm
   pub file : y.file ≡ x.file
+  pub openable : y.openable ≡ x.openable
   pub kept : journal_of k.disk.state.kept ≡ y.journal
   pub acked : y.acked ≡ []
 
@@ -54,13 +59,14 @@ module _ {F : Type 0} (e : Environment F) (p : ℕ) (n k : NodeSeen) (x : NodeWo
     faults_are : y.faults ≡ k.disk.faults
     calm_is : y.calm ≡ k.disk.calm
     file_is : y.file ≡ x.file
+    openable_is : y.openable ≡ x.openable
     acked_none : y.acked ≡ []
     waiting_is : y.waiting ≡ x.waiting
 
   world_of : (kept : List (List ℕ)) → MaySpell x kept → (y : NodeWorld) × Kept y kept
-  world_of kept (inl is) = (record { up = false; journal = x.journal; other = x.other; faults = k.disk.faults; calm = k.disk.calm; file = x.file; acked = []; waiting = x.waiting }, record { down = refl; is = is; back = λ l h. h; on = λ l h. h; faults_are = refl; calm_is = refl; file_is = refl; acked_none = refl; waiting_is = refl })
+  world_of kept (inl is) = (record { up = false; journal = x.journal; other = x.other; faults = k.disk.faults; calm = k.disk.calm; file = x.file; openable = x.openable; acked = []; waiting = x.waiting }, record { down = refl; is = is; back = λ l h. h; on = λ l h. h; faults_are = refl; calm_is = refl; file_is = refl; openable_is = refl; acked_none = refl; waiting_is = refl })
   world_of kept (inr is) = (
-    record { up = false; journal = kept; other = Some x.journal; faults = k.disk.faults; calm = k.disk.calm; file = x.file; acked = []; waiting = x.waiting },
+    record { up = false; journal = kept; other = Some x.journal; faults = k.disk.faults; calm = k.disk.calm; file = x.file; openable = x.openable; acked = []; waiting = x.waiting },
     record {
       down = refl;
       is = refl;
@@ -69,13 +75,14 @@ module _ {F : Type 0} (e : Environment F) (p : ℕ) (n k : NodeSeen) (x : NodeWo
       faults_are = refl;
       calm_is = refl;
       file_is = refl;
+      openable_is = refl;
       acked_none = refl;
       waiting_is = refl;
     },
   )
 
-  pub down_world : k.journal ≡ None → k.acked ≡ [] → k.identity ≡ n.identity → Moves n.disk k.disk WasSpelt → Goes e p x k (λ y. Unmoved x y k)
-  down_world gone acked same moves =
+  pub down_world : k.journal ≡ None → k.acked ≡ [] → k.identity ≡ n.identity → Moves n.disk k.disk WasSpelt → KeepsForm n.identity n.disk k.disk → Goes e p x k (λ y. Unmoved x y k)
+  down_world gone acked same moves form =
       let found = world_of (journal_of k.disk.state.kept) (may k.disk.state.kept (moves.kept shows.tells)) in
       let y = found.0 in
       let w = found.1 in (
@@ -90,23 +97,43 @@ module _ {F : Type 0} (e : Environment F) (p : ℕ) (n k : NodeSeen) (x : NodeWo
           calm_is = w.calm_is;
           file_is = w.file_is ∙ shows.file_is ∙ sym moves.file;
           acked_is = w.acked_none ∙ sym acked;
+          opens = λ on. young_now n.identity k.identity n.disk k.disk same form shows.tells (shows.opens (sym w.openable_is ∙ on));
         },
         w.waiting_is,
-        record { was_down = was_down; down = w.down; lists = w.back; later = omega (arith, moves.later, shows.counts, w.faults_are); faults_are = w.faults_are; calm_is = w.calm_is; file = w.file_is; kept = w.is; acked = w.acked_none },
+        record { was_down = was_down; down = w.down; lists = w.back; later = omega (arith, moves.later, shows.counts, w.faults_are); faults_are = w.faults_are; calm_is = w.calm_is; file = w.file_is; openable = w.openable_is; kept = w.is; acked = w.acked_none },
       )
 
   -- what is kept spells the same journal where it did so at the node
   pub same_kept : (y : NodeWorld) → Unmoved x y k → journal_of k.disk.state.kept ≡ journal_of n.disk.state.kept → y.journal ≡ x.journal
   same_kept y u same = sym u.kept ∙ same ∙ shows.kept
 
+  -- where its records fit, an opening over images none of which it refuses gave up
+  module _ (fit : misfit e.frame_at e.nodes (party p) (placed 16 x.journal) ≡ None) where
+    no_misfit : (at : ℕ) → Unfit e.frame_at n.identity n.disk (boot_fault.Damaged at) k.disk → ⊥
+    no_misfit at (list, opens, bad) =
+        let told : list ≡ placed 16 x.journal = opens.told shows.tells ∙ ap (placed 16) shows.kept in
+        let same : misfit e.frame_at n.identity.nodes n.identity.party list ≡ misfit e.frame_at e.nodes (party p) (placed 16 x.journal) =
+        ap (λ (l : List (ℕ × List ℕ)). misfit e.frame_at n.identity.nodes n.identity.party l) told ∙ ap (λ (i : Identity). misfit e.frame_at i.nodes i.party (placed 16 x.journal)) shows.identity_is in
+        none-some at (sym fit ∙ sym same ∙ bad)
+
+    unfit_up : (why : BootFault) → Unfit e.frame_at n.identity n.disk why k.disk → GaveUp why
+    unfit_up boot_fault.Fault h = tt
+    unfit_up boot_fault.Memory h = tt
+    unfit_up boot_fault.NotAJournal h = absurd h
+    unfit_up (boot_fault.WrongNode found) h = absurd h
+    unfit_up (boot_fault.Damaged at) h = absurd (no_misfit at h)
+
+    pub gives_up : (why : BootFault) → Unbooted e.frame_at n.identity n.disk why k.disk → x.openable ≡ true → GaveUp why
+    gives_up why u on = ⊎_elim (λ g. g) (λ h. unfit_up why h) (u.begun shows.tells (shows.opens on))
+
   pub booted_world : (list : List (ℕ × List ℕ)) → k.journal ≡ Some (map (λ z. z.1) list) → k.acked ≡ padded [] (state_of e.frame_at (map (λ z. z.1) list)).sessions → k.identity ≡ n.identity → Booted e.frame_at n.identity n.disk k.disk list
-      → Goes e p x k (λ y. (y ≡ record { up = true; journal = x.journal; other = None; faults = y.faults; calm = y.calm; file = x.file; acked = acks_over e [] x.journal; waiting = x.waiting }) × (x.faults ≤ y.faults) × (y.calm ≡ k.disk.calm))
+      → Goes e p x k (λ y. (y ≡ record { up = true; journal = x.journal; other = None; faults = y.faults; calm = y.calm; file = x.file; openable = true; acked = acks_over e [] x.journal; waiting = x.waiting }) × (x.faults ≤ y.faults) × (y.calm ≡ k.disk.calm))
   booted_world list here acked id b =
       let o = b.opens in
       let bodies = map (λ z. z.1) list in
       let tells : k.disk.tells ≡ true = o.moves.tells ∙ shows.tells in
       let same : bodies ≡ x.journal = sym (o.holds.kept tells) ∙ o.same shows.tells ∙ shows.kept in
-      let y : NodeWorld = record { up = true; journal = x.journal; other = None; faults = k.disk.faults; calm = k.disk.calm; file = x.file; acked = acks_over e [] x.journal; waiting = x.waiting } in (
+      let y : NodeWorld = record { up = true; journal = x.journal; other = None; faults = k.disk.faults; calm = k.disk.calm; file = x.file; openable = true; acked = acks_over e [] x.journal; waiting = x.waiting } in (
         y,
         record {
           identity_is = id ∙ shows.identity_is;
@@ -118,12 +145,13 @@ module _ {F : Type 0} (e : Environment F) (p : ℕ) (n k : NodeSeen) (x : NodeWo
           calm_is = refl;
           file_is = shows.file_is ∙ sym o.moves.file;
           acked_is = ap (λ b. padded [] (state_of e.frame_at b).sessions) (sym same) ∙ sym acked;
+          opens = λ on. subst (λ (i : Identity). AreYoung i k.disk) (sym id) (λ c image. inr (inr (o.holds.sound tells c image)));
         },
         refl,
         (refl, rw shows.counts o.moves.later, refl),
       )
 
-module _ {F : Type 0} (e : Environment F) (p : ℕ) (n mid k : NodeSeen) (x : NodeWorld) (shows : NodeShows e p n x) (down : n.journal ≡ None) (restored : Restored n mid) where
+module _ {F : Type 0} (e : Environment F) (p : ℕ) (n mid k : NodeSeen) (x : NodeWorld) (shows : NodeShows e p n x) (fit : misfit e.frame_at e.nodes (party p) (placed 16 x.journal) ≡ None) (down : n.journal ≡ None) (restored : Restored n mid) where
   abbrev z : NodeWorld
   z = record x { calm = mid.disk.calm; acked = mid.acked }
 
@@ -141,13 +169,14 @@ module _ {F : Type 0} (e : Environment F) (p : ℕ) (n mid k : NodeSeen) (x : No
     calm_is = refl;
     file_is = shows.file_is ∙ sym (ap (λ v. v.of_file) lit);
     acked_is = refl;
+    opens = λ on. subst (λ (i : Identity). AreYoung i mid.disk) (sym restored.identity) (λ c image. shows.opens on c (subst (λ (v : DiskView). IsImage v.state.now c) lit image));
   }
 
   calm_mid : x.file ≡ false → mid.disk.calm ≡ true
   calm_mid memory = restored.calm (sym shows.file_is ∙ memory)
 
   stays_down : (y : NodeWorld) → y.waiting ≡ x.waiting → Unmoved z y k → (mid.disk.calm ≡ true → k.disk.calm ≡ true) → StaysDown x y
-  stays_down y waits u calm = record { was_down = u.was_down; down = u.down; lists = u.lists; later = u.later; calm = λ memory. u.calm_is ∙ calm (calm_mid memory); file = u.file; acked = u.acked; waiting = waits }
+  stays_down y waits u calm = record { was_down = u.was_down; down = u.down; lists = u.lists; later = u.later; calm = λ memory. u.calm_is ∙ calm (calm_mid memory); file = u.file; openable = u.openable; acked = u.acked; waiting = waits }
 
   -- what a fault of the opening says
   fault_of : Unopened mid.identity mid.disk boot_fault.Fault k.disk ⊎ Unfit e.frame_at mid.identity mid.disk boot_fault.Fault k.disk → Rose mid.disk.faults k.disk.faults × (mid.disk.calm ≡ true → ⊥)
@@ -167,12 +196,17 @@ module _ {F : Type 0} (e : Environment F) (p : ℕ) (n mid k : NodeSeen) (x : No
   kept_as why u other y un = same_kept e p mid k z shows_mid restored.journal y un (u.same other shows_mid.tells)
 
   unbooted : (why : BootFault) → k.journal ≡ None → k.acked ≡ [] → k.identity ≡ mid.identity → Unbooted e.frame_at mid.identity mid.disk why k.disk → Goes e p x k (λ y. Unmoved z y k)
-  unbooted why none acked id u = down_world e p mid k z shows_mid restored.journal none acked id u.moves
+  unbooted why none acked id u = down_world e p mid k z shows_mid restored.journal none acked id u.moves u.form
 
   refused : (why : BootFault) → (why ≡ boot_fault.Fault → ⊥) → k.journal ≡ None → k.acked ≡ [] → k.identity ≡ mid.identity → Unbooted e.frame_at mid.identity mid.disk why k.disk → Goes e p x k (λ y. StaysDown x y × (y.journal ≡ x.journal))
   refused why other none acked id u =
       let to = unbooted why none acked id u in
       (to.0, to.1, to.2, (stays_down to.0 to.2 to.3 u.calm, kept_as why u other to.0 to.3))
+
+  foreign : (why : BootFault) → (GaveUp why → ⊥) → (why ≡ boot_fault.Fault → ⊥) → k.journal ≡ None → k.acked ≡ [] → k.identity ≡ mid.identity → Unbooted e.frame_at mid.identity mid.disk why k.disk → Goes e p x k (λ y. WorldBoots e x (Some (outcome.Refused 13)) y)
+  foreign why never other none acked id u =
+      let to = refused why other none acked id u in
+      (to.0, to.1, to.2, inr (refl, not_true x.openable (λ on. never (gives_up e p mid k z shows_mid restored.journal fit why u on)), to.3.0, to.3.1))
 
   boots : (answer : Result (Unit {0}) BootFault) → BootsAs e.frame_at mid answer k → Goes e p x k (λ y. WorldBoots e x (boot_outcome answer) y)
   boots (Ok u) s =
@@ -184,18 +218,22 @@ module _ {F : Type 0} (e : Environment F) (p : ℕ) (n mid k : NodeSeen) (x : No
       let rose : Rose x.faults to.0.faults = subst (λ (i : ℕ). Rose i to.0.faults) (sym shows_mid.counts) (subst (λ (i : ℕ). Rose mid.disk.faults i) (sym to.3.faults_are) c.0) in
       (to.0, to.1, to.2, (stays_down to.0 to.2 to.3 s.3.calm, rose, is_file x.file refl c.1))
   boots (Err boot_fault.Memory) s = refused boot_fault.Memory (λ is. cc) s.0 s.1 s.2 s.3
-  boots (Err boot_fault.NotAJournal) s = let to = refused boot_fault.NotAJournal (λ is. cc) s.0 s.1 s.2 s.3 in (to.0, to.1, to.2, inr (refl, to.3.0, to.3.1))
-  boots (Err (boot_fault.WrongNode found)) s = let to = refused (boot_fault.WrongNode found) (λ is. cc) s.0 s.1 s.2 s.3 in (to.0, to.1, to.2, inr (refl, to.3.0, to.3.1))
-  boots (Err (boot_fault.Damaged at)) s = let to = refused (boot_fault.Damaged at) (λ is. cc) s.0 s.1 s.2 s.3 in (to.0, to.1, to.2, inr (refl, to.3.0, to.3.1))
+  boots (Err boot_fault.NotAJournal) s = foreign boot_fault.NotAJournal (λ g. g) (λ is. cc) s.0 s.1 s.2 s.3
+  boots (Err (boot_fault.WrongNode found)) s = foreign (boot_fault.WrongNode found) (λ g. g) (λ is. cc) s.0 s.1 s.2 s.3
+  boots (Err (boot_fault.Damaged at)) s = foreign (boot_fault.Damaged at) (λ g. g) (λ is. cc) s.0 s.1 s.2 s.3
 
 up_of : (journal : Option (List (List ℕ))) (x : NodeWorld) → IsSome journal → ShowsJournal journal x → x.up ≡ true
 up_of None x up shows = cc
 up_of (Some b) x up shows = shows.0
 
 -- a boot of any node
-boot_any : {F E : Type 0} (e : Environment F) (p : ℕ) (n k : NodeSeen) (x : NodeWorld) (result : Result Outcome E) → NodeShows e p n x → BootServes e.frame_at n result k → Goes e p x k (λ y. WorldBoots e x (said result) y)
-boot_any e p n k x result shows (inl (up, is, same)) = rw is (x, subst (λ (z : NodeSeen). NodeShows e p z x) (sym same) shows, refl, inl (refl, up_of n.journal x up shows.journal, refl))
-boot_any e p n k x result shows (inr (down, (mid, answer, restored, s, so))) = rw so (boots e p n mid k x shows down restored answer s)
+boot_any : {F E : Type 0} (e : Environment F) (p : ℕ) (n k : NodeSeen) (x : NodeWorld) (result : Result Outcome E) → NodeShows e p n x → misfit e.frame_at e.nodes (party p) (placed 16 x.journal) ≡ None → BootServes e.frame_at n result k → Goes e p x k (λ y. WorldBoots e x (said result) y)
+boot_any e p n k x result shows fit (inl (up, is, same)) = rw is (x, subst (λ (z : NodeSeen). NodeShows e p z x) (sym same) shows, refl, inl (refl, up_of n.journal x up shows.journal, refl))
+boot_any e p n k x result shows fit (inr (down, (mid, answer, restored, s, so))) = rw so (boots e p n mid k x shows fit down restored answer s)
+
+-- the records of a node's journal fit in a coherent world
+pub coherent_fits : {F : Type 0} (m : Machine F) (f : Reads F) (id : Identity) (p now : ℕ) (x : NodeWorld) → NodeCoherent (environment m f id) p now x → misfit f id.nodes (party p) (placed 16 x.journal) ≡ None
+coherent_fits m f id p now x coherent = let sound = coherent.every x.journal (inl refl) in local_fits (environment m f id) p refl 16 x.journal sound.local sound.whole
 
 -- no journal of a coherent world is later than its moment
 by_of : {F : Type 0} (e : Environment F) (p now : ℕ) (n : NodeSeen) (x : NodeWorld) (bodies : List (List ℕ)) → NodeShows e p n x → NodeCoherent e p now x → n.journal ≡ Some bodies → (state_of e.frame_at bodies).moment ≤ now
@@ -219,8 +257,8 @@ boot_world m f p old new result clock at id w shows coherent =
     let e = environment m f id in
     let mid : NetSeen = record { nodes = new.nodes; waiting = new.waiting; now = old.now } in
     let there =
-    place_world m f p old mid result (λ n r k. BootServes f n r k) (λ e t x o y. WorldBoots e x o y)
-    (λ id n k x s b. boot_any (environment m f id) p n k x result s b)
+    place_world_of m f p old mid result (λ n r k. BootServes f n r k) (λ e t x o y. WorldBoots e x o y)
+    (λ id t n k x s c b. boot_any (environment m f id) p n k x result s (coherent_fits m f id p t x c) b)
     (λ id w v c h. boot_coherent (environment m f id) p w v (said result) c h)
     refl (at_mid p old new result (λ n r k. BootServes f n r k) at) id w shows coherent in
     let same : new ≡ mid = ⊎_elim (λ s. ap (λ t. record { nodes = new.nodes; waiting = new.waiting; now = t }) s) (λ (k, bodies, at_k, here, late). absurd (too_late e p old new there.0 there.1 there.2 k bodies at_k here late)) clock in

@@ -1,5 +1,5 @@
--- Each journal that may be left of a node begins with one that might be left before.
-use Rattle.std.proofs.Common.{◌≡◌, ℕ, inl, inr, ⊎_elim, Bool, List, [], ◌∷◌, ◌++◌, Option, Some, None, slice_get, slice_set, refl, sym, ap, subst, ◌∙◌, append-nil, append_assoc}
+-- Each journal that may be left of a node begins with one that might be left before, and a node that can be opened still can.
+use Rattle.std.proofs.Common.{◌≡◌, ℕ, inl, inr, ⊎_elim, Bool, true, List, [], ◌∷◌, ◌++◌, Option, Some, None, slice_get, slice_set, refl, sym, ap, subst, ◌∙◌, append-nil, append_assoc}
 use Rattle.net_base.specs.declared.causes.Event.{Event}
 use Rattle.net_base.specs.declared.values.Party.{Party}
 use Rattle.net_base.specs.declared.names.Key.{Key}
@@ -16,41 +16,52 @@ use Rattle.network_core.proofs.Placing.{get_set}
 use Rattle.network_core.proofs.QuietingFrames.{all_grown}
 use Rattle.network_core.proofs.QuietingSteps.{handed}
 
--- each journal that may be left of the new node begins with one that might be left of the old one
-abbrev pub Lengthens : NodeWorld → NodeWorld → Type 0
-Lengthens x y = (l : List (List ℕ)) → MaySpell y l → (old : List (List ℕ)) × MaySpell x old × (rest : List (List ℕ)) × (l ≡ old ++ rest)
+-- a journal begins with one that might be left of the node
+abbrev pub Begins : NodeWorld → List (List ℕ) → Type 0
+Begins x l = (old : List (List ℕ)) × MaySpell x old × (rest : List (List ℕ)) × (l ≡ old ++ rest)
+
+-- each journal that may be left of the new node begins with one that might be left of the old one, and it can be opened where the old one could
+pub record Lengthens (x y : NodeWorld) : Type 0 where
+  pub begins : (l : List (List ℕ)) → MaySpell y l → Begins x l
+  pub openable : x.openable ≡ true → y.openable ≡ true
 
 -- the journals that may be left of a node are among those of before
-pub lengthens_fewer : (x y : NodeWorld) → ((l : List (List ℕ)) → MaySpell y l → MaySpell x l) → Lengthens x y
-lengthens_fewer x y among l may = (l, among l may, [], sym (append-nil l))
+pub lengthens_fewer : (x y : NodeWorld) → ((l : List (List ℕ)) → MaySpell y l → MaySpell x l) → y.openable ≡ x.openable → Lengthens x y
+lengthens_fewer x y among openable = record { begins = λ l may. (l, among l may, [], sym (append-nil l)); openable = λ on. openable ∙ on }
 
-pub lengthens_kept : (x y : NodeWorld) → y.journal ≡ x.journal → y.other ≡ x.other → Lengthens x y
-lengthens_kept x y journal other = lengthens_fewer x y (λ l may. ⊎_elim (λ is. inl (is ∙ journal)) (λ is. inr (sym other ∙ is)) may)
+pub lengthens_kept : (x y : NodeWorld) → y.journal ≡ x.journal → y.other ≡ x.other → y.openable ≡ x.openable → Lengthens x y
+lengthens_kept x y journal other openable = lengthens_fewer x y (λ l may. ⊎_elim (λ is. inl (is ∙ journal)) (λ is. inr (sym other ∙ is)) may) openable
 
 pub lengthens_same : (x y : NodeWorld) → y ≡ x → Lengthens x y
-lengthens_same x y is = lengthens_kept x y (ap (λ (z : NodeWorld). z.journal) is) (ap (λ (z : NodeWorld). z.other) is)
+lengthens_same x y is = lengthens_kept x y (ap (λ (z : NodeWorld). z.journal) is) (ap (λ (z : NodeWorld). z.other) is) (ap (λ (z : NodeWorld). z.openable) is)
+
+begins_then : (x y z : NodeWorld) → Lengthens x y → Lengthens y z → (l : List (List ℕ)) → MaySpell z l → Begins x l
+begins_then x y z f g l may =
+    let mid = g.begins l may in
+    let old = f.begins mid.0 mid.1 in
+    (old.0, old.1, old.2 ++ mid.2, mid.3 ∙ ap (λ (k : List (List ℕ)). k ++ mid.2) old.3 ∙ append_assoc old.0 old.2 mid.2)
 
 pub lengthens_then : (x y z : NodeWorld) → Lengthens x y → Lengthens y z → Lengthens x z
-lengthens_then x y z f g l may =
-    let mid = g l may in
-    let old = f mid.0 mid.1 in
-    (old.0, old.1, old.2 ++ mid.2, mid.3 ∙ ap (λ (k : List (List ℕ)). k ++ mid.2) old.3 ∙ append_assoc old.0 old.2 mid.2)
+lengthens_then x y z f g = record { begins = begins_then x y z f g; openable = λ on. g.openable (f.openable on) }
 
 -- no other journal may be left
 no_other : (x : NodeWorld) (l : List (List ℕ)) → x.other ≡ None → x.other ≡ Some l → ⊥
 no_other x l none some = cc
 
-lengthens_only : (x y : NodeWorld) (rest : List (List ℕ)) → y.journal ≡ x.journal ++ rest → y.other ≡ None → Lengthens x y
-lengthens_only x y rest journal none l may = (x.journal, inl refl, rest, ⊎_elim (λ is. is ∙ journal) (λ is. absurd (no_other y l none is)) may)
+lengthens_only : (x y : NodeWorld) (rest : List (List ℕ)) → y.journal ≡ x.journal ++ rest → y.other ≡ None → y.openable ≡ true → Lengthens x y
+lengthens_only x y rest journal none openable = record { begins = λ l may. (x.journal, inl refl, rest, ⊎_elim (λ is. is ∙ journal) (λ is. absurd (no_other y l none is)) may); openable = λ on. openable }
 
 -- ---- steps of a node
 
 module _ {F : Type 0} (e : Environment F) (p now : ℕ) (x y : NodeWorld) where
   commits_lengthen : (event : Event) (item : Option Sent) → WorldCommits e p now event item x y → Lengthens x y
-  commits_lengthen event item c = lengthens_only x y (c.body ∷ []) (ap (λ (z : NodeWorld). z.journal) c.after) (ap (λ (z : NodeWorld). z.other) c.after)
+  commits_lengthen event item c = lengthens_only x y (c.body ∷ []) (ap (λ (z : NodeWorld). z.journal) c.after) (ap (λ (z : NodeWorld). z.other) c.after) (ap (λ (z : NodeWorld). z.openable) c.after)
 
   faults_lengthen : (event : Event) (item : Option Sent) → WorldFaults e p now event item x y → Lengthens x y
-  faults_lengthen event item c l may = ⊎_elim (λ is. (x.journal, inl refl, [], is ∙ sym (append-nil x.journal))) (λ is. (x.journal, inl refl, c.body ∷ [], is)) (c.lists l may)
+  faults_lengthen event item c = record {
+    begins = λ l may. ⊎_elim (λ is. (x.journal, inl refl, [], is ∙ sym (append-nil x.journal))) (λ is. (x.journal, inl refl, c.body ∷ [], is)) (c.lists l may);
+    openable = λ on. c.openable ∙ on;
+  }
 
   pub starts_lengthen : (class : ℕ) (args : List ℕ) (o : Option Outcome) → WorldStarts e p now class args x o y → Lengthens x y
   starts_lengthen class args None h = lengthens_same x y h.1
@@ -69,27 +80,27 @@ module _ {F : Type 0} (e : Environment F) (p now : ℕ) (x y : NodeWorld) where
 
   pub cuts_lengthen : (calls : ℕ) (o : Option Outcome) → WorldCuts calls x o y → Lengthens x y
   cuts_lengthen calls None h = absurd h
-  cuts_lengthen calls (Some outcome.Down) h = lengthens_kept x y (ap (λ (z : NodeWorld). z.journal) h.3) (ap (λ (z : NodeWorld). z.other) h.3)
-  cuts_lengthen calls (Some outcome.Armed) h = lengthens_kept x y (ap (λ (z : NodeWorld). z.journal) h.3) (ap (λ (z : NodeWorld). z.other) h.3)
+  cuts_lengthen calls (Some outcome.Down) h = lengthens_kept x y (ap (λ (z : NodeWorld). z.journal) h.3) (ap (λ (z : NodeWorld). z.other) h.3) (ap (λ (z : NodeWorld). z.openable) h.3)
+  cuts_lengthen calls (Some outcome.Armed) h = lengthens_kept x y (ap (λ (z : NodeWorld). z.journal) h.3) (ap (λ (z : NodeWorld). z.other) h.3) (ap (λ (z : NodeWorld). z.openable) h.3)
   cuts_lengthen calls (Some (outcome.Refused code)) h = lengthens_same x y h.1
   cuts_lengthen calls (Some other) h = absurd h
 
   stays_down_lengthens : StaysDown x y → Lengthens x y
-  stays_down_lengthens s = lengthens_fewer x y s.lists
+  stays_down_lengthens s = lengthens_fewer x y s.lists s.openable
 
   comes_up_lengthens : ComesUp e x y → Lengthens x y
-  comes_up_lengthens c = lengthens_only x y [] (ap (λ (z : NodeWorld). z.journal) c.after ∙ sym (append-nil x.journal)) (ap (λ (z : NodeWorld). z.other) c.after)
+  comes_up_lengthens c = lengthens_only x y [] (ap (λ (z : NodeWorld). z.journal) c.after ∙ sym (append-nil x.journal)) (ap (λ (z : NodeWorld). z.other) c.after) (ap (λ (z : NodeWorld). z.openable) c.after)
 
   pub boots_lengthen : (o : Option Outcome) → WorldBoots e x o y → Lengthens x y
   boots_lengthen None h = stays_down_lengthens h.0
   boots_lengthen (Some outcome.Booted) h = comes_up_lengthens h
   boots_lengthen (Some outcome.Fault) h = stays_down_lengthens h.0
-  boots_lengthen (Some (outcome.Refused code)) h = ⊎_elim (λ up. lengthens_same x y up.2) (λ down. stays_down_lengthens down.1) h
+  boots_lengthen (Some (outcome.Refused code)) h = ⊎_elim (λ up. lengthens_same x y up.2) (λ down. stays_down_lengthens down.2) h
   boots_lengthen (Some other) h = absurd h
 
   pub loses_lengthen : (i : ℕ) (o : Option Outcome) → LosesAt i x o y → Lengthens x y
   loses_lengthen i None h = absurd h
-  loses_lengthen i (Some outcome.Lost) h = lengthens_kept x y (ap (λ (z : NodeWorld). z.journal) h.1) (ap (λ (z : NodeWorld). z.other) h.1)
+  loses_lengthen i (Some outcome.Lost) h = lengthens_kept x y (ap (λ (z : NodeWorld). z.journal) h.1) (ap (λ (z : NodeWorld). z.other) h.1) (ap (λ (z : NodeWorld). z.openable) h.1)
   loses_lengthen i (Some (outcome.Refused code)) h = lengthens_same x y h.2
   loses_lengthen i (Some other) h = absurd h
 
@@ -106,7 +117,7 @@ module _ {F : Type 0} (e : Environment F) (p now : ℕ) (x y : NodeWorld) where
   hears_lengthens (judged.NotMine to) o sent h = absurd h
   hears_lengthens judged.NoSession o sent h = lengthens_same x y h.1
   hears_lengthens (judged.Early expected) o sent h = lengthens_same x y h.1
-  hears_lengthens (judged.Acked key direction upto) o sent h = lengthens_kept x y (ap (λ (z : NodeWorld). z.journal) h.1) (ap (λ (z : NodeWorld). z.other) h.1)
+  hears_lengthens (judged.Acked key direction upto) o sent h = lengthens_kept x y (ap (λ (z : NodeWorld). z.journal) h.1) (ap (λ (z : NodeWorld). z.other) h.1) (ap (λ (z : NodeWorld). z.openable) h.1)
   hears_lengthens (judged.Again from key direction expected) o sent h = lengthens_same x y h.1
   hears_lengthens (judged.Next from key direction number stamp body) o sent h = next_lengthens from key direction number (record { body = body; stamp = stamp }) o sent h
 
@@ -139,10 +150,10 @@ all_placed xs p x y there longer q z at = ⊎_elim
 pub all_sent_on : (sent : List Outgoing) (xs : List NodeWorld) → AllLengthen xs (sent_all sent xs)
 all_sent_on sent xs q y at =
     let x = (all_grown sent xs).back q y at in
-    (x.0, x.1, lengthens_kept x.0 y x.2.journal x.2.other)
+    (x.0, x.1, lengthens_kept x.0 y x.2.journal x.2.other x.2.openable)
 
 -- nor does it that a frame is taken from those that wait
 pub over_kept : (waits : Bool) (i : ℕ) (x y : NodeWorld) → Lengthens x y → Lengthens x (handed_over waits i y)
 over_kept waits i x y longer =
     let left = handed waits i y in
-    lengthens_then x y (handed_over waits i y) longer (lengthens_kept y (handed_over waits i y) left.journal left.other)
+    lengthens_then x y (handed_over waits i y) longer (lengthens_kept y (handed_over waits i y) left.journal left.other left.openable)

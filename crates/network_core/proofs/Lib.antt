@@ -26,6 +26,7 @@ pub mod Emptying
 pub mod Draining
 pub mod Driving
 pub mod Mailing
+pub mod Fitting
 pub mod Stands
 pub mod Served
 pub mod Places

@@ -20,7 +20,7 @@ use Rattle.network_core.proofs.Beginning.{over_length, first_get}
 
 -- a node over a new disk
 abbrev unused : DiskView → NodeWorld
-unused d = record { up = false; journal = []; other = None; faults = d.faults; calm = d.calm; file = d.of_file; acked = []; waiting = [] }
+unused d = record { up = false; journal = []; other = None; faults = d.faults; calm = d.calm; file = d.of_file; openable = true; acked = []; waiting = [] }
 
 none_spelt : journal_of [] ≡ []
 unfolding journal_of found
@@ -56,6 +56,7 @@ module _ {F : Type 0} (m : Machine F) (f : Reads F) (nodes : ℕ) (notary : Part
     calm_is = refl;
     file_is = refl;
     acked_is = refl;
+    opens = λ on c image. let none : c ≡ [] = clean_image [] c (subst (λ s. IsImage s c) h.settled image) in inl (omega (arith, ap length none));
   }
 
   shown_at : (p : ℕ) (n : NodeSeen) (x : NodeWorld) → slice_get (nodes_over nodes notary 0 disks) p ≡ Some n → slice_get (map unused disks) p ≡ Some x → NodeShows e p n x
@@ -92,6 +93,9 @@ module _ {F : Type 0} (m : Machine F) (f : Reads F) (nodes : ℕ) (notary : Part
     arrived = λ p x at up. absurd (true≢false (sym up ∙ down_at p x at));
   }
 
+  openable_at : (p : ℕ) (x : NodeWorld) → slice_get (map unused disks) p ≡ Some x → x.openable ≡ true
+  openable_at p x j = let there = get_map unused disks p x j in ap (λ (z : NodeWorld). z.openable) (sym there.2)
+
   node_coherent : (p : ℕ) (x : NodeWorld) → slice_get (map unused disks) p ≡ Some x → NodeCoherent e p now x
   node_coherent p x at = record {
     every = λ l may. subst (Sound e p now) (sym (spelt_at p x l at may)) (none_sound p);
@@ -113,4 +117,5 @@ new_disks_are_coherent m f nodes notary now disks many new = (
     numbers = λ p x at up. absurd (true≢false (sym up ∙ down_at m f nodes notary now disks many new p x at));
     agrees = agrees m f nodes notary now disks many new;
   },
+  openable_at m f nodes notary now disks many new,
 )

@@ -8,7 +8,7 @@ use Rattle.node_tables.specs.Journals.{Reads}
 use Rattle.node_core.specs.Seen.{NodeSeen}
 use Rattle.network_core.specs.declared.steps.Outcome.{Outcome}
 use Rattle.network_core.specs.declared.steps.Outcome.TheVariants as outcome
-use Rattle.network_core.specs.Worlds.{NodeWorld, World, NetSeen, NodeShows, Shows, Coherent, KeepsWorld}
+use Rattle.network_core.specs.Worlds.{NodeWorld, World, NetSeen, NodeShows, NodeCoherent, Shows, Coherent, KeepsWorld}
 use Rattle.network_core.specs.Answers.{said, StartServes, TurnServes, CutServes, AtPlace, ClockServes, LoseServes}
 use Rattle.network_core.specs.Serves.{WorldStarts, WorldTurns, WorldCuts, WorldPlace, WorldClock, LosesAt, without}
 use Rattle.network_core.proofs.Agreeing.{start_coherent, turn_coherent, cut_coherent, lose_coherent, clock_coherent}
@@ -37,6 +37,7 @@ shows_but e p n z x shows frames is =
       calm_is = shows.calm_is;
       file_is = shows.file_is;
       acked_is = shows.acked_is;
+      opens = shows.opens;
     } in
     subst (λ (y : NodeWorld). NodeShows e p n y) (sym is) shown
 
@@ -57,21 +58,28 @@ module _ {F : Type 0} (m : Machine F) (f : Reads F) where
     clock = shows.clock ∙ sym clock;
   }
 
-  pub place_world : {E : Type 0} (p : ℕ) (old new : NetSeen) (result : Result Outcome E) (serves : NodeSeen → Result Outcome E → NodeSeen → Type 0) (goal : Environment F → ℕ → NodeWorld → Option Outcome → NodeWorld → Type 0)
-      → ((id : Identity) (n k : NodeSeen) (x : NodeWorld) → NodeShows (environment m f id) p n x → serves n result k → Goes (environment m f id) p x k (λ y. goal (environment m f id) old.now x (said result) y))
+  -- a step of a node, which may ask that the node's world is coherent
+  pub place_world_of : {E : Type 0} (p : ℕ) (old new : NetSeen) (result : Result Outcome E) (serves : NodeSeen → Result Outcome E → NodeSeen → Type 0) (goal : Environment F → ℕ → NodeWorld → Option Outcome → NodeWorld → Type 0)
+      → ((id : Identity) (now : ℕ) (n k : NodeSeen) (x : NodeWorld) → NodeShows (environment m f id) p n x → NodeCoherent (environment m f id) p now x → serves n result k → Goes (environment m f id) p x k (λ y. goal (environment m f id) old.now x (said result) y))
       → ((id : Identity) (w v : World) → Coherent (environment m f id) w → WorldPlace p w (said result) v (goal (environment m f id) w.now) → Coherent (environment m f id) v)
       → new.now ≡ old.now → AtPlace p old result new serves → KeepsWorld m f old new (λ e w v. WorldPlace p w (said result) v (goal e w.now))
-  place_world p old new result serves goal one keeps clock (inl (past, is, same)) id w shows coherent =
+  place_world_of p old new result serves goal one keeps clock (inl (past, is, same)) id w shows coherent =
       (w, subst (λ (z : NetSeen). Shows (environment m f id) z w) (sym same) shows, coherent, inl (omega (arith, past, shows.count), is, refl))
-  place_world p old new result serves goal one keeps clock (inr (n, k, at, nodes, waiting, served)) id w shows coherent =
+  place_world_of p old new result serves goal one keeps clock (inr (n, k, at, nodes, waiting, served)) id w shows coherent =
       let e = environment m f id in
       let found = get_beside old.nodes w.nodes p n (sym shows.count) at in
       let x = found.0 in
-      let after = one id n k x (shows.each p n x at found.1) served in
+      let after = one id w.now n k x (shows.each p n x at found.1) (coherent.each p x found.1) served in
       let y = after.0 in
       let v : World = record { nodes = slice_set w.nodes p y; now = w.now } in
       let goes : WorldPlace p w (said result) v (goal e w.now) = inr (x, y, found.1, refl, subst (λ (t : ℕ). goal e t x (said result) y) (sym shows.clock) after.3) in
       (v, shows_set id p old new n k w x y shows found.1 nodes waiting clock after.1 after.2, keeps id w v coherent goes, goes)
+
+  pub place_world : {E : Type 0} (p : ℕ) (old new : NetSeen) (result : Result Outcome E) (serves : NodeSeen → Result Outcome E → NodeSeen → Type 0) (goal : Environment F → ℕ → NodeWorld → Option Outcome → NodeWorld → Type 0)
+      → ((id : Identity) (n k : NodeSeen) (x : NodeWorld) → NodeShows (environment m f id) p n x → serves n result k → Goes (environment m f id) p x k (λ y. goal (environment m f id) old.now x (said result) y))
+      → ((id : Identity) (w v : World) → Coherent (environment m f id) w → WorldPlace p w (said result) v (goal (environment m f id) w.now) → Coherent (environment m f id) v)
+      → new.now ≡ old.now → AtPlace p old result new serves → KeepsWorld m f old new (λ e w v. WorldPlace p w (said result) v (goal e w.now))
+  place_world p old new result serves goal one keeps clock at = place_world_of p old new result serves goal (λ id now n k x shows sound served. one id n k x shows served) keeps clock at
 
   pub start_world : {E : Type 0} (p : ℕ) (old new : NetSeen) (result : Result Outcome E) (class : ℕ) (args : List ℕ) → new.now ≡ old.now → AtPlace p old result new (λ n r k. StartServes m f old.now class args n r k)
       → KeepsWorld m f old new (λ e w v. WorldPlace p w (said result) v (λ x o y. WorldStarts e p w.now class args x o y))

@@ -95,14 +95,15 @@ pub record Keeps (x y : NodeWorld) : Type 0 where
   pub up : y.up ≡ x.up
   pub journal : y.journal ≡ x.journal
   pub other : y.other ≡ x.other
+  pub openable : y.openable ≡ x.openable
   pub acked : y.acked ≡ x.acked
   pub waits : (b : List ℕ) → Has b x.waiting → Has b y.waiting
 
 pub keeps_same : (x : NodeWorld) → Keeps x x
-keeps_same x = record { up = refl; journal = refl; other = refl; acked = refl; waits = λ b h. h }
+keeps_same x = record { up = refl; journal = refl; other = refl; openable = refl; acked = refl; waits = λ b h. h }
 
 pub keeps_then : (x y z : NodeWorld) → Keeps x y → Keeps y z → Keeps x z
-keeps_then x y z f g = record { up = g.up ∙ f.up; journal = g.journal ∙ f.journal; other = g.other ∙ f.other; acked = g.acked ∙ f.acked; waits = λ b h. g.waits b (f.waits b h) }
+keeps_then x y z f g = record { up = g.up ∙ f.up; journal = g.journal ∙ f.journal; other = g.other ∙ f.other; openable = g.openable ∙ f.openable; acked = g.acked ∙ f.acked; waits = λ b h. g.waits b (f.waits b h) }
 
 -- each node is the same, and what waited waits
 pub record Grown (xs ys : List NodeWorld) : Type 0 where
@@ -125,7 +126,7 @@ with_grown : (xs : List NodeWorld) (i : ℕ) (b : List ℕ) (x : NodeWorld) → 
 with_grown xs i b x there = record {
   count = set_length xs i (with_frame b x);
   back = λ q y h. ⊎_elim
-      (λ s. (x, ap (slice_get xs) s.0 ∙ there, rw (s.1) (record { up = refl; journal = refl; other = refl; acked = refl; waits = λ c k. joined_keeps c b x.waiting k })))
+      (λ s. (x, ap (slice_get xs) s.0 ∙ there, rw (s.1) (record { up = refl; journal = refl; other = refl; openable = refl; acked = refl; waits = λ c k. joined_keeps c b x.waiting k })))
       (λ s. (y, s.1, keeps_same y))
       (get_set xs i (with_frame b x) q y h);
 }

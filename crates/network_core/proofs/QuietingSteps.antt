@@ -123,10 +123,11 @@ pub record Handed (y z : NodeWorld) : Type 0 where
   pub up : z.up ≡ y.up
   pub journal : z.journal ≡ y.journal
   pub other : z.other ≡ y.other
+  pub openable : z.openable ≡ y.openable
 
 pub handed : (b : Bool) (i : ℕ) (y : NodeWorld) → Handed y (handed_over b i y)
-handed true i y = record { up = refl; journal = refl; other = refl }
-handed false i y = record { up = refl; journal = refl; other = refl }
+handed true i y = record { up = refl; journal = refl; other = refl; openable = refl }
+handed false i y = record { up = refl; journal = refl; other = refl; openable = refl }
 
 -- of two places of one list
 pub same_node : (xs : List NodeWorld) (q : ℕ) (x y : NodeWorld) → slice_get xs q ≡ Some x → slice_get xs q ≡ Some y → x ≡ y

@@ -41,7 +41,7 @@ use Rattle.network_core.specs.declared.steps.Outcome.TheVariants as outcome
 use Rattle.network_core.specs.Worlds.{NodeWorld, NodeShows}
 use Rattle.network_core.specs.Answers.{start_outcome, turn_outcome, cut_outcome, take_outcome, take_sent, IsCounted}
 use Rattle.network_core.specs.Serves.{WorldStarts, WorldTurns, WorldCuts, WorldCommits, WorldFaults, WorldTakes, Hears, HearsNext, RefusesStart, RefusesTurn}
-use Rattle.network_core.proofs.Stands.{Goes, commits_world, faults_world, shows_down, shows_same, images_now}
+use Rattle.network_core.proofs.Stands.{Goes, commits_world, faults_world, shows_down, shows_same, images_now, young_now}
 
 module _ {F : Type 0} (m : Machine F) (f : Reads F) (id : Identity) (p now : ℕ) (n k : NodeSeen) (x : NodeWorld) (shows : NodeShows (environment m f id) p n x) where
   abbrev e : Environment F
@@ -120,6 +120,7 @@ module _ {F : Type 0} (m : Machine F) (f : Reads F) (id : Identity) (p now : ℕ
           calm_is = refl;
           file_is = shows.file_is ∙ sym c.moves.file;
           acked_is = sym s.1;
+          opens = λ on. young_now n.identity k.identity n.disk k.disk s.2 c.form shows.tells (shows.opens on);
         },
         refl,
         (refl, stands.0, shows.file_is ∙ c.memory, refl),
@@ -138,6 +139,7 @@ module _ {F : Type 0} (m : Machine F) (f : Reads F) (id : Identity) (p now : ℕ
           calm_is = refl;
           file_is = shows.file_is ∙ sym c.moves.file;
           acked_is = shows.acked_is ∙ sym s.1;
+          opens = λ on. young_now n.identity k.identity n.disk k.disk s.2 c.form shows.tells (shows.opens on);
         },
         refl,
         (omega arith, stands.0, shows.file_is ∙ c.memory, refl),
@@ -198,6 +200,7 @@ module _ {F : Type 0} (m : Machine F) (f : Reads F) (id : Identity) (p now : ℕ
           calm_is = shows.calm_is;
           file_is = shows.file_is;
           acked_is = one ∙ two ∙ three;
+          opens = shows.opens;
         } in
         (y, subst (λ (q : NodeSeen). NodeShows e p q y) (sym same) shown, refl, refl)
 

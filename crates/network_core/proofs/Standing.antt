@@ -121,7 +121,7 @@ module _ {F : Type 0} (e : Environment F) where
       let may = choice.each p y.0 l.0 y.1 l.1 in
       let back = leads.longer p y.0 y.1 in
       let mine : back.0 ≡ x = some_eq (sym back.1 ∙ there) in
-      let old = back.2 l.0 may in
+      let old = back.2.begins l.0 may in
       record {
         journal = l.0;
         there = l.1;

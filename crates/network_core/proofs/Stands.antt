@@ -8,10 +8,10 @@ use Rattle.net_base.specs.declared.names.Identity.{Identity}
 use Rattle.net_base.specs.declared.causes.Event.{Event}
 use Rattle.session_wire.specs.Sessions.{Sent}
 use Rattle.flow_machine.specs.Machine.{Machine}
-use Rattle.disk_journal.specs.Journal.{journal_of}
+use Rattle.disk_journal.specs.Journal.{IsYoung, journal_of}
 use Rattle.net_model.specs.Environment.{Environment, environment}
 use Rattle.node_tables.specs.Journals.{Reads}
-use Rattle.node_core.specs.Disks.{Moves, OldOrMore}
+use Rattle.node_core.specs.Disks.{Moves, KeepsForm, OldOrMore}
 use Rattle.node_core.specs.Seen.{NodeSeen, Pends, Commits, Faults, acks_over}
 use Rattle.network_core.specs.Worlds.{NodeWorld, MaySpell, ShowsJournal, NodeShows}
 use Rattle.network_core.specs.Serves.{WorldCommits, WorldFaults}
@@ -23,6 +23,14 @@ Goes e p x k goal = (y : NodeWorld) × NodeShows e p k y × (y.waiting ≡ x.wai
 -- the images now are of those since
 pub images_now : (old new : DiskView) (may : DiskState → List ℕ → Type 0) → Moves old new may → old.tells ≡ true → (c : List ℕ) → IsImage new.state.now c → may old.state c
 images_now old new may moves tells c image = at_now old.state new.state (may old.state) (moves.images tells) c image
+
+-- each image of a disk is one over which an opening of this node gives no refusal
+abbrev pub AreYoung : Identity → DiskView → Type 0
+AreYoung id d = (c : List ℕ) → IsImage d.state.now c → IsYoung id c
+
+-- the images now, where those of before were so
+pub young_now : (i j : Identity) (old new : DiskView) → j ≡ i → KeepsForm i old new → old.tells ≡ true → AreYoung i old → AreYoung j new
+young_now i j old new same form tells was = subst (λ (k : Identity). AreYoung k new) (sym same) (λ c image. at_now old.state new.state (IsYoung i) (form.young tells was) c image)
 
 pub shows_down : (journal : Option (List (List ℕ))) (y : NodeWorld) → journal ≡ None → y.up ≡ false → ShowsJournal journal y
 shows_down None y none down = down
@@ -58,7 +66,7 @@ module _ {F : Type 0} (m : Machine F) (f : Reads F) (id : Identity) (p now : ℕ
           let more = bodies ++ c.body ∷ [] in
           let pends = pends_here bodies event item c.body c.appended.pends in
           let tells : k.disk.tells ≡ true = c.appended.moves.tells ∙ shows.tells in (
-            record { up = true; journal = more; other = None; faults = k.disk.faults; calm = k.disk.calm; file = x.file; acked = acks_over e x.acked more; waiting = x.waiting },
+            record { up = true; journal = more; other = None; faults = k.disk.faults; calm = k.disk.calm; file = x.file; openable = true; acked = acks_over e x.acked more; waiting = x.waiting },
             record {
               identity_is = c.identity ∙ shows.identity_is;
               tells = tells;
@@ -69,6 +77,7 @@ module _ {F : Type 0} (m : Machine F) (f : Reads F) (id : Identity) (p now : ℕ
               calm_is = refl;
               file_is = shows.file_is ∙ sym c.appended.moves.file;
               acked_is = ap (λ a. acks_over e a more) shows.acked_is ∙ sym c.acked;
+              opens = λ on. subst (λ (i : Identity). AreYoung i k.disk) (sym c.identity) (λ b image. inr (inr (c.appended.holds.sound tells b image)));
             },
             refl,
             record {
@@ -105,19 +114,20 @@ module _ {F : Type 0} (m : Machine F) (f : Reads F) (id : Identity) (p now : ℕ
         faults_are : y.faults ≡ k.disk.faults
         calm_is : y.calm ≡ k.disk.calm
         file_is : y.file ≡ x.file
+        openable_is : y.openable ≡ x.openable
         acked_none : y.acked ≡ []
         waiting_is : y.waiting ≡ x.waiting
 
       world_of_fault : (body : List ℕ) (kept : List (List ℕ)) → (kept ≡ bodies) ⊎ (kept ≡ bodies ++ body ∷ []) → (y : NodeWorld) × Faulted y body × Rest y kept
       world_of_fault body kept (inl is) = (
-        record { up = false; journal = bodies; other = Some (bodies ++ body ∷ []); faults = k.disk.faults; calm = k.disk.calm; file = x.file; acked = []; waiting = x.waiting },
+        record { up = false; journal = bodies; other = Some (bodies ++ body ∷ []); faults = k.disk.faults; calm = k.disk.calm; file = x.file; openable = x.openable; acked = []; waiting = x.waiting },
         (refl, inl (refl, refl)),
-        record { same = is; faults_are = refl; calm_is = refl; file_is = refl; acked_none = refl; waiting_is = refl },
+        record { same = is; faults_are = refl; calm_is = refl; file_is = refl; openable_is = refl; acked_none = refl; waiting_is = refl },
       )
       world_of_fault body kept (inr is) = (
-        record { up = false; journal = bodies ++ body ∷ []; other = Some bodies; faults = k.disk.faults; calm = k.disk.calm; file = x.file; acked = []; waiting = x.waiting },
+        record { up = false; journal = bodies ++ body ∷ []; other = Some bodies; faults = k.disk.faults; calm = k.disk.calm; file = x.file; openable = x.openable; acked = []; waiting = x.waiting },
         (refl, inr (refl, refl)),
-        record { same = is; faults_are = refl; calm_is = refl; file_is = refl; acked_none = refl; waiting_is = refl },
+        record { same = is; faults_are = refl; calm_is = refl; file_is = refl; openable_is = refl; acked_none = refl; waiting_is = refl },
       )
 
       faults_of : (c : Faults (environment m f n.identity) now bodies event item n k) (y : NodeWorld) → Faulted y c.body → Rest y (journal_of k.disk.state.kept) → NodeShows e p k y × WorldFaults e p now event item x y
@@ -134,6 +144,7 @@ module _ {F : Type 0} (m : Machine F) (f : Reads F) (id : Identity) (p now : ℕ
               calm_is = rest.calm_is;
               file_is = rest.file_is ∙ shows.file_is ∙ sym c.failing.moves.file;
               acked_is = rest.acked_none ∙ sym c.acked;
+              opens = λ on. young_now n.identity k.identity n.disk k.disk c.identity c.failing.form shows.tells (shows.opens (sym rest.openable_is ∙ on));
             },
             record {
               was_up = stands.0;
@@ -145,6 +156,7 @@ module _ {F : Type 0} (m : Machine F) (f : Reads F) (id : Identity) (p now : ℕ
               rose = rose;
               calm = not_true x.calm (λ calm. c.failing.calm (sym shows.calm_is ∙ calm));
               file = rest.file_is;
+              openable = rest.openable_is;
               acked = rest.acked_none;
               waiting = rest.waiting_is;
             },

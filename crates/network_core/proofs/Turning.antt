@@ -38,7 +38,7 @@ use Rattle.network_core.proofs.Places.{turn_world, keeps_map, waits_get}
 use Rattle.network_core.proofs.Placing.{set_length}
 use Rattle.network_core.proofs.Delivering.{post_world, hand_world}
 use Rattle.network_core.proofs.Draining.{Counts, drained, hands_all}
-use Rattle.network_core.proofs.Driving.{drives_map, drives_shown}
+use Rattle.network_core.proofs.Driving.{drives_map, drives_shown, turn_part, post_part, hand_part}
 
 -- ---- the room
 
@@ -177,6 +177,7 @@ module _ {F : Type 0} (m : Machine F) (f : Reads F) where
     world = λ id w shows coherent.
         let one = turn_world m f p old new result None clock at id w shows coherent in
         (one.0, one.1, one.2, (omega (arith, lt, shows.count), subst (λ (s : Option Outcome). TurnAt (environment m f id) p w s one.0) was one.3));
+    parts = turn_part m f p old new result at clock;
     clock = clock;
     left = omega (arith, narrows old.now p None old new result at);
     count = same_count p old new result (λ n r k. TurnServes m f old.now None n r k) at;
@@ -191,6 +192,7 @@ module _ {F : Type 0} (m : Machine F) (f : Reads F) where
         world = λ id w shows coherent.
             let one = post_world m f p old new result at id w shows coherent in
             (one.0, one.1, one.2, subst (λ (s : Option Outcome). WorldPosts (environment m f id) p w s one.0) was one.3);
+        parts = post_part m f p old new result at;
         clock = same.1;
         left = omega (arith, ap total_room same.0);
         count = ap length same.0;
@@ -206,6 +208,7 @@ module _ {F : Type 0} (m : Machine F) (f : Reads F) where
         world = λ id w shows coherent.
             let one = hand_world m f false p 0 old new result at id w shows coherent in
             (one.0, one.1, one.2, (omega (arith, lt, shows.count), subst (λ (s : Option Outcome). HandAt (environment m f id) p w s one.0) was one.3));
+        parts = hand_part m f p old new result at;
         clock = took.clock;
         left = omega (arith, took.left);
         count = took.count;

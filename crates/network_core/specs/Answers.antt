@@ -1,4 +1,4 @@
--- What a call of one node answers within a step of the network.
+-- What a step of the network answers, and why, over any disks.
 use Rattle.std.specs.Prelude.{◌≡◌, ◌⊎◌, ℕ, zero, suc, ◌+◌, ◌<◌, ◌≤◌, ◌^◌, ⊤, Bool, if◌then◌else◌, List, [], ◌∷◌, length, slice_get, slice_set, Option, Some, None, IsSome, true, false, Result, Ok, Err}
 use Rattle.std.specs.Option.{option_to_list}
 use Rattle.flow_machine.specs.Machine.{Machine}
@@ -27,6 +27,8 @@ use Rattle.waiting_frames.specs.Waiting.{is_waiting, joined}
 use Rattle.network_core.specs.declared.serving.Reply.{Reply}
 use Rattle.network_core.specs.declared.steps.Outcome.{Outcome}
 use Rattle.network_core.specs.declared.steps.Outcome.TheVariants as outcome
+use Rattle.network_core.specs.declared.steps.Step.{Step}
+use Rattle.network_core.specs.declared.steps.Step.TheVariants as step
 use Rattle.network_core.specs.Worlds.{NetSeen}
 use Rattle.network_core.specs.Serves.{waits_on, without}
 
@@ -239,3 +241,39 @@ LoseServes place at old result new =
     ⊎ ((frames : List (List ℕ)) × (slice_get old.waiting place ≡ Some frames)
     × (((slice_get frames at ≡ None) × (said result ≡ Some (outcome.Refused 7)) × (new ≡ old))
     ⊎ ((bytes : List ℕ) × (slice_get frames at ≡ Some bytes) × (said result ≡ Some outcome.Lost) × (new ≡ record { nodes = old.nodes; waiting = slice_set old.waiting place (without at frames); now = old.now }))))
+
+-- ---- steps
+
+-- an outcome, or want of memory
+abbrev pub Answer : Type 0
+Answer = Result Outcome (Unit {0})
+
+-- a turn, a post or a delivery of a drain at a place, and what it answers
+abbrev pub PartServes : {F : Type 0} → Machine F → Reads F → ℕ → NetSeen → Answer → NetSeen → Type 0
+PartServes m frame_at place old answer new =
+    (AtPlace place old answer new (λ n r k. TurnServes m frame_at old.now None n r k) × (new.now ≡ old.now))
+    ⊎ (PostServes frame_at place old answer new ⊎ HandServes m frame_at false place 0 old answer new)
+
+-- networks that turns, posts and deliveries lead to, one after another
+pub data Parts {F : Type 0} (m : Machine F) (frame_at : Reads F) : NetSeen → NetSeen → Type 0 where
+  still : {old new : NetSeen} → new ≡ old → Parts m frame_at old new
+  then : {old mid new : NetSeen} (place : ℕ) (answer : Answer) → Parts m frame_at old mid → PartServes m frame_at place mid answer new → Parts m frame_at old new
+
+-- what a drain answers: how it ended, none at want of memory
+abbrev pub DrainSays : Option Outcome → Type 0
+DrainSays o = (o ≡ None) ⊎ ((full : Bool) × (o ≡ Some (outcome.Drained full)))
+
+-- What a step answers, and what it makes of the network, whatever its disks tell and its journals hold: each refusal, each fault and each
+-- outcome has its cause. A drain is a chain of turns, posts and deliveries, each of which has its own.
+abbrev pub Answered : {F E : Type 0} → Machine F → Reads F → Step → NetSeen → Result Outcome E → NetSeen → Type 0
+Answered m frame_at (step.Clock to) old result new = (o : Outcome) × (said result ≡ Some o) × ClockServes to.0 old o new
+Answered m frame_at (step.Start node class args) old result new = AtPlace node old result new (λ n r k. StartServes m frame_at old.now class args n r k) × (new.now ≡ old.now)
+Answered m frame_at (step.Turn node pick) old result new = AtPlace node old result new (λ n r k. TurnServes m frame_at old.now pick n r k) × (new.now ≡ old.now)
+Answered m frame_at (step.Post node) old result new = PostServes frame_at node old result new
+Answered m frame_at (step.Deliver node at) old result new = HandServes m frame_at false node at old result new
+Answered m frame_at (step.Repeat node at) old result new = HandServes m frame_at true node at old result new
+Answered m frame_at (step.Lose node at) old result new = LoseServes node at old result new
+Answered m frame_at (step.Cut node calls kind) old result new =
+    ((3 < kind) × (said result ≡ Some (outcome.Refused 1)) × (new ≡ old)) ⊎ ((kind ≤ 3) × AtPlace node old result new (λ n r k. CutServes calls kind n r k) × (new.now ≡ old.now))
+Answered m frame_at (step.Boot node) old result new = AtPlace node old result new (λ n r k. BootServes frame_at n r k) × BootClock frame_at node old new
+Answered m frame_at step.Drain old result new = DrainSays (said result) × Parts m frame_at old new × (new.now ≡ old.now)

@@ -9,17 +9,17 @@ use Rattle.net_model.specs.Environment.{Environment, environment, party}
 use Rattle.node_tables.specs.Journals.{Reads, state_of}
 use Rattle.node_core.specs.declared.faults.BootFault.{BootFault}
 use Rattle.node_core.specs.declared.faults.BootFault.TheVariants as boot_fault
-use Rattle.node_core.specs.Seen.{NodeSeen, BootsAs, IsBy, acks_over}
+use Rattle.node_core.specs.Seen.{NodeSeen, BootsAs, GaveUp, IsBy, acks_over}
 use Rattle.node_core.specs.Disks.{roomless}
-use Rattle.network_core.specs.Worlds.{World, NodeWorld, NetSeen, MaySpell, Shows, Coherent}
+use Rattle.network_core.specs.Worlds.{World, NodeWorld, NetSeen, MaySpell, Shows, AreOpenable, Coherent}
 
 -- the identity of the node at a place of a network
 abbrev pub member : ℕ → Party → ℕ → Identity
 member nodes notary p = record { party = party p; nodes = nodes; notary = notary }
 
--- a node that was down is up on its journal, which every image spells; nothing is acknowledged, and no frame waits; a calm disk stays calm
+-- a node that was down is up on its journal, which every image spells, each of them sound; nothing is acknowledged, and no frame waits; a calm disk stays calm
 pub record BeginsUp {F : Type 0} (e : Environment F) (x y : NodeWorld) : Type 0 where
-  pub after : y ≡ record { up = true; journal = x.journal; other = None; faults = y.faults; calm = y.calm; file = x.file; acked = acks_over e [] x.journal; waiting = [] }
+  pub after : y ≡ record { up = true; journal = x.journal; other = None; faults = y.faults; calm = y.calm; file = x.file; openable = true; acked = acks_over e [] x.journal; waiting = [] }
   pub later : x.faults ≤ y.faults
   pub calm : x.calm ≡ true → y.calm ≡ true
 
@@ -30,6 +30,7 @@ pub record LeavesDisk (why : BootFault) (x y : NodeWorld) : Type 0 where
   pub kept : (why ≡ boot_fault.Fault → ⊥) → y.journal ≡ x.journal
   pub later : x.faults ≤ y.faults
   pub file : y.file ≡ x.file
+  pub openable : y.openable ≡ x.openable
 
 -- a refused boot
 abbrev pub no_boot : BootFault → Result (Unit {0}) BootFault
@@ -78,10 +79,10 @@ pub record IsNew (d : DiskView) : Type 0 where
   pub kept : d.state.kept ≡ []
   pub settled : d.state.now ≡ clean []
 
--- over new disks a network whose nodes are down shows a coherent world, whatever its moment
+-- over new disks a network whose nodes are down shows a coherent world, whatever its moment, and no opening refuses an image of them
 abbrev pub NewDisksAreCoherent : (F : Type 0) → Type 0
 NewDisksAreCoherent F = (m : Machine F) (frame_at : Reads F) (nodes : ℕ) (notary : Party) (now : ℕ) (disks : List DiskView) → length disks ≡ nodes → AllByRecursion IsNew disks
-    → (w : World) × Shows (environment m frame_at (member nodes notary 0)) (net_over nodes notary now disks) w × Coherent (environment m frame_at (member nodes notary 0)) w
+    → (w : World) × Shows (environment m frame_at (member nodes notary 0)) (net_over nodes notary now disks) w × Coherent (environment m frame_at (member nodes notary 0)) w × AreOpenable w
 
 -- each node came up on its journal, and the moment is the greatest of their last causes', 0 without one
 pub record Begun {F : Type 0} (e : Environment F) (w v : World) : Type 0 where
@@ -96,10 +97,11 @@ BeginsWorld m frame_at nodes notary disks net =
     let e = environment m frame_at (member nodes notary 0) in
     (now : ℕ) (w : World) → Shows e (net_over nodes notary now disks) w → Coherent e w → (v : World) × Shows e net v × Coherent e v × Begun e w v
 
--- the images of the disks spell no journals that they didn't spell before, and but for a fault what they keep is as before
+-- the images of the disks spell no journals that they didn't spell before, and but for a fault what they keep is as before; where no image was one that an opening refuses, the boot that was refused gave up
 pub record StayDown (why : BootFault) (w v : World) : Type 0 where
   pub count : length v.nodes ≡ length w.nodes
   pub each : (p : ℕ) (x y : NodeWorld) → slice_get w.nodes p ≡ Some x → slice_get v.nodes p ≡ Some y → LeavesDisk why x y
+  pub gave_up : AreOpenable w → GaveUp why
 
 -- the boot of the node at that place was refused, so, or memory ran out before all boots; those before it came up, and those behind it were left; the disks come back in order, each as its node left it; from each coherent world over
 -- the disks they go to a coherent world over those that come back

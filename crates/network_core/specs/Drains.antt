@@ -12,6 +12,7 @@ use Rattle.network_core.specs.declared.net.Turning.TheVariants as turning
 use Rattle.network_core.specs.declared.net.Hearing.{Hearing}
 use Rattle.network_core.specs.declared.net.Hearing.TheVariants as heard_as
 use Rattle.network_core.specs.Worlds.{World, NodeWorld, NetSeen, KeepsWorld, Choice, states_of, came_at}
+use Rattle.network_core.specs.Answers.{Parts}
 use Rattle.network_core.specs.Serves.{WorldPlace, WorldTurns, WorldPosts, WorldHands}
 
 -- ---- how many turns there can be
@@ -211,9 +212,10 @@ joined turns turning.Full = turning.Full
 
 -- ---- networks
 
--- the network goes from one state to another as is stated of its worlds, and its room does not grow
+-- the network goes from one state to another as is stated of its worlds, by turns, posts and deliveries alone, and its room does not grow
 pub record Drives {F : Type 0} (m : Machine F) (frame_at : Reads F) (old new : NetSeen) (goal : Environment F → World → World → Type 0) : Type 0 where
   pub world : KeepsWorld m frame_at old new goal
+  pub parts : Parts m frame_at old new
   pub clock : new.now ≡ old.now
   pub left : room new ≤ room old
   pub count : length new.nodes ≡ length old.nodes

@@ -28,13 +28,13 @@ use Rattle.network_core.specs.Worlds.{NodeWorld, World, MaySpell}
 
 -- ---- commits and faults
 
--- the journal has one record more, in every image, and the disk stays calm
+-- the journal has one record more, in every image, each of which is sound, and the disk stays calm
 pub record WorldCommits {F : Type 0} (e : Environment F) (p now : ℕ) (event : Event) (item : Option Sent) (x y : NodeWorld) : Type 0 where
   pub was_up : x.up ≡ true
   pub room : is_full e.frame_at (stamp_in item) x.journal ≡ false
   pub body : List ℕ
   pub pends : Pends e p now x.journal event item body
-  pub after : y ≡ record { up = true; journal = x.journal ++ body ∷ []; other = None; faults = y.faults; calm = y.calm; file = x.file; acked = acks_over e x.acked (x.journal ++ body ∷ []); waiting = x.waiting }
+  pub after : y ≡ record { up = true; journal = x.journal ++ body ∷ []; other = None; faults = y.faults; calm = y.calm; file = x.file; openable = true; acked = acks_over e x.acked (x.journal ++ body ∷ []); waiting = x.waiting }
   pub later : x.faults ≤ y.faults
   pub calm : x.calm ≡ true → y.calm ≡ true
 
@@ -49,6 +49,7 @@ pub record WorldFaults {F : Type 0} (e : Environment F) (p now : ℕ) (event : E
   pub rose : Rose x.faults y.faults
   pub calm : x.calm ≡ false
   pub file : y.file ≡ x.file
+  pub openable : y.openable ≡ x.openable
   pub acked : y.acked ≡ []
   pub waiting : y.waiting ≡ x.waiting
 
@@ -148,22 +149,23 @@ pub record StaysDown (x y : NodeWorld) : Type 0 where
   pub later : x.faults ≤ y.faults
   pub calm : x.file ≡ false → y.calm ≡ true
   pub file : y.file ≡ x.file
+  pub openable : y.openable ≡ x.openable
   pub acked : y.acked ≡ []
   pub waiting : y.waiting ≡ x.waiting
 
--- a node that was down is up on its journal, which every image spells; nothing that it sent is acknowledged
+-- a node that was down is up on its journal, which every image spells, each of them sound; nothing that it sent is acknowledged
 pub record ComesUp {F : Type 0} (e : Environment F) (x y : NodeWorld) : Type 0 where
   pub was_down : x.up ≡ false
-  pub after : y ≡ record { up = true; journal = x.journal; other = None; faults = y.faults; calm = y.calm; file = x.file; acked = acks_over e [] x.journal; waiting = x.waiting }
+  pub after : y ≡ record { up = true; journal = x.journal; other = None; faults = y.faults; calm = y.calm; file = x.file; openable = true; acked = acks_over e [] x.journal; waiting = x.waiting }
   pub later : x.faults ≤ y.faults
   pub calm : x.file ≡ false → y.calm ≡ true
 
--- what a boot makes of a node, and its outcome: only a file fails
+-- what a boot makes of a node, and its outcome: only a file fails, and only a disk that had an image which the opening refuses is refused with 13
 abbrev pub WorldBoots : {F : Type 0} → Environment F → NodeWorld → Option Outcome → NodeWorld → Type 0
 WorldBoots e x None y = StaysDown x y × (y.journal ≡ x.journal)
 WorldBoots e x (Some outcome.Booted) y = ComesUp e x y
 WorldBoots e x (Some outcome.Fault) y = StaysDown x y × Rose x.faults y.faults × (x.file ≡ true)
-WorldBoots e x (Some (outcome.Refused code)) y = ((code ≡ 4) × (x.up ≡ true) × (y ≡ x)) ⊎ ((code ≡ 13) × StaysDown x y × (y.journal ≡ x.journal))
+WorldBoots e x (Some (outcome.Refused code)) y = ((code ≡ 4) × (x.up ≡ true) × (y ≡ x)) ⊎ ((code ≡ 13) × (x.openable ≡ false) × StaysDown x y × (y.journal ≡ x.journal))
 WorldBoots e x (Some outcome.Fine) y = ⊥
 WorldBoots e x (Some (outcome.Started f)) y = ⊥
 WorldBoots e x (Some (outcome.Moved f)) y = ⊥

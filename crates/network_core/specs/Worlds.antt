@@ -11,7 +11,7 @@ use Rattle.session_wire.specs.declared.frame.Frame.{Frame}
 use Rattle.session_wire.specs.declared.frame.Frame.TheVariants.{Message, Ack}
 use Rattle.session_frames.specs.Sending.{addressee}
 use Rattle.flow_machine.specs.Machine.{Machine}
-use Rattle.disk_journal.specs.Journal.{journal_of}
+use Rattle.disk_journal.specs.Journal.{IsYoung, journal_of}
 use Rattle.net_model.specs.Environment.{Environment, environment, identity}
 use Rattle.net_model.specs.State.{NodeState}
 use Rattle.net_model.specs.Runs.{IsLocal, IsMatched, IsFaithful, network_of, item_from}
@@ -38,6 +38,8 @@ pub record NodeWorld : Type 0 where
   pub calm : Bool
   -- the disk is a file
   pub file : Bool
+  -- no image of the disk is one that the node's own opening refuses, as no journal, another node's or a damaged one; false where that isn't known
+  pub openable : Bool
   -- how many of the items that it sent are acknowledged, session by session; none while it is down
   pub acked : List ℕ
   -- the frames that wait at it, in the order in which they came
@@ -70,6 +72,7 @@ pub record NodeShows {F : Type 0} (e : Environment F) (p : ℕ) (n : NodeSeen) (
   pub calm_is : x.calm ≡ n.disk.calm
   pub file_is : x.file ≡ n.disk.of_file
   pub acked_is : x.acked ≡ n.acked
+  pub opens : x.openable ≡ true → (c : List ℕ) → IsImage n.disk.state.now c → IsYoung n.identity c
 
 -- a network stands in the world as this, node by node
 pub record Shows {F : Type 0} (e : Environment F) (net : NetSeen) (w : World) : Type 0 where
@@ -77,6 +80,10 @@ pub record Shows {F : Type 0} (e : Environment F) (net : NetSeen) (w : World) : 
   pub each : (p : ℕ) (n : NodeSeen) (x : NodeWorld) → slice_get net.nodes p ≡ Some n → slice_get w.nodes p ≡ Some x → NodeShows e p n x
   pub waiting : map (λ (x : NodeWorld). x.waiting) w.nodes ≡ net.waiting
   pub clock : w.now ≡ net.now
+
+-- of no node's disk there is an image that the node's own opening refuses
+abbrev pub AreOpenable : World → Type 0
+AreOpenable w = (p : ℕ) (x : NodeWorld) → slice_get w.nodes p ≡ Some x → x.openable ≡ true
 
 -- ---- coherent worlds
 

@@ -5,7 +5,7 @@ ghost use Rattle.node_core.specs.Disks.{roomless};
 ghost use Rattle.node_core.specs.Seen.{NodeSeen};
 ghost use Rattle.network_core.specs.Worlds.{KeepsWorld};
 ghost use Rattle.std.specs.List.{AllByRecursion};
-ghost use Rattle.network_core.specs.Answers.{AtPlace, StartServes, TurnServes, PostServes, HandServes, Handed, LoseServes, CutServes, BootServes, ClockServes, BootClock, said};
+ghost use Rattle.network_core.specs.Answers.{Answered, AtPlace, StartServes, TurnServes, PostServes, HandServes, Handed, LoseServes, CutServes, BootServes, ClockServes, BootClock, said};
 ghost use Rattle.network_core.specs.Begins.{BeginsWorld, IsRefused, BootsUpTo, nodes_over as over_disks};
 ghost use Rattle.network_core.specs.Drains.{DeliversAt, Drains, Drives, HandStops, HandsStop, InOrder, Posts, Round, RoundStops, StopsAt, Turns, TurnsAt, TurnsStop, heard, joined, room, turned};
 ghost use Rattle.network_core.specs.Served.{Serve, Follows};
@@ -120,7 +120,7 @@ impl<D: Bay, F: FlowSet> Net<D, F> {
         disks_of(self.nodes, self.spare)
     }
 
-    /// Makes one step.
+    /// Makes one step. Each answer has its cause, over any disks; over a coherent world it is also said what becomes of that world.
     ///
     /// # Errors
     ///
@@ -128,6 +128,9 @@ impl<D: Bay, F: FlowSet> Net<D, F> {
     /// booted has its power back.
     pub fn apply(&mut self, alloc: Global, step: &Step) -> Result<Outcome, AllocError>
         ensures serves { KeepsWorld F.machine F.reading self.old self.new (λ e w v. Serve e step.now w (said result) v) }
+
+        // Over any disks, also such as tell nothing, and whatever their journals hold.
+        ensures answers { Answered F.machine F.reading step.now self.old result self.new }
         ensures count { length self.new.nodes ≡ length self.old.nodes }
     {
         match step {

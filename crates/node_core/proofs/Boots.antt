@@ -14,7 +14,7 @@ use Rattle.node_tables.specs.Journals.{Reads}
 use Rattle.node_tables.specs.Seen.{RebuildsAs}
 use Rattle.node_core.specs.Journals.{bytes_of}
 use Rattle.node_core.specs.Disks.{roomless}
-use Rattle.node_core.specs.Seen.{Tied, Opens, Refuses, Unfit, Unbooted, boot_by, boot_of}
+use Rattle.node_core.specs.Seen.{Tied, Opens, Refuses, Unfit, Unbooted, GaveUp, boot_by, boot_of}
 use Rattle.node_core.proofs.Commits.{tied_holds}
 
 abbrev pub bodies_in : List (ℕ × List ℕ) → List (List ℕ)
@@ -89,6 +89,8 @@ opening_opens id old journal list o = record {
 -- all that an opening says of the disk that it gives back
 pub record Closing (id : Identity) (old : DiskView) (why : OpenFault) (new : DiskView) : Type 0 where
   pub refused : old.tells ≡ true → GivesUp why ⊎ (refusal id old.state.kept ≡ Some why)
+  pub begun : old.tells ≡ true → IsYoung id old.state.kept → GivesUp why
+  pub was : old.tells ≡ true → IsImage old.state.now old.state.kept
   pub kept : (why ≡ open_fault.Fault → ⊥) → IfTold old new (λ d e. journal_of e.kept ≡ journal_of d.kept)
   pub bytes : (why ≡ open_fault.Fault → ⊥) → IfTold old new (λ d e. (e.kept ≡ d.kept) × (e.now ≡ clean e.kept))
   pub moments : IfTold old new (λ d e. EachImage d e (WasSpelt d) × WasSpelt d e.kept)
@@ -113,6 +115,13 @@ refuses_roomless id old new open_fault.NotAJournal h = h
 refuses_roomless id old new (open_fault.WrongNode found) h = h
 refuses_roomless id old new (open_fault.Damaged at) h = h
 
+gave_up : (why : OpenFault) → GivesUp why → GaveUp (boot_of why)
+gave_up open_fault.Fault h = tt
+gave_up open_fault.Memory h = tt
+gave_up open_fault.NotAJournal h = absurd h
+gave_up (open_fault.WrongNode found) h = absurd h
+gave_up (open_fault.Damaged at) h = absurd h
+
 pub unopened : {F : Type 0} (f : Reads F) (id : Identity) (old new : DiskView) (why : OpenFault) → Closing id old why new → Unbooted f id (roomless old) (boot_of why) (roomless new)
 unopened f id old new why c = record {
   moves = record { file = c.rest.0; tells = c.rest.1; later = c.later; images = λ told. (c.moments told).0; kept = λ told. (c.moments told).1 };
@@ -121,6 +130,7 @@ unopened f id old new why c = record {
   bytes = λ other told journal. (c.bytes (λ is. other (ap boot_of is)) told).0;
   calm = λ calm. (c.calm calm).0;
   cause = inl (why, refl, refuses_roomless id old new why (refuses id old new why c));
+  begun = λ told young. inl (gave_up why (c.begun told (young old.state.kept (c.was told))));
 }
 
 unfit : {F : Type 0} (f : Reads F) (id : Identity) (old new : DiskView) (list : List (ℕ × List ℕ)) (why : RebuildFault) → RebuildsAs f id.nodes id.party list (Err why) → Opens id old new list → Unfit f id old (boot_by why) new
@@ -134,4 +144,4 @@ formatted_stays id x is = rw is refl
 pub unbooted : {F : Type 0} (f : Reads F) (id : Identity) (old : DiskView) (journal : JournalView) (list : List (ℕ × List ℕ)) (why : RebuildFault) → Opening id old journal list → RebuildsAs f id.nodes id.party list (Err why) → Unbooted f id (roomless old) (boot_by why) (roomless journal.disk)
 unbooted f id old journal list why o said =
     let opens = opening_opens id old journal list o in
-    record { moves = opens.moves; form = opens.form; same = λ other. opens.same; bytes = λ other told is. opens.left told ∙ formatted_stays id old.state.kept is; calm = opens.calm; cause = inr (unfit f id (roomless old) (roomless journal.disk) list why said opens) }
+    record { moves = opens.moves; form = opens.form; same = λ other. opens.same; bytes = λ other told is. opens.left told ∙ formatted_stays id old.state.kept is; calm = opens.calm; cause = inr (unfit f id (roomless old) (roomless journal.disk) list why said opens); begun = λ told young. inr (unfit f id (roomless old) (roomless journal.disk) list why said opens) }

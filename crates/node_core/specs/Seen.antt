@@ -1,6 +1,6 @@
 -- What contracts see of a node, and what its calls answer.
 use Rattle.std.specs.Prelude.{◌≡◌, ◌⊎◌, ℕ, zero, suc, ◌+◌, ◌<◌, ◌≤◌, true, false, MatchOption, List, [], ◌∷◌, ◌++◌, length, map, Option, Some, None, Result, Ok, Err, IsOk, IfSome, ⊤}
-use Rattle.outside.specs.Disk.{DiskView, IfTold}
+use Rattle.outside.specs.Disk.{DiskView, IfTold, IsImage}
 use Rattle.outside.specs.Faults.{Rose}
 use Rattle.net_base.specs.declared.names.Identity.{Identity}
 use Rattle.net_base.specs.declared.causes.Event.{Event}
@@ -13,7 +13,7 @@ use Rattle.net_model.specs.Environment.{Environment}
 use Rattle.net_model.specs.State.{Record, Effect}
 use Rattle.net_model.specs.Steps.{place, body_in, stamp_in, node_step, next_cause}
 use Rattle.net_model.specs.Enabled.{picked}
-use Rattle.disk_journal.specs.Journal.{JournalView, IsReady, WasSpelt, journal_of, is_unformatted, formatted, refusal, placed}
+use Rattle.disk_journal.specs.Journal.{JournalView, IsReady, IsYoung, WasSpelt, journal_of, is_unformatted, formatted, refusal, placed}
 use Rattle.disk_journal.specs.declared.fault.OpenFault.{OpenFault}
 use Rattle.disk_journal.specs.declared.fault.OpenFault.TheVariants as open_fault
 use Rattle.flow_records.specs.declared.step.Step.{Step}
@@ -229,7 +229,15 @@ Unfit frame_at id old boot_fault.Fault new = ⊥
 Unfit frame_at id old boot_fault.NotAJournal new = ⊥
 Unfit frame_at id old (boot_fault.WrongNode found) new = ⊥
 
--- a boot was refused: what is kept spells the same journal, and is the same bytes where a journal was begun and finished, but after a fault
+-- a boot gave up: the disk failed, or memory ran out
+abbrev pub GaveUp : BootFault → Type 0
+GaveUp boot_fault.Fault = ⊤
+GaveUp boot_fault.Memory = ⊤
+GaveUp boot_fault.NotAJournal = ⊥
+GaveUp (boot_fault.WrongNode found) = ⊥
+GaveUp (boot_fault.Damaged at) = ⊥
+
+-- a boot was refused: what is kept spells the same journal, and is the same bytes where a journal was begun and finished, but after a fault; where no image was foreign or damaged as it began, it gave up, or a record doesn't fit
 pub record Unbooted {F : Type 0} (frame_at : Reads F) (id : Identity) (old : DiskView) (why : BootFault) (new : DiskView) : Type 0 where
   pub moves : Moves old new WasSpelt
   pub form : KeepsForm id old new
@@ -237,6 +245,7 @@ pub record Unbooted {F : Type 0} (frame_at : Reads F) (id : Identity) (old : Dis
   pub bytes : (why ≡ boot_fault.Fault → ⊥) → IfTold old new (λ d e. is_unformatted d.kept ≡ false → e.kept ≡ d.kept)
   pub calm : old.calm ≡ true → new.calm ≡ true
   pub cause : Unopened id old why new ⊎ Unfit frame_at id old why new
+  pub begun : old.tells ≡ true → ((c : List ℕ) → IsImage old.state.now c → IsYoung id c) → GaveUp why ⊎ Unfit frame_at id old why new
 
 -- a boot gave this list of bodies, each a record that fits
 pub record Booted {F : Type 0} (frame_at : Reads F) (id : Identity) (old new : DiskView) (list : List (ℕ × List ℕ)) : Type 0 where

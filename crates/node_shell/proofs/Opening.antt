@@ -14,13 +14,13 @@ use Rattle.net_model.specs.Environment.{Environment, environment}
 use Rattle.node_tables.specs.Journals.{Reads}
 use Rattle.node_core.specs.Disks.{roomless}
 use Rattle.node_tables.specs.Fits.{misfit}
-use Rattle.node_core.specs.Seen.{NodeSeen, BootsAs, boot_of, Refuses as SeenRefuses, Unopened, Unfit, Unbooted}
+use Rattle.node_core.specs.Seen.{NodeSeen, BootsAs, GaveUp, boot_of, Refuses as SeenRefuses, Unopened, Unfit, Unbooted}
 use Rattle.node_core.specs.declared.faults.BootFault.{BootFault}
 use Rattle.node_core.specs.declared.faults.BootFault.TheVariants as boot
 use Rattle.network_core.specs.Worlds.{World, NetSeen, Shows, Coherent}
 use Rattle.network_core.specs.Begins.{member, node_over, nodes_over, no_boot, BeginsWorld, IsRefused, BootsUpTo}
 use Rattle.network_core.proofs.Faithful.{get_beside}
-use Rattle.network_core.proofs.Reaching.{reaches_coherent}
+use Rattle.network_core.proofs.Reaching.{reaches_coherent, reaches_openable}
 use Rattle.network_core.proofs.Standing.{acknowledged_stands_once}
 use Rattle.node_shell.specs.declared.statuses.Status.{Status}
 use Rattle.node_shell.specs.declared.statuses.Status.TheVariants as status
@@ -28,7 +28,7 @@ use Rattle.node_shell.specs.Story.{ScriptRun, IsScriptStatus, InSome}
 use Rattle.node_shell.specs.Runs.{over, number_of_status, Plays, Refuses, RunsAs, journal_line, PlaysOrRefuses, RefusedWith, IsOpeningStatus, Fails, OneFails, HasCause, MisfitsAt, IsUnready, IsToldWhy, KeepsOwn, KeepOwn, IsPlayedStatus, IsPlayedNumber, AllStay, IsRunStatus, MadeReady}
 use Rattle.node_shell.proofs.Readying.{fails_since}
 use Rattle.node_shell.proofs.Reached.{script_reaches}
-use Rattle.node_shell.proofs.Resting.{over_at, counted, made_same, made_then, made_fewer, same_fewer, made_journals, same_journals, stands, rests, made_coherent, made_counted, counted_shows, refused_rests, down_fewer}
+use Rattle.node_shell.proofs.Resting.{over_at, counted, begun_openable, down_openable, made_openable, stay_openable, made_same, made_then, made_fewer, same_fewer, made_journals, same_journals, stands, rests, made_coherent, made_counted, counted_shows, refused_rests, down_fewer}
 
 no_memory : status.DiskFault ≡ status.NoMemory → ⊥
 no_memory same = cc
@@ -173,6 +173,14 @@ opening_why status.ReadFault written0 written1 is same = absurd is
 opening_why status.WriteFault written0 written1 is same = absurd is
 opening_why status.BadJournal written0 written1 is same = absurd is
 
+-- a first opening that gave up is told by its status alone
+gave_up_told : (node : ℕ) (why : BootFault) (written0 written1 : Option (List ℕ)) (s : Status) → GaveUp why → RefusedWith node why written0 written1 s → IsUnready written0 written1 s
+gave_up_told node boot.Fault written0 written1 s gave told = (inl told.0, told.1)
+gave_up_told node boot.Memory written0 written1 s gave told = (inr told.0, told.1)
+gave_up_told node boot.NotAJournal written0 written1 s gave told = absurd gave
+gave_up_told node (boot.WrongNode found) written0 written1 s gave told = absurd gave
+gave_up_told node (boot.Damaged at) written0 written1 s gave told = absurd gave
+
 module _ {F : Type 0} (m : Machine F) (f : Reads F) (nodes : ℕ) (notary : Party) where
   abbrev e : Environment F
   e = environment m f (member nodes notary 0)
@@ -196,6 +204,7 @@ module _ {F : Type 0} (m : Machine F) (f : Reads F) (nodes : ℕ) (notary : Part
         last = end.world;
         script = end.holds;
         rests = rests m f nodes notary ended end.world bs end.shows end.coherent disks;
+        openable = down_openable end.world (reaches_openable e start.0 end.world reaches (begun_openable e w start.0 start.3));
         reaches = reaches;
         acknowledged = λ u v to on. acknowledged_stands_once e u v (reaches_coherent e start.0 u start.2 to) on;
       })
@@ -248,7 +257,9 @@ module _ {F : Type 0} (m : Machine F) (f : Reads F) (nodes : ℕ) (notary : Part
         rests = refused_rests m f nodes notary w v.0 bs v.1 v.2;
         fewer = down_fewer why w v.0 v.3;
         kept = λ no p x y at there. (v.3.each p x y at there).kept (λ (is : why ≡ boot.Fault). no (status_of_fault node why written0 written1 s is told));
+        openable = stay_openable why w v.0 v.3;
         why = inr (told_why ds bs node why written0 written1 s some count r told);
+        opens = λ on. gave_up_told node why written0 written1 s (v.3.gave_up on) told;
       })
 
   -- the disks were not made ready, or there was no memory for that
@@ -264,7 +275,9 @@ module _ {F : Type 0} (m : Machine F) (f : Reads F) (nodes : ℕ) (notary : Part
         rests = stands m f nodes notary v es (counted_shows m f nodes notary w ds es stay shows) (made_coherent m f nodes notary w v made coherent);
         fewer = made_fewer w v v made (same_fewer v);
         kept = λ no. made_journals w v v made (same_journals v);
+        openable = made_openable w v made;
         why = inl (opening_why s written written is refl);
+        opens = λ on. opening_why s written written is refl;
       })
 
   plays_with : (w v : World) (ds ks bs : List DiskView) (left0 left1 written0 written1 : Option (List ℕ)) (count : ℕ) (s : Status) → MadeReady w v → AllStay ds ks
@@ -279,6 +292,7 @@ module _ {F : Type 0} (m : Machine F) (f : Reads F) (nodes : ℕ) (notary : Part
     last = p.last;
     script = p.script;
     rests = p.rests;
+    openable = p.openable;
     reaches = p.reaches;
     acknowledged = p.acknowledged;
   }
@@ -292,6 +306,8 @@ module _ {F : Type 0} (m : Machine F) (f : Reads F) (nodes : ℕ) (notary : Part
     rests = r.rests;
     fewer = made_fewer w v r.world made r.fewer;
     kept = λ no. made_journals w v r.world made (r.kept no);
+    openable = λ on. r.openable (made_openable w v made on);
+    opens = λ on. r.opens (made_openable w v made on);
     why = ⊎_elim (λ (u : IsUnready written0 written1 s). inl u) (λ (t : IsToldWhy f nodes notary ks bs written0 written1 s). inr (told_since f nodes notary ds ks bs written0 written1 s stay t)) r.why;
   }
 

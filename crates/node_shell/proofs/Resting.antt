@@ -3,16 +3,17 @@ use Rattle.std.proofs.Common.{◌≡◌, ℕ, zero, suc, ◌+◌, List, [], ◌�
 use Rattle.std.specs.Prelude.{◌≤◌}
 use Rattle.std.specs.List.{slice_get, AllByRecursion}
 use Rattle.outside.specs.Disk.{DiskView, IsImage}
+use Rattle.net_base.specs.declared.names.Identity.{Identity}
 use Rattle.net_base.specs.declared.values.Party.{Party}
 use Rattle.flow_machine.specs.Machine.{Machine}
-use Rattle.disk_journal.specs.Journal.{journal_of}
+use Rattle.disk_journal.specs.Journal.{IsYoung, journal_of}
 use Rattle.net_model.specs.Environment.{Environment, environment}
 use Rattle.node_tables.specs.Journals.{Reads, state_of}
 use Rattle.node_core.specs.Disks.{roomless}
 use Rattle.node_core.specs.Seen.{NodeSeen}
 use Rattle.node_core.specs.declared.faults.BootFault.{BootFault}
-use Rattle.network_core.specs.Worlds.{World, NodeWorld, NetSeen, MaySpell, NodeShows, Shows, Choice, states_of, WaitsAt, AreArrived, NodeCoherent, Coherent}
-use Rattle.network_core.specs.Begins.{member, node_over, nodes_over, net_over, StayDown}
+use Rattle.network_core.specs.Worlds.{World, NodeWorld, NetSeen, MaySpell, NodeShows, Shows, AreOpenable, Choice, states_of, WaitsAt, AreArrived, NodeCoherent, Coherent}
+use Rattle.network_core.specs.Begins.{member, node_over, nodes_over, net_over, Begun, StayDown}
 use Rattle.network_core.proofs.Beginning.{over_length}
 use Rattle.network_core.proofs.Faithful.{coherent_is_faithful, get_beside}
 use Rattle.node_shell.proofs.Weaving.{map_count, in_map}
@@ -147,6 +148,28 @@ made_journals w v u made kept p x y at there =
     let mid = get_beside w.nodes v.nodes p x (sym made.count) at in
     kept p mid.0 y mid.1 there ∙ ap (λ (k : NodeWorld). k.journal) (made.each p x mid.0 at mid.1).0
 
+-- no count of faults tells whether an image can be opened
+pub made_openable : (w v : World) → MadeReady w v → AreOpenable w → AreOpenable v
+made_openable w v made on p y at =
+    let x = get_beside v.nodes w.nodes p y made.count at in
+    ap (λ (k : NodeWorld). k.openable) (made.each p x.0 y x.1 at).0 ∙ on p x.0 x.1
+
+-- nor whether the nodes are up
+pub down_openable : (w : World) → AreOpenable w → AreOpenable (all_down w)
+down_openable w on p y at = let x = of_map down w.nodes p y at in ap (λ (k : NodeWorld). k.openable) (sym x.2) ∙ on p x.0 x.1
+
+-- in a world that a network began in every node can be opened
+pub begun_openable : {F : Type 0} (e : Environment F) (w v : World) → Begun e w v → AreOpenable v
+begun_openable e w v begun p y at =
+    let x = get_beside v.nodes w.nodes p y begun.count at in
+    ap (λ (k : NodeWorld). k.openable) (begun.each p x.0 y x.1 at).after
+
+-- a boot that was refused leaves the disks no image that it refuses where there was none
+pub stay_openable : (why : BootFault) (w v : World) → StayDown why w v → AreOpenable w → AreOpenable v
+stay_openable why w v stay on p y at =
+    let x = get_beside v.nodes w.nodes p y stay.count at in
+    (stay.each p x.0 y x.1 at).openable ∙ on p x.0 x.1
+
 pub same_journals : (w : World) → KeepsJournals w w
 same_journals w p x y at there = let same : y ≡ x = cc in ap (λ (k : NodeWorld). k.journal) same
 
@@ -165,6 +188,7 @@ module _ {F : Type 0} (m : Machine F) (f : Reads F) (nodes : ℕ) (notary : Part
     calm_is = s.calm_is ∙ ap (λ (v : DiskView). v.calm) same;
     file_is = s.file_is ∙ ap (λ (v : DiskView). v.of_file) same;
     acked_is = refl;
+    opens = λ on c i. subst (λ (j : Identity). IsYoung j c) s.identity_is (s.opens on c (subst (λ (v : DiskView). IsImage v.state.now c) (sym same) i));
   }
 
   each_rests : (ns : List NodeSeen) (xs : List NodeWorld) (ds : List DiskView) → map (λ (n : NodeSeen). n.disk) ns ≡ map roomless ds
@@ -263,7 +287,7 @@ module _ {F : Type 0} (m : Machine F) (f : Reads F) (nodes : ℕ) (notary : Part
         let old = get_beside es ds p under.0 stay.count under.1 in
         let stays = stay.each p old.0 under.0 old.1 under.1 in
         let s = shows.each p (node_over nodes notary p old.0) found.0 (over_at nodes notary ds p old.0 old.1) found.1 in
-        let t : NodeShows e p (node_over nodes notary p (record old.0 { faults = under.0.faults })) (faulty under.0.faults found.0) = record { identity_is = refl; tells = s.tells; images = s.images; kept = s.kept; journal = s.journal; counts = refl; calm_is = s.calm_is; file_is = s.file_is; acked_is = s.acked_is } in
+        let t : NodeShows e p (node_over nodes notary p (record old.0 { faults = under.0.faults })) (faulty under.0.faults found.0) = record { identity_is = refl; tells = s.tells; images = s.images; kept = s.kept; journal = s.journal; counts = refl; calm_is = s.calm_is; file_is = s.file_is; acked_is = s.acked_is; opens = s.opens } in
         subst (NodeShows e p k) found.2
         (subst (λ (z : NodeSeen). NodeShows e p z (faulty under.0.faults found.0)) (sym under.2)
         (subst (λ (v : DiskView). NodeShows e p (node_over nodes notary p v) (faulty under.0.faults found.0)) (sym stays.0) t))

@@ -16,7 +16,7 @@ use Rattle.node_tables.specs.Fits.{misfit}
 use Rattle.node_tables.specs.Journals.{Reads, records_of, state_of, causes_of}
 use Rattle.node_core.specs.declared.faults.BootFault.{BootFault}
 use Rattle.node_core.specs.declared.faults.BootFault.TheVariants as boot
-use Rattle.network_core.specs.Worlds.{World, NodeWorld, NetSeen, MaySpell, Shows, Coherent, Choice}
+use Rattle.network_core.specs.Worlds.{World, NodeWorld, NetSeen, MaySpell, Shows, AreOpenable, Coherent, Choice}
 use Rattle.network_core.specs.Begins.{member, net_over, Begun}
 use Rattle.network_core.specs.Acknowledged.{Reaches, Acknowledged, StandsOnce}
 use Rattle.node_shell.specs.declared.statuses.Status.{Status}
@@ -67,7 +67,8 @@ abbrev pub KeepOwn : {F : Type 0} → Reads F → ℕ → Party → List DiskVie
 KeepOwn frame_at nodes notary disks = (p : ℕ) (d : DiskView) → slice_get disks p ≡ Some d → KeepsOwn frame_at (member nodes notary p) d
 
 -- each node opened its own journal, and the script went from the opening world to the last by steps, and the disks rest in that one; what is
--- acknowledged in any world on the way stands once in the merged journals of every later one, whichever journals power cuts leave of it
+-- acknowledged in any world on the way stands once in the merged journals of every later one, whichever journals power cuts leave of it; and of no
+-- node's disk there is an image in the end that the node's opening refuses
 pub record Plays {F : Type 0} (e : Environment F) (w : World) (old new : List DiskView) (left0 left1 written0 written1 : Option (List ℕ)) (count : ℕ) (status : Status) : Type 0 where
   pub is_script : IsScriptStatus status
   pub own : KeepOwn e.frame_at e.nodes e.notary old
@@ -78,6 +79,7 @@ pub record Plays {F : Type 0} (e : Environment F) (w : World) (old new : List Di
   pub last : World
   pub script : ScriptRun e start left0 left1 written0 written1 count last status
   pub rests : Rests e new (all_down last)
+  pub openable : AreOpenable (all_down last)
   pub reaches : Reaches e start last
   pub acknowledged : (u v : World) → Reaches e start u → Reaches e u v → (lists : List (List (List ℕ))) → Choice v lists → (p : ℕ) (cause : Cause) → Acknowledged e u p cause → StandsOnce (p, cause) (merged (map (causes_of e.frame_at) lists))
 
@@ -157,7 +159,8 @@ pub record IsToldWhy {F : Type 0} (frame_at : Reads F) (nodes : ℕ) (notary : P
   pub cause : (d b : DiskView) → slice_get old node ≡ Some d → slice_get new node ≡ Some b → HasCause frame_at (member nodes notary node) d why b
   pub told : RefusedWith node why written0 written1 s
 
--- some node did not open: nothing was read, and the disks rest on journals that they may have left before; what was written says why
+-- some node did not open: nothing was read, and the disks rest on journals that they may have left before; what was written says why. Where no node's
+-- disk had an image that the node's opening refuses, none has one then, and what came is a disk that failed or want of memory
 pub record Refuses {F : Type 0} (e : Environment F) (w : World) (old new : List DiskView) (left0 left1 written0 written1 : Option (List ℕ)) (count : ℕ) (s : Status) : Type 0 where
   pub unread : left1 ≡ left0
   pub none : count ≡ 0
@@ -165,7 +168,9 @@ pub record Refuses {F : Type 0} (e : Environment F) (w : World) (old new : List 
   pub rests : Rests e new world
   pub fewer : LeavesFewer w world
   pub kept : (s ≡ status.DiskFault → ⊥) → KeepsJournals w world
+  pub openable : AreOpenable w → AreOpenable world
   pub why : IsUnready written0 written1 s ⊎ IsToldWhy e.frame_at e.nodes e.notary old new written0 written1 s
+  pub opens : AreOpenable w → IsUnready written0 written1 s
 
 -- a run over disks that show this world while their nodes are down: the nodes opened and the script was played, or one did not open
 pub record RunsAs {F : Type 0} (e : Environment F) (w : World) (old new : List DiskView) (left0 left1 written0 written1 : Option (List ℕ)) (count number : ℕ) : Type 0 where

@@ -1,4 +1,4 @@
-use Rattle.std.proofs.Common.{arith, true, false}
+use Rattle.std.proofs.Common.{inl, inr, refl, arith, true, false}
 use Rattle.network_core.proofs.Places.{start_world, turn_world, cut_within, clock_world, lose_world}
 use Rattle.network_core.proofs.Booting.{boot_world}
 use Rattle.network_core.proofs.Delivering.{post_world, hand_world}
@@ -51,3 +51,38 @@ returns-in-Repeat-clause-serves g c = rw c.in-Repeat.is (hand_world g.F.FlowSet.
 
 pub returns-in-Lose-clause-serves : goal.returns-in-Lose-clause-serves
 returns-in-Lose-clause-serves g c = rw c.in-Lose.is (lose_world g.F.FlowSet.machine g.F.Spelt.reading c.in-Lose.node c.in-Lose.at c.args.self.now c.lose.new.self c.lose.result c.lose.ensures)
+
+-- ---- over any disks
+
+pub returns-in-Clock-clause-answers : goal.returns-in-Clock-clause-answers
+returns-in-Clock-clause-answers g c = rw c.in-Clock.is (c.clock.result, refl, c.clock.ensures)
+
+pub returns-in-Start-clause-answers : goal.returns-in-Start-clause-answers
+returns-in-Start-clause-answers g c = rw c.in-Start.is (c.start.ensures.serves, c.start.ensures.clock)
+
+pub returns-in-Turn-clause-answers : goal.returns-in-Turn-clause-answers
+returns-in-Turn-clause-answers g c = rw c.in-Turn.is (c.turn.ensures.serves, c.turn.ensures.clock)
+
+pub returns-in-Post-clause-answers : goal.returns-in-Post-clause-answers
+returns-in-Post-clause-answers g c = rw c.in-Post.is c.post.ensures
+
+pub returns-in-Deliver-clause-answers : goal.returns-in-Deliver-clause-answers
+returns-in-Deliver-clause-answers g c = rw c.in-Deliver.is c.hand.ensures
+
+pub returns-in-Repeat-clause-answers : goal.returns-in-Repeat-clause-answers
+returns-in-Repeat-clause-answers g c = rw c.in-Repeat.is c.hand-in-Repeat.ensures
+
+pub returns-in-Lose-clause-answers : goal.returns-in-Lose-clause-answers
+returns-in-Lose-clause-answers g c = rw c.in-Lose.is c.lose.ensures
+
+pub returns-else-outcome-gt3-clause-answers : goal.returns-else-outcome-gt3-clause-answers
+returns-else-outcome-gt3-clause-answers g c = rw c.in-Cut.is (inr (omega (arith, c.if-outcome-gt3.false), c.cut.ensures.serves, c.cut.ensures.clock))
+
+pub returns-in-Boot-clause-answers : goal.returns-in-Boot-clause-answers
+returns-in-Boot-clause-answers g c = rw c.in-Boot.is (c.boot.ensures.serves, c.boot.ensures.clock)
+
+pub returns-in-Ok-clause-answers : goal.returns-in-Ok-clause-answers
+returns-in-Ok-clause-answers g c = rw c.in-Drain.is (inr (c.in-Ok.full, refl), c.drain.ensures.parts, c.drain.ensures.clock)
+
+pub returns-in-Err-clause-answers : goal.returns-in-Err-clause-answers
+returns-in-Err-clause-answers g c = rw c.in-Drain.is (inl refl, c.drain.ensures.parts, c.drain.ensures.clock)
