@@ -10,5 +10,5 @@ pieces-preserved g c =
     record {
       within = let bound = rw all at c.in_ok-done.ensures.bound in omega (arith, bound, length-drop c.pieces.done c.args.bytes.now);
       written = Appends-more _ _ _ c.pieces.done c.in_ok-done.field-0 c.args.bytes.now c.pieces.invariant.written (rw all at c.in_ok-done.ensures.bytes);
-      later = omega (arith, c.pieces.invariant.later, c.in_ok-done.ensures.cause.later);
+      uncounted = c.in_ok-done.ensures.cause.done ∙ c.pieces.invariant.uncounted;
     }
