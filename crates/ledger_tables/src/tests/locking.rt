@@ -1,15 +1,10 @@
 //! Coins that a flow locks, and that are free again where it ends.
 
-ghost use Rattle.std.specs.Prelude.{◌≡◌, true, false, IfOk};
-ghost use Rattle.std.specs.List.{list_all};
-ghost use Rattle.ledger_types.specs.Names.{ref_eq, has_repeat};
-ghost use Rattle.vault.specs.Holdings.{has_coin, references_of};
-
 use crate::Tables;
 use crate::tests::{output, record, spell, token};
-use ledger_types::{HeldList, LedgerChange, RefList};
+use ledger_types::LedgerChange;
 use net_base::{ListOf, Party, StateRef};
-use std::alloc::{AllocError, Global};
+use std::alloc::Global;
 use std::test::Fail;
 use vault::ReserveFault;
 
@@ -37,54 +32,6 @@ fn lock(alloc: Global, tables: &mut Tables, flow: u32, coin: StateRef) -> Result
     tables.make_room(alloc, &change)?;
     tables.apply(change);
     Ok(true)
-}
-
-/// The references of states.
-fn references(alloc: Global, states: &HeldList) -> Result<RefList, AllocError>
-    ensures { IfOk result (λ refs. refs ≡ references_of states.now) }
-{
-    let mut refs = ListOf::new(alloc);
-    for held in states.as_slice() {
-        refs.push(held.reference)?;
-    }
-    Ok(refs)
-}
-
-/// The coins that a reservation of 120 names, as `lock_all` asks for them.
-fn named(alloc: Global, tables: &Tables) -> Result<RefList, ReserveFault>
-    ensures coins { IfOk result (λ refs. list_all (has_coin tables.now.vault.held) refs ≡ true) }
-    ensures once { IfOk result (λ refs. has_repeat ref_eq refs ≡ false) }
-{
-    let coins = tables.vault().reserve(alloc, &token(), 120)?;
-    Ok(references(alloc, &coins)?)
-}
-
-/// Locks coins for a flow.
-fn lock_all(
-    alloc: Global,
-    tables: &mut Tables,
-    flow: u32,
-    locked: RefList,
-) -> Result<(), AllocError>
-    requires coins { list_all (has_coin tables.old.vault.held) locked ≡ true }
-    requires once { has_repeat ref_eq locked ≡ false }
-{
-    let change = LedgerChange {
-        recorded: None,
-        locked,
-        owner: flow,
-        ended: false,
-        booked: None,
-    };
-    tables.make_room(alloc, &change)?;
-    tables.apply(change);
-    Ok(())
-}
-
-/// Locks for a flow what a reservation of 120 names.
-fn pay(alloc: Global, tables: &mut Tables, flow: u32) -> Result<(), Fail> {
-    let locked = named(alloc, tables)?;
-    Ok(lock_all(alloc, tables, flow, locked)?)
 }
 
 /// Ends a flow.
@@ -137,15 +84,5 @@ fn locks_and_releases_at_the_end(rt: HostRuntime) -> Result<(), Fail> {
     end(alloc, &mut tables, 7)?;
     assert_eq!(rt; lockers(alloc, &tables)?, [None, None]);
     assert_eq!(rt; reserve(alloc, &tables), (1, 0));
-    Ok(())
-}
-
-/// What is reserved may be locked.
-#[test]
-fn locks_what_is_reserved(rt: HostRuntime) -> Result<(), Fail> {
-    let mut tables = Tables::new(rt.alloc(), Party(1));
-    two_coins(rt.alloc(), &mut tables)?;
-    pay(rt.alloc(), &mut tables, 7)?;
-    assert_eq!(rt; lockers(rt.alloc(), &tables)?, [Some(7), Some(7)]);
     Ok(())
 }
