@@ -2,7 +2,7 @@
 use Rattle.std.proofs.Common.{◌≡◌, inl, inr, ℕ, zero, suc, ◌<◌, List, [], Option, Some, None, Result, Ok, Err, IsOk, OnOk, Bool, true, false, max, refl, sym, ◌∙◌, ap, subst, arith}
 use Rattle.std.specs.Result.{is_err}
 use Rattle.outside.specs.Disk.{DiskState, DiskView, IsImage, CutsPower, clean}
-use Rattle.outside.proofs.Moments.{started, after_cut}
+use Rattle.outside.proofs.Moments.{started, after_cut as image_after_cut}
 use Rattle.net_base.specs.declared.names.Identity.{Identity}
 use Rattle.net_base.specs.declared.causes.Event.{Event}
 use Rattle.net_base.specs.declared.values.Moment.{Moment}
@@ -48,10 +48,10 @@ cuts_now id outcome old new fuse calm memory cut = record {
     file = cut.file;
     tells = cut.tells;
     later = omega (arith, cut.faults);
-    images = λ told. after_cut old.state new.state (OneOf old.state) (λ c i. i) (cut.state told);
+    images = λ told. image_after_cut old.state new.state (OneOf old.state) (λ c i. i) (cut.state told);
     kept = λ told. cut_kept old.state new.state (cut.state told);
   };
-  form = record { sound = λ told was. after_cut old.state new.state (IsSound id) was (cut.state told); young = λ told was. after_cut old.state new.state (IsYoung id) was (cut.state told) };
+  form = record { sound = λ told was. image_after_cut old.state new.state (IsSound id) was (cut.state told); young = λ told was. image_after_cut old.state new.state (IsYoung id) was (cut.state told) };
   dark = λ now. (cut.power, cut.fuse);
   armed = λ later. absurd (omega (arith, later));
   faults = cut.faults;

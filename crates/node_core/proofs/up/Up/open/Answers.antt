@@ -1,5 +1,5 @@
 use Rattle.node_core.specs.Seen.{Tied}
-use Rattle.node_core.proofs.Boots.{Opening, opening_tied, opening_opens, unbooted}
+use Rattle.node_core.proofs.Boots.{Opening, Closing, opening_tied, opening_opens, unopened, unbooted}
 use Rattle.node_core.proofs.up.Up.open.Goals as goal
 
 pub returns-in-Ok-rebuild-clause-ok : goal.returns-in-Ok-rebuild-clause-ok
@@ -21,3 +21,11 @@ returns-in-Err-rebuild-clause-refused g c =
     let old = g.D.Disk.seen c.args.disk in
     let opening : Opening c.args.identity old journal list = record { format = o.opened; told = o.list; ready = o.ready; left = o.left; same = o.same; counts = o.counts; moments = o.moments; young = o.young; sound = o.sound; later = o.later; calm = o.calm; rest = o.of_file } in
     rw (c.rebuild_fault.ensures, c.into_disk.ensures) (unbooted g.F.Spelt.reading c.args.identity old journal list c.in-Err-rebuild.why opening c.in-Err-rebuild.ensures)
+
+pub returns-in-Err-clause-refused : goal.returns-in-Err-clause-refused
+returns-in-Err-clause-refused g c =
+    let o = c.in-Err.ensures in
+    let old = g.D.Disk.seen c.args.disk in
+    let new = g.D.Disk.seen c.in-Err.refused.disk in
+    let closing : Closing c.args.identity old c.in-Err.refused.why new = record { refused = o.refused; begun = o.begun; was = o.was; kept = o.kept; bytes = o.bytes; moments = o.moments; young = o.young; sound = o.sound; cause = o.cause; later = o.later; calm = o.calm; rest = o.of_file } in
+    rw c.boot_fault.ensures (unopened g.F.Spelt.reading c.args.identity old new c.in-Err.refused.why closing)
