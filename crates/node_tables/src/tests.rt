@@ -1,6 +1,8 @@
 //! Tables of records that were worked out by hand, at party 1 of three nodes. What holds a flow is let go without its destructor: a
 //! proof of a test would go through each kind of value that may stand in it.
 
+ghost use Rattle.std.specs.Prelude.{◌≤◌, length};
+
 use crate::{RebuildFault, Tables, fits_as_ruled, rebuild};
 use flow_machine::Counter;
 use net_base::{ByteList, Key, ListOf, Party};
@@ -249,7 +251,9 @@ fn is_record(alloc: Global, text: &str) -> Result<bool, Fail> {
 }
 
 /// The place of the first of these records that doesn't fit, if there is one.
-fn misfit(alloc: Global, list: ListOf<(u64, ByteList)>) -> Result<Option<u64>, AllocError> {
+fn misfit(alloc: Global, list: ListOf<(u64, ByteList)>) -> Result<Option<u64>, AllocError>
+    requires { length list ≤ 65536 }
+{
     match rebuild::<Counter>(alloc, Party(1), 3, list) {
         Ok(tables) => {
             mem::forget(tables);
@@ -292,7 +296,9 @@ fn opening(alloc: Global, number: u32) -> Result<(u64, ByteList), Fail> {
 }
 
 /// The place of the first that doesn't fit of so many records, in each of which flow 0 opens a session.
-fn misfit_of_openings(alloc: Global, count: u32) -> Result<Option<u64>, Fail> {
+fn misfit_of_openings(alloc: Global, count: u32) -> Result<Option<u64>, Fail>
+    requires { count ≤ 65536 }
+{
     let mut list = ListOf::new(alloc);
     for number in 0..count {
         list.push(opening(alloc, number)?)?;
