@@ -1,5 +1,5 @@
 -- A disk in memory, as contracts see it.
-use Rattle.std.specs.Prelude.{◌⊎◌, ◌≡◌, ℕ, ◌+◌, ◌-◌, ◌*◌, ◌/◌, take, drop, ◌<◌, ◌≤◌, min, List, [], ◌∷◌, length, slice_index, Contains, map, Vec, Option, Some, None, vec_len, vec_capacity, Bool, true, false, not, ◌&&◌, ◌==◌}
+use Rattle.std.specs.Prelude.{◌⊎◌, ◌≡◌, ℕ, ◌+◌, ◌-◌, ◌*◌, ◌/◌, take, drop, ◌<◌, ◌≤◌, min, List, [], ◌∷◌, length, slice_index, Contains, map, Vec, Option, Some, None, vec_len, vec_capacity, Bool, true, false, not, ◌&&◌}
 use Rattle.outside.specs.Disk.{DiskState, DiskView, Durable, IsImage, IsUntouched, overwritten, written, blows}
 use Rattle.disk_mem.specs.declared.lay.Medium.{Medium}
 use Rattle.disk_mem.specs.declared.lay.Last.{Last}

@@ -1,13 +1,12 @@
 -- The limits and orders that acts, results and places keep. What is spelt within its limits has a spelling.
-use Rattle.std.specs.Prelude.{◌<◌, ◌≤◌, ◌^◌, length, IfSome}
+use Rattle.std.specs.Prelude.{◌<◌, ◌≤◌, ◌^◌, length}
 use Rattle.std.specs.List.{AllByRecursion}
 use Rattle.net_base.specs.Values.{IsHash, IsParty, IsMoment}
-use Rattle.net_base.specs.Names.{IsStateRef, IsToken, IsKey, IsTag}
-use Rattle.ledger_types.specs.declared.held.Held.{Held}
-use Rattle.ledger_types.specs.States.{IsTxState}
+use Rattle.net_base.specs.Names.{IsToken, IsKey, IsTag}
 use Rattle.ledger_types.specs.Txs.{IsTx, IsSignedTx}
 use Rattle.ledger_types.specs.Requests.{IsRequest, IsNotaryAnswer}
 use Rattle.ledger_types.specs.Values.{IsValue}
+use Rattle.ledger_types.specs.Vaults.{IsHeld}
 use Rattle.flow_machine.specs.declared.acts.Act.{Act}
 use Rattle.flow_machine.specs.declared.acts.Act.TheVariants as act
 use Rattle.flow_machine.specs.declared.acts.Resumed.{Resumed}
@@ -32,10 +31,6 @@ IsAct within (act.Notarise request) = IsRequest request
 IsAct within (act.Record stx) = IsSignedTx stx
 IsAct within (act.Return value) = IsValue value
 IsAct within (act.Fail code) = code < 2 ^ 16
-
--- the limits of a state that is locked
-abbrev pub IsHeld : Held → Type 0
-IsHeld held = IsStateRef held.reference × (IsTxState held.state × IfSome held.locked (λ flow. flow < 2 ^ 32))
 
 -- the limits of a result
 abbrev pub IsResumed : Resumed → Type 0

@@ -18,21 +18,22 @@ use Rattle.session_wire.specs.Bodies.{IsBody, body_text}
 use Rattle.session_wire.proofs.Sizes.{body_fits}
 use Rattle.transition_record.specs.Changes.{IsSentItem, sent_item, opened_text, taken_text}
 use Rattle.flow_records.specs.Steps.{carries_value, FewValuesAreShort}
-use Rattle.flow_records.proofs.Sizes.{number16, number32, joined, key_short}
+use Rattle.ledger_types.proofs.Sizes.{number16_fits, number32_fits, joined}
+use Rattle.flow_records.proofs.Sizes.{key_short}
 
 -- an item is long only where it carries a value
 body_short : (b : Body) → IsBody b → length (body_text b) ≤ 3 + cond (carries_value b) 9809 0
 body_short (body.Init class first) h = let fits = body_fits (body.Init class first) h in omega (arith, fits)
 body_short body.Confirm h = omega arith
-body_short (body.Reject code) h = let fits = number16 code in omega (arith, fits)
+body_short (body.Reject code) h = let fits = number16_fits code in omega (arith, fits)
 body_short (body.Data value) h = let fits = body_fits (body.Data value) h in omega (arith, fits)
-body_short (body.Error code) h = let fits = number16 code in omega (arith, fits)
+body_short (body.Error code) h = let fits = number16_fits code in omega (arith, fits)
 body_short body.End h = omega arith
 
 item_short : (i : SentItem) → IsSentItem i → length (sent_item i) ≤ 13 + cond (carries_value i.body) 9809 0
 item_short i h =
     let value = cond (carries_value i.body) 9809 0 in
-    let behind = joined (number w32 i.seq) (body_text i.body) 4 (3 + value) (number32 i.seq) (body_short i.body h.1.1.1) in
+    let behind = joined (number w32 i.seq) (body_text i.body) 4 (3 + value) (number32_fits i.seq) (body_short i.body h.1.1.1) in
     let all = joined (key i.key) (i.direction ∷ (number w32 i.seq ++ body_text i.body)) 5 (8 + value) (key_short i.key) (omega (arith, behind)) in
     omega (arith, all)
 
@@ -60,7 +61,7 @@ came_short (Some b) h = let fits = body_fits b h in omega (arith, fits)
 
 taken_short : (o : Option (Key × ℕ)) → length (option_of taken_text o) ≤ 10
 taken_short None = omega arith
-taken_short (Some p) = let parts = joined (key p.0) (number w32 p.1) 5 4 (key_short p.0) (number32 p.1) in omega (arith, parts)
+taken_short (Some p) = let parts = joined (key p.0) (number w32 p.1) 5 4 (key_short p.0) (number32_fits p.1) in omega (arith, parts)
 
 pub few_values_are_short : FewValuesAreShort
 few_values_are_short s h few =

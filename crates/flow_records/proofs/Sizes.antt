@@ -2,7 +2,7 @@
 use Rattle.std.proofs.Common.{◌≡◌, ◌+◌, ◌*◌, ◌≤◌, ℕ, suc, Bool, List, [], ◌∷◌, ◌++◌, length, reverse, sym, ap, subst, ◌∙◌, arith}
 use Rattle.std.specs.List.{flat_map, AllByRecursion}
 use Rattle.std.specs.Int.{w16, w32, w64}
-use Rattle.std.proofs.lemmas.List.{length-append, length-reverse, reverse-append}
+use Rattle.std.proofs.lemmas.List.{length-reverse, reverse-append}
 use Rattle.std.proofs.lemmas.List.Concat.{flat_map-cons}
 use Rattle.std.proofs.Math.Nat.{suc-mul, add_comm}
 use Rattle.net_base.specs.declared.names.Key.{Key}
@@ -10,15 +10,14 @@ use Rattle.net_base.specs.declared.causes.Event.TheVariants as event
 use Rattle.net_base.specs.declared.causes.Cause.{Cause}
 use Rattle.net_base.specs.Reading.{number}
 use Rattle.net_base.specs.Forms.{bytes16}
-use Rattle.net_base.specs.Fields.{wide16, wide32, wide64}
 use Rattle.net_base.specs.Values.{party, moment}
-use Rattle.net_base.specs.Names.{key, IsCode, token}
+use Rattle.net_base.specs.Names.{key, token}
 use Rattle.ledger_types.specs.declared.value.Value.{Value}
 use Rattle.ledger_types.specs.Values.{IsValue, value}
+use Rattle.ledger_types.proofs.Sizes.{Fits, number16_fits, number32_fits, number64_fits, joined, items_fit, code_fits, tx_fits, signed_fits, request_fits, value_fits}
 use Rattle.session_wire.specs.declared.change.SessionChange.{SessionChange}
 use Rattle.session_wire.specs.declared.effect.FlowPart.{FlowPart as SpokenPart}
 use Rattle.session_wire.specs.declared.effect.FlowPart.TheVariants as part
-use Rattle.session_wire.proofs.Sizes.{Fits, tx_fits, signed_fits, request_fits, value_fits}
 use Rattle.flow_machine.specs.declared.acts.Act.TheVariants as act
 use Rattle.flow_machine.specs.Machine.{Machine}
 use Rattle.flow_machine.specs.Flows.{SpellsContent}
@@ -30,82 +29,50 @@ use Rattle.transition_record.specs.Changes.{part_text, session_text, ledger_text
 use Rattle.transition_record.specs.Records.{effect_text, record_text}
 use Rattle.flow_records.specs.Steps.{spoken_by}
 
--- the bytes of numbers
-pub number16 : (n : ℕ) → length (number w16 n) ≤ 2
-unfolding number
-number16 n = omega (arith, wide16.len n)
-
-pub number32 : (n : ℕ) → length (number w32 n) ≤ 4
-unfolding number
-number32 n = omega (arith, wide32.len n)
-
-number64 : (n : ℕ) → length (number w64 n) ≤ 8
-unfolding number
-number64 n = omega (arith, wide64.len n)
-
--- two parts, one behind the other
-pub joined : (a b : List ℕ) (m n : ℕ) → length a ≤ m → length b ≤ n → length (a ++ b) ≤ m + n
-joined a b m n ha hb = omega (arith, length-append a b, ha, hb)
-
 pub key_short : (k : Key) → length (key k) ≤ 5
-key_short k = joined (party k.initiator) (number w32 k.number) 1 4 (omega arith) (number32 k.number)
-
-code_short : (code : List ℕ) → IsCode code → length code ≤ 3
-code_short (a ∷ b ∷ c ∷ []) h = omega arith
-code_short other h = absurd h
+key_short k = joined (party k.initiator) (number w32 k.number) 1 4 (omega arith) (number32_fits k.number)
 
 -- ---- causes
 
 event_fits : Fits IsEvent event_text 65544
 event_fits (event.Start flow class args) h =
-    let words = joined (number w16 (length args)) args 2 65535 (number16 (length args)) h.1.1 in
-    let parts = joined (number w32 flow) (number w16 class ++ bytes16 args) 4 65539 (number32 flow) (joined (number w16 class) (bytes16 args) 2 65537 (number16 class) words) in
+    let words = joined (number w16 (length args)) args 2 65535 (number16_fits (length args)) h.1.1 in
+    let parts = joined (number w32 flow) (number w16 class ++ bytes16 args) 4 65539 (number32_fits flow) (joined (number w16 class) (bytes16 args) 2 65537 (number16_fits class) words) in
     omega (arith, parts)
 event_fits (event.Answer k) h = let fits = key_short k in omega (arith, fits)
 event_fits (event.Arrive k direction n) h =
-    let count = number32 n in
+    let count = number32_fits n in
     let parts = joined (key k) (direction ∷ number w32 n) 5 5 (key_short k) (omega (arith, count)) in
     omega (arith, parts)
-event_fits (event.Move flow) h = let fits = number32 flow in omega (arith, fits)
-event_fits (event.Lapse flow) h = let fits = number32 flow in omega (arith, fits)
+event_fits (event.Move flow) h = let fits = number32_fits flow in omega (arith, fits)
+event_fits (event.Lapse flow) h = let fits = number32_fits flow in omega (arith, fits)
 
 -- a cause in at most 65,560 bytes
 pub cause_fits : Fits IsCause cause_text 65560
 cause_fits c h =
-    joined (number w64 c.stamp) (moment c.moment ++ event_text c.event) 8 65552 (number64 c.stamp) (joined (moment c.moment) (event_text c.event) 8 65544 (number64 c.moment.0) (event_fits c.event h.1.1))
+    joined (number w64 c.stamp) (moment c.moment ++ event_text c.event) 8 65552 (number64_fits c.stamp) (joined (moment c.moment) (event_text c.event) 8 65544 (number64_fits c.moment.0) (event_fits c.event h.1.1))
 
 -- ---- checkpoints
 
 -- an act over frames of at most 32,770 bytes, in at most 32,771
 act_fits : {F : Type 0} (within : F → Type 0) (spelling : F → List ℕ) → Fits within spelling 32770 → Fits (IsAct within) (act_text spelling) 32771
 act_fits within spelling frames (act.Open to class first) h =
-    let parts = joined (party to) (number w16 class ++ value first) 1 9811 (omega arith) (joined (number w16 class) (value first) 2 9809 (number16 class) (value_fits first h.1.1)) in
+    let parts = joined (party to) (number w16 class ++ value first) 1 9811 (omega arith) (joined (number w16 class) (value first) 2 9809 (number16_fits class) (value_fits first h.1.1)) in
     omega (arith, parts)
 act_fits within spelling frames (act.Send k v) h = let parts = joined (key k) (value v) 5 9809 (key_short k) (value_fits v h.1) in omega (arith, parts)
 act_fits within spelling frames (act.Receive k) h = let parts = key_short k in omega (arith, parts)
-act_fits within spelling frames (act.ReceiveBy k until) h = let parts = joined (key k) (number w64 until) 5 8 (key_short k) (number64 until) in omega (arith, parts)
-act_fits within spelling frames (act.Sleep until) h = let parts = number64 until in omega (arith, parts)
+act_fits within spelling frames (act.ReceiveBy k until) h = let parts = joined (key k) (number w64 until) 5 8 (key_short k) (number64_fits until) in omega (arith, parts)
+act_fits within spelling frames (act.Sleep until) h = let parts = number64_fits until in omega (arith, parts)
 act_fits within spelling frames (act.Sub frame) h = let parts = frames frame h in omega (arith, parts)
 act_fits within spelling frames (act.Verify t) h = let parts = tx_fits t h in omega (arith, parts)
-act_fits within spelling frames (act.Reserve t amount) h = let parts = joined (token t) (number w64 amount) 4 8 (joined (party t.issuer) t.code 1 3 (omega arith) (code_short t.code h.0.1)) (number64 amount) in omega (arith, parts)
+act_fits within spelling frames (act.Reserve t amount) h = let parts = joined (token t) (number w64 amount) 4 8 (joined (party t.issuer) t.code 1 3 (omega arith) (code_fits t.code h.0.1)) (number64_fits amount) in omega (arith, parts)
 act_fits within spelling frames (act.Lookup id) h = omega (arith, h)
 act_fits within spelling frames (act.Missing t) h = let parts = tx_fits t h in omega (arith, parts)
 act_fits within spelling frames (act.Sign id) h = omega (arith, h)
 act_fits within spelling frames (act.Notarise r) h = let parts = request_fits r h in omega (arith, parts)
 act_fits within spelling frames (act.Record stx) h = let parts = signed_fits stx h in omega (arith, parts)
 act_fits within spelling frames (act.Return v) h = let parts = value_fits v h in omega (arith, parts)
-act_fits within spelling frames (act.Fail code) h = let parts = number16 code in omega (arith, parts)
-
--- items of at most n bytes
-items_fit : {V : Type 0} (within : V → Type 0) (spelling : V → List ℕ) (n : ℕ) → Fits within spelling n → (vs : List V) → AllByRecursion within vs → length (flat_map spelling vs) ≤ length vs * n
-items_fit within spelling n fits [] all = omega arith
-items_fit within spelling n fits (v ∷ vs) all =
-    let rest = items_fit within spelling n fits vs all.1 in
-    let one = fits v all.0 in
-    let parts = ap length (flat_map-cons spelling v vs) in
-    let both = length-append (spelling v) (flat_map spelling vs) in
-    let product : length (v ∷ vs) * n ≡ n + length vs * n = suc-mul (length vs) n ∙ add_comm (length vs * n) n in
-    omega (arith, rest, one, parts, both, product)
+act_fits within spelling frames (act.Fail code) h = let parts = number16_fits code in omega (arith, parts)
 
 -- what holds of those in front and of those behind holds of all
 all_append : {X : Type 0} (P : X → Type 0) (xs ys : List X) → AllByRecursion P xs → AllByRecursion P ys → AllByRecursion P (xs ++ ys)
@@ -128,9 +95,9 @@ stack_fits within spelling frames s h =
 -- a checkpoint over such frames, in at most 294,942
 pub checkpoint_fits : {F : Type 0} (within : F → Type 0) (spelling : F → List ℕ) → Fits within spelling 32770 → Fits (IsCheckpoint within) (checkpoint_text spelling) 294942
 checkpoint_fits within spelling frames c h =
-    joined (number w32 c.flow) _ 4 294938 (number32 c.flow)
-    (joined (number w32 c.step) _ 4 294934 (number32 c.step)
-    (joined (number w16 c.class) _ 2 294932 (number16 c.class)
+    joined (number w32 c.flow) _ 4 294938 (number32_fits c.flow)
+    (joined (number w32 c.step) _ 4 294934 (number32_fits c.step)
+    (joined (number w16 c.class) _ 2 294932 (number16_fits c.class)
     (joined (act_text spelling c.waiting) (stack_text spelling c.stack) 32771 262161 (act_fits within spelling frames c.waiting h.1.1.1.0) (stack_fits within spelling frames c.stack h.1.1.1.1))))
 
 -- ---- flows
@@ -138,18 +105,18 @@ checkpoint_fits within spelling frames c h =
 -- a frame's bytes, of which there are at most 32,768, behind their length
 pub content_fits : {F : Type 0} (within : F → Type 0) (spelling : F → List ℕ) (m : Machine F) → SpellsContent within spelling m → Fits within spelling 32770
 content_fits within spelling m frames f h =
-    let bytes = joined (number w16 (length (m.content f))) (m.content f) 2 32768 (number16 (length (m.content f))) (frames.short f h) in
+    let bytes = joined (number w16 (length (m.content f))) (m.content f) 2 32768 (number16_fits (length (m.content f))) (frames.short f h) in
     omega (arith, bytes, ap length (frames.framed f h))
 
 -- a flow that has ended or failed
 pub ended_fits : (number step class : ℕ) (v : Value) → IsValue v → length (part_text (part.Ended number step class v)) ≤ 400000
 ended_fits flow step class v h =
-    let parts = joined (number w32 flow) _ 4 9815 (number32 flow) (joined (number w32 step) _ 4 9811 (number32 step) (joined (number w16 class) (value v) 2 9809 (number16 class) (value_fits v h))) in
+    let parts = joined (number w32 flow) _ 4 9815 (number32_fits flow) (joined (number w32 step) _ 4 9811 (number32_fits step) (joined (number w16 class) (value v) 2 9809 (number16_fits class) (value_fits v h))) in
     omega (arith, parts)
 
 pub failed_fits : (number step class code : ℕ) → length (part_text (part.Failed number step class code)) ≤ 400000
 failed_fits flow step class code =
-    let parts = joined (number w32 flow) _ 4 8 (number32 flow) (joined (number w32 step) _ 4 4 (number32 step) (joined (number w16 class) (number w16 code) 2 2 (number16 class) (number16 code))) in
+    let parts = joined (number w32 flow) _ 4 8 (number32_fits flow) (joined (number w32 step) _ 4 4 (number32_fits step) (joined (number w16 class) (number w16 code) 2 2 (number16_fits class) (number16_fits code))) in
     omega (arith, parts)
 
 -- ---- records

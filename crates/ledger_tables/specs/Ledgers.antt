@@ -9,9 +9,9 @@ use Rattle.ledger_types.specs.declared.notary.Entry.{Entry}
 use Rattle.ledger_types.specs.declared.change.LedgerChange.{LedgerChange}
 use Rattle.ledger_types.specs.Signatures.{tx_id}
 use Rattle.ledger_types.specs.Stores.{is_stored}
-use Rattle.ledger_types.specs.Vaults.{Lock}
+use Rattle.ledger_types.specs.Vaults.{Lock, locks_of, released}
 use Rattle.tx_store.specs.Stored.{Stored, has_dependencies}
-use Rattle.vault.specs.Holdings.{Holding, held_after, locked_in, freed_of, locks_of, released, IsVault}
+use Rattle.vault.specs.Holdings.{Holding, held_after, locked_in, freed_of, IsVault}
 use Rattle.notary_book.specs.Booked.{Booked}
 
 -- what contracts see of a node's ledger: the recorded transactions, the vault over them, and the notary's book

@@ -1,2 +1,3 @@
 mod Leaves
 mod Rows
+pub mod Sizes

@@ -1,5 +1,5 @@
 -- What a party holds, over the list of recorded transactions.
-use Rattle.std.specs.Prelude.{ℕ, ◌+◌, ◌-◌, ◌==◌, ◌&&◌, ◌||◌, not, List, [], ◌∷◌, Option, Some, None, Bool, true, false, filter, find, flat_map, option_map, is_none, take, sum_by, if◌then◌else◌}
+use Rattle.std.specs.Prelude.{ℕ, ◌+◌, ◌-◌, ◌==◌, ◌<◌, ◌^◌, ◌&&◌, ◌||◌, not, List, [], ◌∷◌, Option, Some, None, IfSome, Bool, true, false, map, filter, find, flat_map, option_map, is_none, take, sum_by, if◌then◌else◌}
 use Rattle.std.specs.List.{list_any}
 use Rattle.net_base.specs.declared.values.Hash32.{Hash32}
 use Rattle.net_base.specs.declared.values.Party.{Party}
@@ -10,6 +10,8 @@ use Rattle.ledger_types.specs.declared.state.StateData.TheVariants.{Cash, TimeLo
 use Rattle.ledger_types.specs.declared.state.TxState.{TxState}
 use Rattle.ledger_types.specs.declared.tx.Tx.{Tx}
 use Rattle.ledger_types.specs.declared.held.Held.{Held}
+use Rattle.net_base.specs.Names.{IsStateRef}
+use Rattle.ledger_types.specs.States.{IsTxState}
 use Rattle.ledger_types.specs.Names.{party_eq, token_eq, ref_eq, has_ref}
 
 -- whether a state is relevant to a party: Cash and TimeLock that it owns, Facts that it issued, Ious in which it is lender or borrower
@@ -24,9 +26,21 @@ pub record Lock : Type 0 where
   pub reference : StateRef
   pub flow : ℕ
 
+-- the locks of a flow on these states
+abbrev pub locks_of : ℕ → List StateRef → List Lock
+locks_of flow refs = map (λ r. record { reference = r; flow = flow }) refs
+
+-- the locks but for those of a flow
+abbrev pub released : ℕ → List Lock → List Lock
+released flow locks = filter (λ l. not (l.flow == flow)) locks
+
 -- the flow that has a reference locked
 abbrev pub locked_by : List Lock → StateRef → Option ℕ
 locked_by locks r = option_map (λ l. l.flow) (find (λ l. ref_eq r l.reference) locks)
+
+-- the limits of a state that is held
+abbrev pub IsHeld : Held → Type 0
+IsHeld h = IsStateRef h.reference × (IsTxState h.state × IfSome h.locked (λ flow. flow < 2 ^ 32))
 
 -- a state with its reference and the flow that has it locked
 abbrev pub held : List Lock → StateRef → TxState → Held

@@ -1,5 +1,5 @@
 -- The state of a node, the effect of a cause, and what an effect makes of a state.
-use Rattle.std.specs.Prelude.{ℕ, ◌==◌, not, List, [], ◌∷◌, ◌++◌, Option, Some, None, if◌then◌else◌, map, filter, option_to_list, slice_set, length, unwrap_or}
+use Rattle.std.specs.Prelude.{ℕ, ◌==◌, List, [], ◌∷◌, ◌++◌, Option, Some, None, if◌then◌else◌, map, option_to_list, slice_set, length, unwrap_or}
 use Rattle.net_base.specs.declared.values.Hash32.{Hash32}
 use Rattle.net_base.specs.declared.values.Party.{Party}
 use Rattle.net_base.specs.declared.names.Key.{Key}
@@ -11,7 +11,7 @@ use Rattle.ledger_types.specs.declared.tx.SignedTx.{SignedTx}
 use Rattle.ledger_types.specs.declared.notary.Entry.{Entry}
 use Rattle.ledger_types.specs.declared.value.Value.{Value}
 use Rattle.ledger_types.specs.Signatures.{tx_id}
-use Rattle.ledger_types.specs.Vaults.{Lock}
+use Rattle.ledger_types.specs.Vaults.{Lock, locks_of, released}
 use Rattle.session_wire.specs.declared.body.Body.{Body}
 use Rattle.session_wire.specs.declared.change.SentItem.{SentItem}
 use Rattle.flow_machine.specs.declared.flows.Checkpoint.{Checkpoint}
@@ -107,20 +107,12 @@ flows_on (now_live checkpoint) flows = placed flows checkpoint.flow (state.Live 
 flows_on (now_ended flow step class value) flows = placed flows flow (state.Ended step class value)
 flows_on (now_failed flow step class code) flows = placed flows flow (state.Failed step class code)
 
--- the locks but for those of a flow
-abbrev pub released : ℕ → List Lock → List Lock
-released f locked = filter (λ l. not (f == l.flow)) locked
-
 -- the locks of a flow that is over are given back
 abbrev pub locks_on : {F : Type 0} → FlowPart F → List Lock → List Lock
 locks_on no_flow locked = locked
 locks_on (now_live checkpoint) locked = locked
 locks_on (now_ended flow step class value) locked = released flow locked
 locks_on (now_failed flow step class code) locked = released flow locked
-
--- the locks of a flow on these states
-abbrev pub locks_of : ℕ → List StateRef → List Lock
-locks_of f refs = map (λ r. record { reference = r; flow = f }) refs
 
 -- ---- the whole state
 

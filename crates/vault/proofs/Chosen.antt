@@ -11,9 +11,9 @@ use Rattle.ledger_types.specs.declared.state.StateData.{StateData}
 use Rattle.ledger_types.specs.declared.state.StateData.TheVariants.{Cash}
 use Rattle.ledger_types.specs.declared.held.Held.{Held}
 use Rattle.ledger_types.specs.Names.{ref_eq, has_repeat}
-use Rattle.ledger_types.specs.Vaults.{is_cash, is_cash_of, is_free, is_coin, is_coin_of, cash_amount, coins_of, least_prefix, reserved}
+use Rattle.ledger_types.specs.Vaults.{is_cash, is_cash_of, is_free, is_coin, is_coin_of, cash_amount, coins_of, least_prefix, reserved, IsHeld}
 use Rattle.vault.specs.declared.fault.ReserveFault.{ReserveFault}
-use Rattle.vault.specs.Holdings.{IsHeld, is_own, is_own_coin, references_of, has_coin}
+use Rattle.vault.specs.Holdings.{is_own, is_own_coin, references_of, has_coin}
 use Rattle.vault.proofs.Names.{ref_same}
 use Rattle.vault.proofs.Passing.{all_weaker}
 use Rattle.vault.proofs.Limits.{all_take, all_kept}

@@ -13,8 +13,8 @@ use Rattle.ledger_types.specs.declared.tx.Tx.{Tx}
 use Rattle.ledger_types.specs.declared.held.Held.{Held}
 use Rattle.ledger_types.specs.States.{IsTxState}
 use Rattle.ledger_types.specs.Names.{has_ref}
-use Rattle.ledger_types.specs.Vaults.{is_relevant, outputs_from}
-use Rattle.vault.specs.Holdings.{IsHeld, is_own, AreHeld, held_after, locked_in, is_flow, freed_of}
+use Rattle.ledger_types.specs.Vaults.{is_relevant, outputs_from, IsHeld}
+use Rattle.vault.specs.Holdings.{is_own, AreHeld, held_after, locked_in, is_flow, freed_of}
 use Rattle.vault.proofs.Passing.{all_filter}
 
 -- ---- properties of all of a list

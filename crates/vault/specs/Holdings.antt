@@ -1,26 +1,20 @@
 -- What contracts see of a vault, what each call makes of it, and how that goes with the list of recorded transactions.
-use Rattle.std.specs.Prelude.{◌≡◌, ◌<◌, ◌^◌, ℕ, Bool, true, false, not, ◌==◌, ◌&&◌, List, [], ◌++◌, Option, Some, None, IfSome, map, filter, if◌then◌else◌}
+use Rattle.std.specs.Prelude.{◌≡◌, ℕ, Bool, true, false, not, ◌==◌, ◌&&◌, List, [], ◌++◌, Option, Some, None, map, filter, if◌then◌else◌}
 use Rattle.std.specs.List.{list_any, list_all, AllByRecursion}
 use Rattle.net_base.specs.declared.values.Hash32.{Hash32}
 use Rattle.net_base.specs.declared.values.Party.{Party}
 use Rattle.net_base.specs.declared.names.StateRef.{StateRef}
 use Rattle.net_base.specs.declared.names.Token.{Token}
-use Rattle.net_base.specs.Names.{IsStateRef}
 use Rattle.ledger_types.specs.declared.tx.Tx.{Tx}
 use Rattle.ledger_types.specs.declared.held.Held.{Held}
 use Rattle.ledger_types.specs.Names.{hash_eq, ref_eq, has_ref, has_repeat}
-use Rattle.ledger_types.specs.States.{IsTxState}
-use Rattle.ledger_types.specs.Vaults.{Lock, is_relevant, outputs_from, vault_of, is_coin, is_coin_of}
+use Rattle.ledger_types.specs.Vaults.{IsHeld, Lock, is_relevant, outputs_from, vault_of, is_coin, is_coin_of}
 
 -- what contracts see of a vault: whose it is, what it holds in order of recording, and for how many more states there is room
 pub record Holding : Type 0 where
   pub party : Party
   pub held : List Held
   pub room : ℕ
-
--- the limits of a state that is held
-abbrev pub IsHeld : Held → Type 0
-IsHeld h = IsStateRef h.reference × (IsTxState h.state × IfSome h.locked (λ flow. flow < 2 ^ 32))
 
 -- whether a state is relevant to the party
 abbrev pub is_own : Party → Held → Bool
@@ -82,14 +76,6 @@ may_note recorded id tx = not (is_noted recorded id) && has_sources recorded tx
 -- whether no id is recorded twice
 abbrev pub are_once : List (Hash32 × Tx) → Bool
 are_once recorded = not (has_repeat (λ u t. hash_eq t.0 u.0) recorded)
-
--- the locks of these states by a flow
-abbrev pub locks_of : ℕ → List StateRef → List Lock
-locks_of flow refs = map (λ r. record { reference = r; flow = flow }) refs
-
--- the locks without those of a flow
-abbrev pub released : ℕ → List Lock → List Lock
-released flow locks = filter (λ l. not (l.flow == flow)) locks
 
 -- whether no reference is locked twice
 abbrev pub are_apart : List Lock → Bool

@@ -1,7 +1,8 @@
 use Rattle.std.proofs.Common.{◌≡◌, ◌++◌, List, length, map, ap, sym, subst, ◌∙◌, arith}
 use Rattle.std.proofs.lemmas.List.{length-map}
 use Rattle.ledger_types.specs.declared.held.Held.{Held}
-use Rattle.vault.specs.Holdings.{AreHeld, locked_in, locks_of, IsVault}
+use Rattle.ledger_types.specs.Vaults.{locks_of}
+use Rattle.vault.specs.Holdings.{AreHeld, locked_in, IsVault}
 use Rattle.vault.proofs.Limits.{lock_held}
 use Rattle.vault.proofs.Marking.{written}
 use Rattle.vault.proofs.Vaults.{lock_keeps}

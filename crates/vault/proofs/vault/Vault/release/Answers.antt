@@ -1,7 +1,8 @@
 use Rattle.std.proofs.Common.{◌≡◌, List, length, map, ap, sym, subst, ◌∙◌}
 use Rattle.std.proofs.lemmas.List.{length-map}
 use Rattle.ledger_types.specs.declared.held.Held.{Held}
-use Rattle.vault.specs.Holdings.{AreHeld, freed_of, released, IsVault}
+use Rattle.ledger_types.specs.Vaults.{released}
+use Rattle.vault.specs.Holdings.{AreHeld, freed_of, IsVault}
 use Rattle.vault.proofs.Limits.{release_held}
 use Rattle.vault.proofs.Marking.{written}
 use Rattle.vault.proofs.Vaults.{release_keeps}
