@@ -1,2 +1,2 @@
 mod Folding
-mod Rooted
+pub mod Rooted

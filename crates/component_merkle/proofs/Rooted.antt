@@ -11,7 +11,7 @@ use Rattle.component_merkle.specs.Merkle.{halves, padded, depth, depth_from, roo
 pow_double : (d : ℕ) → 2 ^ suc d ≡ 2 * 2 ^ d
 pow_double d = omega arith
 
-length-padded : (d : ℕ) (xs : List (List ℕ)) → length xs ≤ 2 ^ d → length (padded d xs) ≡ 2 ^ d
+pub length-padded : (d : ℕ) (xs : List (List ℕ)) → length xs ≤ 2 ^ d → length (padded d xs) ≡ 2 ^ d
 length-padded d xs le = omega (arith, length-append xs (replicate (2 ^ d - length xs) zeros), length-replicate (2 ^ d - length xs) zeros)
 
 joined : (d : ℕ) (xs : List (List ℕ)) → length xs ≤ 2 ^ suc d → padded (suc d) xs ≡ padded d (take (2 ^ d) xs) ++ padded d (drop (2 ^ d) xs)
@@ -70,7 +70,7 @@ least_from (suc fuel) d n low le =
       | inr ge ↦ rw (le-leb n (2 ^ d) ge) (record { fits = ge; least = low })
     ]
 
-below_pow : (n : ℕ) → n ≤ 2 ^ n
+pub below_pow : (n : ℕ) → n ≤ 2 ^ n
 below_pow zero = omega arith
 below_pow (suc n) = omega (arith, below_pow n, pow_double n, pow_pos n)
 

@@ -1,5 +1,5 @@
 -- Records at the front of bytes.
-use Rattle.std.proofs.Common.{◌≡◌, ◌≢◌, ◌⊎◌, inl, inr, ℕ, zero, suc, ◌+◌, ◌-◌, ◌<◌, ◌≤◌, Bool, true, false, List, [], ◌∷◌, ◌++◌, length, get_or, take, drop, None, refl, sym, ◌∙◌, ap, arith, length-append, length-drop, length-take, append_assoc}
+use Rattle.std.proofs.Common.{◌≡◌, ◌≢◌, ◌⊎◌, inl, inr, ℕ, zero, suc, ◌+◌, ◌-◌, ◌<◌, ◌≤◌, Bool, true, false, List, [], ◌∷◌, ◌++◌, length, get_or, take, drop, None, refl, sym, ◌∙◌, ap, arith, length-append, length-take, append_assoc}
 use Rattle.std.specs.Int.{w32, from_be_bytes}
 use Rattle.std.proofs.lemmas.List.{take-take, take-append-le, drop-append-le, drop-drop, take_at, drop_at, get_or-take, drop-take}
 use Rattle.std.proofs.lemmas.Nat.{from_be_bytes-to_be_bytes_4}
@@ -231,20 +231,3 @@ bodies_entry n b rest small =
       λ at. damage_open n x at is ∙ ap (λ (l : List ℕ). damage n (at + (5 + length_at x)) l) next ∙ (none n).1 (at + (5 + length_at x)),
       let e : 5 + length b + 0 ≡ 5 + length b = omega arith in extent_open n x is ∙ (λ i. 5 + w.1 i + extent n (next i)) ∙ ap (λ (k : ℕ). 5 + length b + k) (none n).2 ∙ e,
     )
-
--- how many there are
-pub at_most : (n : ℕ) (x : List ℕ) → length (bodies n x) ≤ n
-at_most zero x = omega arith
-at_most (suc n) x = by (is_true (is_whole x)) (at_most n (drop (5 + length_at x) x))
-  where
-    by : (is_whole x ≡ true) ⊎ (is_whole x ≡ false) → length (bodies n (drop (5 + length_at x) x)) ≤ n → length (bodies (suc n) x) ≤ suc n
-    by (inl is) le = omega (arith, le, ap (λ (l : List (List ℕ)). length l) (bodies_open n x is))
-    by (inr is) le = omega (arith, ap (λ (l : List (List ℕ)). length l) (bodies_shut n x is))
-
-pub extent_within : (n : ℕ) (x : List ℕ) → extent n x ≤ length x
-extent_within zero x = omega arith
-extent_within (suc n) x = by (is_true (is_whole x)) (extent_within n (drop (5 + length_at x) x))
-  where
-    by : (is_whole x ≡ true) ⊎ (is_whole x ≡ false) → extent n (drop (5 + length_at x) x) ≤ length (drop (5 + length_at x) x) → extent (suc n) x ≤ length x
-    by (inl is) le = omega (arith, le, extent_open n x is, (whole x is).fits, length-drop (5 + length_at x) x)
-    by (inr is) le = omega (arith, extent_shut n x is)

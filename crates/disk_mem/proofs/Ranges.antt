@@ -1,6 +1,6 @@
 -- Bytes inside and outside of ranges.
 use Rattle.std.proofs.Common.{◌≡◌, ◌⊎◌, inl, inr, ⊎_elim, ℕ, zero, suc, ◌+◌, ◌-◌, ◌<◌, ◌≤◌, List, [], ◌∷◌, ◌++◌, length, take, drop, get_or, refl, sym, ◌∙◌, ap, subst, arith, length-append, length-drop}
-use Rattle.std.proofs.lemmas.List.{length-take-le, get_or-take, get_or-drop, get_or_append_left, get_or-append_right, get_or_past, drop_more, take_more}
+use Rattle.std.proofs.lemmas.List.{length-take-le, get_or-take, get_or-drop, get_or_append_left, get_or-append_right, get_or_past, take_more}
 use Rattle.std.specs.List.{Contains}
 use borrow.Rule.Slice.PartMut.{put_mid, post_of}
 use Rattle.outside.specs.Disk.{Durable, IsImage, IsUntouched}
@@ -28,10 +28,6 @@ image_of s old new image low high same = record {
   no_longer = omega (arith, high, image.no_longer);
   elsewhere = λ i lt u. same i lt u ∙ image.elsewhere i lt u;
 }
-
--- the ranges from the k-th on
-pub untouched_rest : (ts : List (ℕ × ℕ)) (k i : ℕ) (d : ℕ × ℕ) → k < length ts → ((i < (get_or ts k d).0) ⊎ ((get_or ts k d).0 + (get_or ts k d).1 ≤ i)) → IsUntouched (drop (k + 1) ts) i → IsUntouched (drop k ts) i
-untouched_rest ts k i d lt out u = subst (λ (l : List (ℕ × ℕ)). IsUntouched l i) (sym (drop_more ts k d lt)) (out, u)
 
 -- inside of a range or outside of it
 pub inside_or_not : (at n i : ℕ) → ((at ≤ i) × (i < at + n)) ⊎ ((i < at) ⊎ (at + n ≤ i))

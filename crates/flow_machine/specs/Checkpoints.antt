@@ -1,5 +1,5 @@
 -- The spelling of stacks and checkpoints, by the spelling of frames.
-use Rattle.std.proofs.Common.{◌≡◌, ◌-◌, ◌<◌, ◌^◌, ℕ, suc, List, [], ◌∷◌, ◌++◌, length, Result, refl, sym, ap, subst, ◌∙◌, arith}
+use Rattle.std.proofs.Common.{◌≡◌, ◌-◌, ◌<◌, ◌^◌, ℕ, suc, List, [], ◌∷◌, ◌++◌, length, Result, refl, sym, ap, ◌∙◌, arith}
 use Rattle.std.specs.Prelude.{map, reverse}
 use Rattle.std.specs.List.{flat_map, AllByRecursion}
 use Rattle.std.specs.Int.{w16, w32}
@@ -11,6 +11,7 @@ use Rattle.net_base.specs.Laws.{Laws}
 use Rattle.net_base.specs.Combining.{bind_laws, mapped_at, mapped_laws, pair_at, pair_laws, iso_laws}
 use Rattle.net_base.specs.Fields.{u16_laws, u32_laws, items_laws}
 use Rattle.net_base.specs.Kinds.{between_at, between_laws}
+use Rattle.net_base.proofs.Lists.{all_reverse}
 use Rattle.flow_machine.specs.declared.acts.Act.{Act}
 use Rattle.flow_machine.specs.declared.flows.Checkpoint.{Checkpoint}
 use Rattle.flow_machine.specs.Stacks.{Frames}
@@ -38,15 +39,6 @@ stack_at frame_at bytes = between_at 1 9 bytes >>= λ n. mapped_at stack_of (pai
 -- one more at the front is one more at the end of the reverse
 reverse_cons : {F : Type 0} (x : F) (xs : List F) → reverse (x ∷ xs) ≡ reverse xs ++ x ∷ []
 reverse_cons x xs = reverse-append (x ∷ []) xs
-
--- what holds of each holds of each in another order
-all_append : {F : Type 0} (P : F → Type 0) (xs ys : List F) → AllByRecursion P xs → AllByRecursion P ys → AllByRecursion P (xs ++ ys)
-all_append P [] ys hx hy = hy
-all_append P (x ∷ xs) ys hx hy = (hx.0, all_append P xs ys hx.1 hy)
-
-all_reverse : {F : Type 0} (P : F → Type 0) (xs : List F) → AllByRecursion P xs → AllByRecursion P (reverse xs)
-all_reverse P [] h = tt
-all_reverse P (x ∷ xs) h = subst (λ (l : List _). AllByRecursion P l) (sym (reverse_cons x xs)) (all_append P (reverse xs) (x ∷ []) (all_reverse P xs h.1) (h.0, tt))
 
 -- the spelling of a stack, the top apart
 stack_parts : {F : Type 0} (frame_text : F → List ℕ) (s : Frames F) → stack_text frame_text s ≡ suc (length s.below) ∷ (flat_map frame_text (reverse s.below) ++ frame_text s.top)

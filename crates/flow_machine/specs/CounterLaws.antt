@@ -70,12 +70,12 @@ spells_content = record { framed = λ c h. refl; short = λ c h. omega arith }
 -- ---- what begins, by its arguments
 
 -- what was given under a test was given because the test holds
-given : {X E : Type 0} (test : Bool) (r : Result X E) (fault : E) (x : X) → (if test then r else Err fault) ≡ Ok x → (test ≡ true) × (r ≡ Ok x)
+pub given : {X E : Type 0} (test : Bool) (r : Result X E) (fault : E) (x : X) → (if test then r else Err fault) ≡ Ok x → (test ≡ true) × (r ≡ Ok x)
 given true r fault x e = (refl, e)
 given false r fault x e = absurd cc
 
 -- what was given is the one value that the test lets through
-given_one : {X E : Type 0} (test : Bool) (x y : X) (fault : E) → (if test then Ok x else Err fault) ≡ Ok y → (test ≡ true) × (x ≡ y)
+pub given_one : {X E : Type 0} (test : Bool) (x y : X) (fault : E) → (if test then Ok x else Err fault) ≡ Ok y → (test ≡ true) × (x ≡ y)
 given_one true x y fault e = (refl, cc)
 given_one false x y fault e = absurd cc
 
@@ -99,13 +99,13 @@ unfolding with_left
 left_within zero all hl ha = ((hl, ha), omega (arith, ha))
 left_within (suc n) all hl ha = ((hl, ha), omega arith)
 
-verdict_small : (v : Verdict) → verdict_code v < 2 ^ 16
+pub verdict_small : (v : Verdict) → verdict_code v < 2 ^ 16
 verdict_small verdict.Accepted = omega arith
 verdict_small (verdict.Broken rule) = omega arith
 verdict_small (verdict.Refused contract clause) = omega arith
 verdict_small (verdict.NoContract id) = omega arith
 
-code_small : (with : Resumed) → IsResumed with → unnamed_code with < 2 ^ 16
+pub code_small : (with : Resumed) → IsResumed with → unnamed_code with < 2 ^ 16
 code_small (resumed.Refused code) h = h
 code_small (resumed.Verdict v) h = verdict_small v
 code_small other h = omega arith

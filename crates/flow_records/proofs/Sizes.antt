@@ -1,10 +1,7 @@
 -- How many bytes the record of a flow has at most.
-use Rattle.std.proofs.Common.{◌≡◌, ◌+◌, ◌*◌, ◌≤◌, ℕ, suc, Bool, List, [], ◌∷◌, ◌++◌, length, reverse, sym, ap, subst, ◌∙◌, arith}
-use Rattle.std.specs.List.{flat_map, AllByRecursion}
+use Rattle.std.proofs.Common.{◌≡◌, ◌+◌, ◌≤◌, ℕ, suc, Bool, List, ◌∷◌, ◌++◌, length, ap, arith}
 use Rattle.std.specs.Int.{w16, w32, w64}
-use Rattle.std.proofs.lemmas.List.{length-reverse, reverse-append}
-use Rattle.std.proofs.lemmas.List.Concat.{flat_map-cons}
-use Rattle.std.proofs.Math.Nat.{suc-mul, add_comm}
+use Rattle.std.proofs.lemmas.List.{length-reverse}
 use Rattle.net_base.specs.declared.names.Key.{Key}
 use Rattle.net_base.specs.declared.causes.Event.TheVariants as event
 use Rattle.net_base.specs.declared.causes.Cause.{Cause}
@@ -12,6 +9,7 @@ use Rattle.net_base.specs.Reading.{number}
 use Rattle.net_base.specs.Forms.{bytes16}
 use Rattle.net_base.specs.Values.{party, moment}
 use Rattle.net_base.specs.Names.{key, token}
+use Rattle.net_base.proofs.Lists.{all_reverse}
 use Rattle.ledger_types.specs.declared.value.Value.{Value}
 use Rattle.ledger_types.specs.Values.{IsValue, value}
 use Rattle.ledger_types.proofs.Sizes.{Fits, number16_fits, number32_fits, number64_fits, joined, items_fit, code_fits, tx_fits, signed_fits, request_fits, value_fits}
@@ -73,16 +71,6 @@ act_fits within spelling frames (act.Notarise r) h = let parts = request_fits r 
 act_fits within spelling frames (act.Record stx) h = let parts = signed_fits stx h in omega (arith, parts)
 act_fits within spelling frames (act.Return v) h = let parts = value_fits v h in omega (arith, parts)
 act_fits within spelling frames (act.Fail code) h = let parts = number16_fits code in omega (arith, parts)
-
--- what holds of those in front and of those behind holds of all
-all_append : {X : Type 0} (P : X → Type 0) (xs ys : List X) → AllByRecursion P xs → AllByRecursion P ys → AllByRecursion P (xs ++ ys)
-all_append P [] ys front behind = behind
-all_append P (x ∷ xs) ys front behind = (front.0, all_append P xs ys front.1 behind)
-
--- what holds of all holds of them in the other order
-all_reverse : {X : Type 0} (P : X → Type 0) (xs : List X) → AllByRecursion P xs → AllByRecursion P (reverse xs)
-all_reverse P [] all = tt
-all_reverse {X} P (x ∷ xs) all = subst (λ (l : List X). AllByRecursion P l) (sym (reverse-append (x ∷ []) xs)) (all_append P (reverse xs) (x ∷ []) (all_reverse P xs all.1) (all.0, tt))
 
 -- a stack of frames of at most 32,770 bytes, in at most 262,161
 stack_fits : {F : Type 0} (within : F → Type 0) (spelling : F → List ℕ) → Fits within spelling 32770 → Fits (IsStack within) (stack_text spelling) 262161

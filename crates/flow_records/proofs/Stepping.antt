@@ -1,8 +1,10 @@
 -- Of which step a record tells.
-use Rattle.std.proofs.Common.{◌≡◌, ℕ, ◌==◌, ◌&&◌, Bool, true, false, List, [], ◌∷◌, length, Option, Some, None, Result, refl, sym, ◌∙◌, arith, is_none, option_map, if◌then◌else◌}
+use Rattle.std.proofs.Common.{◌≡◌, ℕ, ◌==◌, ◌&&◌, Bool, true, false, List, [], length, Option, Some, None, Result, refl, sym, ◌∙◌, is_none, option_map, if◌then◌else◌}
 use Rattle.std.specs.Prelude.{IfSome}
 use Rattle.net_base.specs.declared.causes.Cause.{Cause}
 use Rattle.net_base.specs.declared.names.StateRef.{StateRef}
+use Rattle.net_base.proofs.Lists.{no_items}
+use Rattle.net_base.proofs.Options.{none_of}
 use Rattle.ledger_types.specs.declared.tx.SignedTx.{SignedTx}
 use Rattle.ledger_types.specs.declared.notary.Entry.{Entry}
 use Rattle.session_wire.specs.declared.effect.Effect.{Effect as Spoken}
@@ -16,16 +18,6 @@ use Rattle.flow_records.specs.Telling.{leaves_ledger_of}
 use Rattle.flow_records.specs.Steps.{part_after, change_by, besides_ledger, owner_of, step_with, TellsAfter, TellsStep}
 
 -- ---- the ledger
-
--- a list of none
-no_items : {X : Type 0} (xs : List X) → (length xs == 0) ≡ true → xs ≡ []
-no_items [] h = refl
-no_items (x ∷ xs) h = absurd (grind (arith, h))
-
--- a value that lacks
-no_value : {X : Type 0} (o : Option X) → is_none o ≡ true → o ≡ None
-no_value None h = refl
-no_value (Some x) h = absurd cc
 
 -- both hold
 left : (a b : Bool) → (a && b) ≡ true → a ≡ true
@@ -46,9 +38,9 @@ record IsStill (recorded : Option SignedTx) (locked : List StateRef) (booked : O
 ledger_still : (recorded : Option SignedTx) (locked : List StateRef) (booked : Option Entry) → (is_none recorded && (length locked == 0 && is_none booked)) ≡ true → IsStill recorded locked booked
 ledger_still recorded locked booked h =
     let rest = right (is_none recorded) _ h in record {
-      recorded_is = no_value recorded (left (is_none recorded) _ h);
+      recorded_is = none_of recorded (left (is_none recorded) _ h);
       locked_is = no_items locked (left (length locked == 0) _ rest);
-      booked_is = no_value booked (right (length locked == 0) _ rest);
+      booked_is = none_of booked (right (length locked == 0) _ rest);
     }
 
 -- ---- a record

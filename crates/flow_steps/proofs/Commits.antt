@@ -1,6 +1,6 @@
 -- What a node is about to commit has the effect that it tells of.
-use Rattle.std.proofs.Common.{◌≡◌, ℕ, ◌^◌, ◌<◌, ◌≤◌, List, length, slice_get, Option, Some, None, Result, Ok, Err, true, false, cond, option_map, refl, sym, ◌∙◌, ap, subst, arith}
-use Rattle.std.specs.Prelude.{IfOk, IfSome, is_some}
+use Rattle.std.proofs.Common.{◌≡◌, ℕ, ◌^◌, ◌<◌, ◌≤◌, List, length, slice_get, Option, Some, None, Result, Ok, true, false, cond, option_map, refl, sym, ◌∙◌, ap, subst, arith}
+use Rattle.std.specs.Prelude.{IfSome, is_some}
 use Rattle.std.proofs.lemmas.Bool.{eq-eqb}
 use Rattle.net_base.specs.declared.causes.Cause.{Cause}
 use Rattle.net_base.specs.declared.causes.Event.TheVariants as event
@@ -27,18 +27,14 @@ use Rattle.net_model.specs.Steps.{place, effect_of, answering, answered_with}
 use Rattle.net_model.specs.Enabled.{enabled_event}
 use Rattle.net_model.proofs.Enabled.{effect_at}
 use Rattle.session_acts.specs.Parts.{session_part, unchanged, answer_to, arrival}
+use Rattle.session_acts.proofs.Limits.{unchanged_within}
 use Rattle.flow_records.specs.declared.step.FlowAfter.{FlowAfter}
 use Rattle.flow_records.specs.declared.step.Step.{Step}
 use Rattle.flow_records.specs.Steps.{effect_by, part_after, owner_of, IsAfter}
 use Rattle.flow_steps.specs.Going.{first_after, begun_for, Performs}
 use Rattle.flow_steps.specs.Ready.{IsReady}
-use Rattle.flow_steps.proofs.Limits.{unchanged_within, unchanged_short}
+use Rattle.flow_steps.proofs.Limits.{unchanged_short}
 use Rattle.flow_steps.proofs.Picks.{IsOwn}
-
--- a length below what is asked of a result
-pub of_ok : {X E : Type 0} (P : Type 0) (r : Result X E) (x : X) → r ≡ Ok x → IfOk r (λ y. P) → P
-of_ok P (Ok y) x is h = h
-of_ok P (Err e) x is h = cc
 
 -- ---- a flow that goes on
 

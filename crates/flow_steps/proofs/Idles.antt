@@ -7,10 +7,13 @@ use Rattle.net_base.specs.declared.values.Party.{Party}
 use Rattle.net_base.specs.declared.causes.Cause.{Cause}
 use Rattle.net_base.specs.declared.causes.Event.{Event}
 use Rattle.net_base.specs.declared.causes.Event.TheVariants as event
+use Rattle.net_base.proofs.Lists.{find_map, find_test}
+use Rattle.net_base.proofs.Options.{some_eq}
 use Rattle.session_wire.specs.declared.body.Body.{Body}
 use Rattle.session_wire.specs.declared.change.SentItem.{SentItem}
 use Rattle.session_wire.specs.Sessions.{Sent, Session, key_eq, session_of, changed_at, new_session, next_item, with_sent, with_taken, opened_on, sent_on, taken_on}
 use Rattle.session_wire.specs.Rules.{is_owner, owned_by, owned, waits_for}
+use Rattle.session_wire.proofs.Keys.{key_exact}
 use Rattle.flow_machine.specs.declared.acts.Act.{Act}
 use Rattle.flow_machine.specs.declared.acts.Act.TheVariants as act
 use Rattle.flow_machine.specs.declared.flows.Checkpoint.{Checkpoint}
@@ -20,9 +23,9 @@ use Rattle.net_model.specs.Environment.{Environment, is_act_built}
 use Rattle.net_model.specs.State.{NodeState, FlowPart, no_flow, now_live, now_ended, now_failed, Change, Effect, came_on, flow_of, placed, flows_on, sessions_on, apply_effect}
 use Rattle.net_model.specs.Steps.{Done, takes, checkpoint_of, live_at, effect_of}
 use Rattle.net_model.specs.Enabled.{enabling}
-use Rattle.net_model.proofs.Basics.{some_eq, find_map, find_before}
-use Rattle.net_model.proofs.Fitting.{key_true, find_test}
+use Rattle.net_model.proofs.Basics.{find_before}
 use Rattle.net_model.proofs.Acts.{Performs, tells, opens_to, sends_on, takes_from, has_found, has_tagged, has_locked, has_answered, has_recorded, Gives, goes, pushed, popped, finished, failed, Does, starts, answers_to, arrives, acts, effect_does, owned_there}
+use Rattle.net_model.proofs.Falling.{came_none}
 use Rattle.flow_steps.specs.Going.{event_at, event_there, flow_in}
 use Rattle.flow_steps.specs.Idle.{IdleBelow}
 use Rattle.flow_steps.proofs.Picks.{Built}
@@ -113,9 +116,9 @@ still_sent f stamp (item ∷ items) ss g lt key h =
 taken_apart : (f g : ℕ) (key other : Key) (ss : List Session) (x t : Session) → owned f key ss ≡ Some x → session_of other ss ≡ Some t → is_owner g t.owner ≡ true → key_eq x.key t.key ≡ true → f ≡ g
 taken_apart f g key other ss x t own there mine same =
     let found : session_of key ss ≡ Some x = owned_there f (session_of key ss) x own in
-    let first : key ≡ x.key = key_true key x.key (find_test (λ s. key_eq key s.key) ss x found) in
-    let second : other ≡ t.key = key_true other t.key (find_test (λ s. key_eq other s.key) ss t there) in
-    let keys : key ≡ other = first ∙ key_true x.key t.key same ∙ sym second in
+    let first : key ≡ x.key = key_exact key x.key (find_test (λ s. key_eq key s.key) ss x found) in
+    let second : other ≡ t.key = key_exact other t.key (find_test (λ s. key_eq other s.key) ss t there) in
+    let keys : key ≡ other = first ∙ key_exact x.key t.key same ∙ sym second in
     let both : Some x ≡ Some t = sym found ∙ ap (λ (k : Key). session_of k ss) keys ∙ there in
     let one : x ≡ t = some_eq both in
     one_owner f g t.owner (subst (λ (z : Session). is_owner f z.owner ≡ true) one (owner_there f (session_of key ss) x own)) mine
@@ -238,11 +241,6 @@ of_kind : (f : ℕ) (ev : Event) → (ev ≡ event.Move f) ⊎ (ev ≡ event.Lap
 of_kind f ev (inl k) = ap flow_in k
 of_kind f ev (inr k) = ap flow_in k
 
--- it accepts no item
-came_kind : (f : ℕ) (ev : Event) (bodies : List Body) (owner : Option ℕ) (ss : List Session) → (ev ≡ event.Move f) ⊎ (ev ≡ event.Lapse f) → came_on ev bodies owner ss ≡ ss
-came_kind f ev bodies owner ss (inl k) = ap (λ (x : Event). came_on x bodies owner ss) k
-came_kind f ev bodies owner ss (inr k) = ap (λ (x : Event). came_on x bodies owner ss) k
-
 module _ {F : Type 0} (s : NodeState F) (cause : Cause) (e : Effect F) (n moment : ℕ) (numbered : (f : ℕ) (at : Checkpoint F) → live_at s f ≡ Some at → at.flow ≡ f) (idle : IdleBelow s.sessions moment s.flows n) where
   module _ (f : ℕ) (flow : flow_of e.flow ≡ Some f) (came : came_on cause.event (option_to_list e.change.came) (flow_of e.flow) s.sessions ≡ s.sessions) (taken : Takes f s.sessions e.change) where
     still_after : Still f s.sessions (sessions_on cause e s.sessions)
@@ -271,7 +269,7 @@ module _ {F : Type 0} (s : NodeState F) (cause : Cause) (e : Effect F) (n moment
   idle_does w me now body (acts f at kind there gives) g lt =
       let own : at.flow ≡ f = numbered f at there in
       let number : flow_in cause.event ≡ f = of_kind f cause.event kind in
-      idle_kept f (gives_flow w me s now at at.waiting e gives ∙ ap (λ (k : ℕ). Some k) own) (came_kind f cause.event (option_to_list e.change.came) (flow_of e.flow) s.sessions kind)
+      idle_kept f (gives_flow w me s now at at.waiting e gives ∙ ap (λ (k : ℕ). Some k) own) (came_none cause.event f (option_to_list e.change.came) (flow_of e.flow) s.sessions kind)
       (subst (λ (k : ℕ). Takes k s.sessions e.change) own (gives_takes w me s now at at.waiting e gives)) g (omega (arith, lt)) (omega (arith, lt, number))
 
 -- what an event makes of a node leaves each flow idle that was, and that is before the flow which the event changes

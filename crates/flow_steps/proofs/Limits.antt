@@ -5,6 +5,7 @@ use Rattle.std.specs.List.{AllByRecursion}
 use Rattle.std.specs.Option.{unwrap_or}
 use Rattle.net_base.specs.declared.names.Key.{Key}
 use Rattle.net_base.specs.declared.values.Party.{Party}
+use Rattle.net_base.proofs.Lists.{all_drop, all_find, filter_length, filter_none}
 use Rattle.ledger_types.specs.declared.value.Value.{Value}
 use Rattle.session_wire.specs.declared.body.Body.{Body}
 use Rattle.session_wire.specs.declared.body.Body.TheVariants as body_of
@@ -23,10 +24,10 @@ use Rattle.net_model.specs.State.{nothing}
 use Rattle.net_model.specs.Steps.{Done, opens, sends, handed, takes, receives, last_items}
 use Rattle.session_acts.specs.declared.acts.Performed.{Performed}
 use Rattle.session_acts.specs.Parts.{done_of, unchanged, session_part}
+use Rattle.session_acts.proofs.Limits.{unchanged_within}
 use Rattle.flow_records.specs.Steps.{carries_value}
 use Rattle.flow_records.proofs.Lengths.{few_values_are_short}
 use Rattle.flow_steps.specs.Going.{IsDone}
-use Rattle.flow_steps.proofs.Lists.{all_drop, all_find, filter_length, filter_none}
 
 -- a change by which so few items are sent is short
 pub few_short : (change : SessionChange) → IsSessionPart change → length change.sent ≤ 3 → length (session_text change) ≤ 50000
@@ -34,10 +35,6 @@ few_short change h few = few_values_are_short change h (let short = filter_lengt
 
 pub room_short : (change : SessionChange) → IsSessionPart change → room_for change ≤ 4 → length (session_text change) ≤ 50000
 room_short change h room = few_short change h (omega (arith, room))
-
--- no change is within its limits, and short
-pub unchanged_within : (f : ℕ) → IsSession f None (unchanged f)
-unchanged_within f = ((tt, ((omega arith, tt), (tt, tt))), (refl, refl))
 
 pub unchanged_short : (f : ℕ) → length (session_text (unchanged f)) ≤ 50000
 unchanged_short f = few_short (unchanged f) (unchanged_within f).0 (omega arith)

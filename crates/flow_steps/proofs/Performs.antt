@@ -13,6 +13,7 @@ use Rattle.net_base.specs.declared.values.Moment.{Moment}
 use Rattle.net_base.specs.declared.values.Party.{Party}
 use Rattle.net_base.specs.Names.{IsIdentity}
 use Rattle.net_base.specs.Values.{IsMoment}
+use Rattle.net_base.proofs.Options.{if_ok}
 use Rattle.ledger_types.specs.declared.value.Value.{Value}
 use Rattle.ledger_types.specs.Values.{IsValue}
 use Rattle.session_wire.specs.declared.body.Body.{Body}
@@ -38,11 +39,12 @@ use Rattle.session_wire.specs.declared.change.SessionChange.{SessionChange}
 use Rattle.session_wire.specs.declared.body.Body.TheVariants as body_of
 use Rattle.transition_record.specs.Changes.{IsSession, session_text}
 use Rattle.session_acts.specs.Parts.{session_part, unchanged}
+use Rattle.session_acts.proofs.Limits.{unchanged_within}
 use Rattle.flow_records.specs.Records.{IsFlow}
 use Rattle.flow_records.specs.declared.step.Step.{Step}
 use Rattle.flow_records.specs.Steps.{effect_by}
 use Rattle.flow_steps.specs.Going.{gone_on, called, returned, takes_or_lapses, over, Becomes, Performs}
-use Rattle.flow_steps.proofs.Limits.{unchanged_within, unchanged_short}
+use Rattle.flow_steps.proofs.Limits.{unchanged_short}
 use Rattle.flow_steps.proofs.Picks.{Built}
 
 -- ---- limits
@@ -263,11 +265,6 @@ module _ {F : Type 0} (w : Environment F) (built : Built w) (me now : ℕ) (sess
   -- an act that nodes don't perform goes on by no event
   pub by_none : is_act_built at.waiting ≡ false → enabled_event w sessions now (state.Live at) ≡ None
   by_none not_built = ap (λ b. cond b (enabling sessions at.flow now at.waiting) None) (ap (λ (p : Act F → Bool). p at.waiting) built ∙ not_built)
-
--- what holds of each holds of a result
-pub if_ok : {X E : Type 0} (P Q : X → Type 0) (r : Result X E) → ((x : X) → P x → Q x) → IfOk r P → IfOk r Q
-if_ok P Q (Ok x) f h = f x h
-if_ok P Q (Err e) f h = h
 
 pub if_both : {X E : Type 0} (P Q R : X → Type 0) (r : Result X E) → ((x : X) → P x → Q x → R x) → IfOk r P → IfOk r Q → IfOk r R
 if_both P Q R (Ok x) f p q = f x p q

@@ -1,15 +1,12 @@
 -- A transaction that the store may record next may be noted next.
-use Rattle.std.proofs.Common.{◌≡◌, true, not, ◌||◌, List, [], ◌∷◌, ◌++◌, Option, Some, None, option_to_list, refl, sym, ◌∙◌, ap}
-use Rattle.std.specs.Prelude.{IfSome}
-use Rattle.std.specs.List.{list_all, AllByRecursion}
+use Rattle.std.proofs.Common.{◌≡◌, true, not, ◌||◌, List, [], ◌∷◌, ◌++◌, Some, refl, sym, ◌∙◌, ap}
+use Rattle.std.specs.List.{list_all}
 use Rattle.std.proofs.lemmas.Bool.{and_parts, and_from}
 use Rattle.std.proofs.lemmas.List.{map-append}
 use Rattle.std.proofs.lemmas.List.Folds.{list_all-append}
 use Rattle.net_base.specs.declared.values.Hash32.{Hash32}
 use Rattle.net_base.specs.declared.names.StateRef.{StateRef}
 use Rattle.ledger_types.specs.declared.tx.SignedTx.{SignedTx}
-use Rattle.ledger_types.specs.declared.notary.Entry.{Entry}
-use Rattle.ledger_types.specs.Requests.{IsEntry}
 use Rattle.ledger_types.specs.Names.{hash_eq}
 use Rattle.ledger_types.specs.Signatures.{tx_id}
 use Rattle.ledger_types.specs.Stores.{is_stored, untagged}
@@ -38,9 +35,3 @@ noted_next store stx next =
 
 pub untagged_more : (store : List Recorded) (id : Hash32) (stx : SignedTx) → untagged (store ++ (id, stx) ∷ []) ≡ untagged store ++ (id, stx.tx) ∷ []
 untagged_more store id stx = map-append (λ (p : Recorded). (p.0, p.1.tx)) store ((id, stx) ∷ [])
-
--- the entries of a book with that of a change
-pub entries_more : (entries : List Entry) (booked : Option Entry) → AllByRecursion IsEntry entries → IfSome booked IsEntry → AllByRecursion IsEntry (entries ++ option_to_list booked)
-entries_more [] None h one = tt
-entries_more [] (Some e) h one = (one, tt)
-entries_more (d ∷ entries) booked h one = (h.0, entries_more entries booked h.1 one)

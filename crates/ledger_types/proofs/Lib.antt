@@ -1,3 +1,5 @@
 mod Leaves
 mod Rows
 pub mod Sizes
+pub mod Names
+pub mod Coins

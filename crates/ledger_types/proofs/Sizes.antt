@@ -33,11 +33,11 @@ length-number16 : (n : ℕ) → length (number w16 n) ≡ 2
 unfolding number
 length-number16 n = wide16.len n
 
-length-number32 : (n : ℕ) → length (number w32 n) ≡ 4
+pub length-number32 : (n : ℕ) → length (number w32 n) ≡ 4
 unfolding number
 length-number32 n = wide32.len n
 
-length-number64 : (n : ℕ) → length (number w64 n) ≡ 8
+pub length-number64 : (n : ℕ) → length (number w64 n) ≡ 8
 unfolding number
 length-number64 n = wide64.len n
 

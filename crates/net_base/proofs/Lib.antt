@@ -5,3 +5,5 @@ pub mod Whole
 mod NumberLemmas
 mod Sets
 mod Members
+pub mod Lists
+pub mod Options

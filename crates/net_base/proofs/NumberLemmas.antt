@@ -1,18 +1,14 @@
-use Rattle.std.proofs.Common.{◌≡◌, ℕ, List, [], ◌∷◌, Some, None, Bool, true, false, Result, Ok, Err, cond, nat_lt, ◌&&◌, ◌^◌, ◌<◌, length, refl, ap, rules, arith, ◌≤◌}
+use Rattle.std.proofs.Common.{◌≡◌, ℕ, List, [], ◌∷◌, Some, None, true, Result, Ok, Err, cond, nat_lt, ◌^◌, ◌<◌, length, ap, rules, arith, ◌≤◌}
 use Rattle.std.specs.Char.{is_ascii_digit}
 use Rattle.std.specs.List.{list_all}
 use Rattle.std.specs.Result.{result_ok, OkIff}
 use Rattle.std.specs.Str.Parse.{digits_value, ParsesUnsigned}
 use Rattle.std.proofs.lemmas.Str.Parse.{IsNumeralModel, numerals_by_value, parse_digits}
-use Rattle.std.proofs.lemmas.Bool.{lt-ltb, le-ltb}
+use Rattle.std.proofs.lemmas.Bool.{lt-ltb, le-ltb, and_parts}
 use Rattle.net_base.specs.Numbers.{is_numeral, is_plain, number_of}
 
 own : IsNumeralModel (λ ds. list_all is_ascii_digit ds ≡ true) (digits_value 10)
 own = numerals_by_value _ (search rules)
-
-both_true : (a b : Bool) → a && b ≡ true → (a ≡ true) × (b ≡ true)
-both_true true b e = (refl, e)
-both_true false b e = (cc, cc)
 
 plain_length : (word : List ℕ) → is_plain word ≡ true → 0 < length word
 plain_length [] e = cc
@@ -29,5 +25,5 @@ picked (Err e) v n h p =
 pub number_parsed : {E : Type 0} (word : List ℕ) (r : Result ℕ E) → ParsesUnsigned 64 10 word r → is_numeral word ≡ true → result_ok r ≡ number_of word
 unfolding number_of is_numeral
 number_parsed word r h e =
-    let parts = both_true _ _ e in
+    let parts = and_parts _ _ e in
     rw e (picked r (digits_value 10 word) (length word) (parse_digits own 64 word r h parts.0) (plain_length word parts.1))

@@ -156,16 +156,6 @@ pair_laws {A} {B} {wa} {sa} {ra} {wb} {sb} {rb} one two =
       split = λ p hp. (p.0, (hp.0, (hp.1, refl)));
     })
 
--- the same reading
-pub same_laws : {V : Type 0} {within : V → Type 0} {spelling : V → List ℕ} {reading : List ℕ → Result (V × List ℕ) ℕ} (reading' : List ℕ → Result (V × List ℕ) ℕ) → ((bytes : List ℕ) → reading' bytes ≡ reading bytes) → Laws within spelling reading → Laws within spelling reading'
-same_laws reading' same one = record {
-  takes = λ bytes x fits e. one.takes bytes x fits (sym (same bytes) ∙ e);
-  again = λ v rest h. same _ ∙ one.again v rest h;
-  faults = λ bytes n fits e. one.faults bytes n fits (sym (same bytes) ∙ e);
-  some = one.some;
-  some_within = one.some_within;
-}
-
 -- the same limits and spelling in other words
 pub restated_laws : {V : Type 0} {w : V → Type 0} {s : V → List ℕ} {w' : V → Type 0} {s' : V → List ℕ} {reading : List ℕ → Result (V × List ℕ) ℕ}
     → ((v : V) → w v → w' v × (s' v ≡ s v)) → ((v : V) → w' v → w v) → Laws w s reading → Laws w' s' reading

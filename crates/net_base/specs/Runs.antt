@@ -106,7 +106,3 @@ ascending8_laws {V} {within} {spelling} {read} key limit below each =
       join = λ n vs hn h. ((omega (arith, hn, h.0), from_runs key limit within 0 vs h.1), ap (λ (k : ℕ). k ∷ flat_map spelling vs) h.0);
       split = λ vs h. (length vs, (omega (arith, h.0), (refl, to_runs key limit within below 0 vs h.1.0 h.1.1)));
     })
-
--- parties that ascend are few
-pub ascending_few : {V : Type 0} (key : V → ℕ) (limit : ℕ) (within : V → Type 0) → ((v : V) → within v → key v < limit) → (vs : List V) → AllByRecursion within vs → Ascends key 0 vs → length vs ≤ limit
-ascending_few key limit within below vs all up = let few = room_left key limit within below 0 vs (omega arith) all up in omega (arith, few)

@@ -7,6 +7,7 @@ use Rattle.net_base.specs.declared.values.Party.{Party}
 use Rattle.net_base.specs.declared.names.Token.{Token}
 use Rattle.net_base.specs.declared.causes.Event.{Event}
 use Rattle.net_base.specs.declared.causes.Event.TheVariants as event
+use Rattle.net_base.proofs.Options.{some_eq}
 use Rattle.ledger_types.specs.declared.tx.Tx.{Tx}
 use Rattle.ledger_types.specs.declared.tx.Resolved.{Resolved}
 use Rattle.ledger_types.specs.declared.held.Held.{Held}
@@ -33,7 +34,7 @@ use Rattle.ledger_types.specs.Signatures.{tx_id, is_signed}
 use Rattle.net_model.specs.State.{NodeState, no_flow, Effect, nothing, with_ids}
 use Rattle.net_model.specs.Steps.{Done, opening, sends, receives, takes, verifies, reserves, finds, notarises, records_in, records_by, vault_at, goes_on, onwards, place, returns, fails, performed, lapsed, lapses, started, answering, answered_with, arrived, meant_of, effect_of, live, live_at}
 use Rattle.session_wire.specs.Rules.{is_no_peer, has_many, is_next, is_new_key, owned, owned_by, is_owner}
-use Rattle.net_model.proofs.Basics.{some_eq, from_some, from_map, from_then, from_cond}
+use Rattle.net_model.proofs.Basics.{from_some, from_map, from_then, from_cond}
 use Rattle.net_model.proofs.Effects.{effect_meant}
 
 -- results that hold no tag

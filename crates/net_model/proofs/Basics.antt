@@ -1,8 +1,12 @@
 -- Small facts on options and lists.
-use Rattle.std.proofs.Common.{◌≡◌, ℕ, zero, suc, ◌<◌, ◌⊎◌, inl, inr, List, [], ◌∷◌, ◌++◌, Option, Some, None, Bool, true, false, cond, map, find, length, arith, option_map, option_and_then, replicate, slice_get, slice_set, refl, ap, subst, ◌&&◌}
-
-pub some_eq : {A : Type 0} {a b : A} → Some a ≡ Some b → a ≡ b
-some_eq h = cc
+use Rattle.std.proofs.Common.{◌≡◌, ℕ, zero, suc, ◌⊎◌, inl, inr, List, [], ◌∷◌, ◌++◌, Option, Some, None, Bool, true, false, cond, find, option_map, option_and_then, replicate, slice_get, slice_set, refl, ap, subst}
+use Rattle.std.specs.Prelude.{option_to_list}
+use Rattle.net_base.specs.declared.causes.Cause.{Cause}
+use Rattle.net_base.specs.declared.causes.Event.{Event}
+use Rattle.net_base.specs.declared.causes.Event.TheVariants as event
+use Rattle.net_base.proofs.Options.{some_eq}
+use Rattle.net_model.specs.State.{NodeState, Effect, sessions_on, apply_effect}
+use Rattle.net_model.specs.Runs.{accepts, item_for}
 
 pub from_some : {A : Type 0} (P : A → Type 0) {a b : A} → Some a ≡ Some b → P a → P b
 from_some P h p = subst P (some_eq h) p
@@ -21,20 +25,6 @@ from_then P f (Some a) b h p = p a refl h
 pub from_cond : {A : Type 0} (P : Type 0) (t : Bool) (o : Option A) (a : A) → cond t o None ≡ Some a → (t ≡ true → o ≡ Some a → P) → P
 from_cond P true o a h p = p refl h
 from_cond P false o a h p = cc
-
-pub cond_all : {A : Type 0} (P : A → Type 0) (t : Bool) (x y : A) → P x → P y → P (cond t x y)
-cond_all P true x y p q = p
-cond_all P false x y p q = q
-
-pub both_true : (a b : Bool) → a && b ≡ true → (a ≡ true) × (b ≡ true)
-both_true true b e = (refl, e)
-both_true false b e = (cc, cc)
-
-pub find_map : {A : Type 0} (test : A → Bool) (h : A → A) (xs : List A) → ((x : A) → test (h x) ≡ test x) → find test (map h xs) ≡ option_map h (find test xs)
-find_map test h [] same = refl
-find_map {A} test h (x ∷ xs) same =
-    rw (same x, find_map test h xs same)
-    (elim (test x) as (λ b. cond b (Some (h x)) (option_map h (find test xs)) ≡ option_map h (cond b (Some x) (find test xs))) [ true ↦ refl | false ↦ refl ])
 
 pub find_before : {A : Type 0} (test : A → Bool) (xs ys : List A) (a : A) → find test xs ≡ Some a → find test (xs ++ ys) ≡ Some a
 find_before test [] ys a h = cc
@@ -72,19 +62,30 @@ list_ext [] (y ∷ ys) h = let e = h 0 in cc
 list_ext (x ∷ xs) [] h = let e = h 0 in cc
 list_ext (x ∷ xs) (y ∷ ys) h = let e : x ≡ y = some_eq (h 0) in let f = list_ext xs ys (λ n. h (suc n)) in cc
 
--- what was written stands there
-pub set_same : {A : Type 0} (xs : List A) (p : ℕ) (x y : A) → slice_get xs p ≡ Some x → slice_get (slice_set xs p y) p ≡ Some y
-set_same [] p x y h = cc
-set_same (z ∷ xs) zero x y h = refl
-set_same (z ∷ xs) (suc p) x y h = set_same xs p x y h
-
-pub get_below : {A : Type 0} (xs : List A) (n : ℕ) → n < length xs → (a : A) × (slice_get xs n ≡ Some a)
-get_below [] n h = absurd (omega arith)
-get_below (x ∷ xs) zero h = (x, refl)
-get_below (x ∷ xs) (suc n) h = get_below xs n (omega arith)
-
 -- what stands in a list of one element
 pub fresh_get : {A : Type 0} (n q : ℕ) (x y : A) → slice_get (replicate n x) q ≡ Some y → x ≡ y
 fresh_get zero q x y h = cc
 fresh_get (suc n) zero x y h = some_eq h
 fresh_get (suc n) (suc q) x y h = fresh_get n q x y h
+
+-- ---- what an effect makes of the parts of a state
+
+pub apply_entries : {F : Type 0} (s : NodeState F) (cause : Cause) (e : Effect F) → (apply_effect s cause e).entries ≡ s.entries ++ option_to_list e.change.booked
+unfolding apply_effect
+apply_entries s cause e = refl
+
+pub apply_sessions : {F : Type 0} (s : NodeState F) (cause : Cause) (e : Effect F) → (apply_effect s cause e).sessions ≡ sessions_on cause e s.sessions
+unfolding apply_effect
+apply_sessions s cause e = refl
+
+pub apply_stamp : {F : Type 0} (s : NodeState F) (cause : Cause) (e : Effect F) → (apply_effect s cause e).stamp ≡ cause.stamp
+unfolding apply_effect
+apply_stamp s cause e = refl
+
+-- an event that accepts no item has none
+pub no_item : {F : Type 0} (net : List (NodeState F)) (p : ℕ) (s : NodeState F) (ev : Event) → accepts ev ≡ false → item_for net p s ev ≡ None
+no_item net p s (event.Answer key) a = cc
+no_item net p s (event.Arrive key direction number) a = cc
+no_item net p s (event.Start f class args) a = refl
+no_item net p s (event.Move f) a = refl
+no_item net p s (event.Lapse f) a = refl

@@ -6,6 +6,7 @@ use Rattle.net_base.specs.declared.values.Hash32.{Hash32}
 use Rattle.net_base.specs.declared.values.Party.{Party}
 use Rattle.net_base.specs.declared.values.Moment.{Moment}
 use Rattle.net_base.specs.declared.names.Identity.{Identity}
+use Rattle.net_base.proofs.Options.{some_eq}
 use Rattle.ledger_types.specs.declared.notary.Entry.{Entry}
 use Rattle.ledger_types.specs.declared.notary.Request.{Request}
 use Rattle.session_wire.specs.declared.body.Body.{Body}
@@ -18,7 +19,7 @@ use Rattle.net_model.specs.Steps.{Done, effect_of, booked_by, body_in, answering
 use Rattle.net_model.specs.Runs.{IsLocalFrom, IsLocal, item_for, net_step, fresh_net, run_from, run_of}
 use Rattle.net_model.specs.Books.{BooksOfRuns, BooksOfJournals}
 use Rattle.net_model.proofs.Booked.{added}
-use Rattle.net_model.proofs.Basics.{some_eq, from_then, get_set, fresh_get}
+use Rattle.net_model.proofs.Basics.{from_then, get_set, fresh_get, apply_entries}
 use Rattle.net_model.proofs.Local.{net_taken}
 use Rattle.net_model.proofs.Effects.{step_taken}
 use Rattle.net_model.proofs.Acts.{Performs, tells, opens_to, sends_on, takes_from, has_found, has_tagged, has_locked, has_answered, has_recorded, Gives, goes, pushed, popped, finished, failed, Does, starts, answers_to, arrives, acts, effect_does}
@@ -79,10 +80,6 @@ module _ {F : Type 0} (w : Environment F) (me : ℕ) (s : NodeState F) (now : �
 
   replied_booked : (change : Change) → IsReplied w me s now change → (b : Entry) → change.booked ≡ Some b → IsBooked w.mark (identity w me) s.entries b
   replied_booked change r b h = ⊎_elim (λ k. let no : None ≡ Some b = sym k ∙ h in cc) (λ k. asked k.0 b (sym k.1 ∙ h)) r
-
-apply_entries : {F : Type 0} (s : NodeState F) (cause : Cause) (e : Effect F) → (apply_effect s cause e).entries ≡ s.entries ++ option_to_list e.change.booked
-unfolding apply_effect
-apply_entries s cause e = refl
 
 pub step_book : {F : Type 0} (w : Environment F) (p : ℕ) (s : NodeState F) (cause : Cause) (body : Option Body) (e : Effect F) → effect_of w p s cause.moment.0 cause.event body ≡ Some e → IsBook w.mark (identity w p) s.entries → IsBook w.mark (identity w p) (apply_effect s cause e).entries
 step_book w p s cause body e h book =

@@ -4,11 +4,12 @@ use Rattle.net_base.specs.declared.values.Hash32.{Hash32}
 use Rattle.net_base.specs.declared.values.Party.{Party}
 use Rattle.net_base.specs.declared.values.Moment.{Moment}
 use Rattle.net_base.specs.declared.names.Identity.{Identity}
+use Rattle.net_base.proofs.Options.{some_eq}
 use Rattle.ledger_types.specs.declared.notary.Request.{Request}
 use Rattle.ledger_types.specs.declared.notary.Entry.{Entry}
 use Rattle.ledger_types.specs.Notary.{repeats, is_notary, reply_over, reply, entry_of}
 use Rattle.net_model.specs.Steps.{booked_by}
-use Rattle.net_model.proofs.Basics.{some_eq, from_cond}
+use Rattle.net_model.proofs.Basics.{from_cond}
 
 -- the entry is the one of a fresh answer: the node is the notary, and no entry repeats the request
 pub record Added (mark : Party → Hash32 → Hash32) (me : Identity) (entries : List Entry) (q : Request) (now : Moment) (e : Entry) : Type 0 where

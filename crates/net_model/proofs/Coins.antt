@@ -1,25 +1,25 @@
 -- Coins that are reserved are coins of the vault, and none is reserved twice.
 use Rattle.std.proofs.Common.{◌≡◌, ℕ, ◌+◌, ◌-◌, ◌<◌, List, [], ◌∷◌, ◌++◌, Some, None, Bool, true, false, cond, ◌==◌, ◌&&◌, not, map, filter, take, drop, option_map, refl, sym, ap, subst, ◌∙◌, arith, append_assoc, take-append-drop}
 use Rattle.std.specs.List.{list_all, list_any}
-use Rattle.std.proofs.lemmas.Bool.{and_parts, and_from, and_left, and_right, or_parts, or_left, or_right, or_from, not-true, not_from_false, eq-eqb, ne_eqb}
-use Rattle.std.proofs.lemmas.Slice.Eq.{bytes_eq-Decides}
+use Rattle.std.proofs.lemmas.Bool.{and_parts, and_from, and_left, and_right, or_parts, or_left, or_right, or_from, not-true, not_from_false, ne_eqb}
 use Rattle.net_base.specs.declared.values.Hash32.{Hash32}
 use Rattle.net_base.specs.declared.names.StateRef.{StateRef}
 use Rattle.net_base.specs.declared.names.Token.{Token}
-use Rattle.ledger_types.specs.declared.state.StateData.{StateData}
 use Rattle.ledger_types.specs.declared.state.StateData.TheVariants as data_of
 use Rattle.ledger_types.specs.declared.state.TxState.{TxState}
 use Rattle.net_base.specs.declared.values.Party.{Party}
+use Rattle.net_base.proofs.Lists.{passes_weaken}
 use Rattle.ledger_types.specs.declared.tx.SignedTx.{SignedTx}
 use Rattle.ledger_types.specs.declared.held.Held.{Held}
 use Rattle.ledger_types.specs.Names.{hash_eq, ref_eq}
-use Rattle.ledger_types.specs.Vaults.{Lock, outputs_from, all_outputs, is_relevant, is_consumed, vault_of, is_cash, is_cash_of, cash_amount, is_free, is_coin, is_coin_of, coins_of, least_prefix, reserved}
+use Rattle.ledger_types.specs.Vaults.{Lock, outputs_from, all_outputs, is_relevant, is_consumed, vault_of, cash_amount, is_coin, is_coin_of, coins_of, least_prefix, reserved}
 use Rattle.ledger_types.specs.Stores.{is_stored, untagged}
 use Rattle.ledger_types.specs.Signatures.{tx_id}
+use Rattle.ledger_types.proofs.Names.{ref_same}
+use Rattle.ledger_types.proofs.Coins.{coin_of_token}
 use Rattle.net_model.specs.State.{with_ids}
 use Rattle.net_model.specs.Fits.{names_coin, are_distinct, ids_differ}
 use Rattle.net_model.proofs.Basics.{from_some, from_map}
-use Rattle.net_model.proofs.Lists.{all_weaker}
 
 abbrev ref : Held → StateRef
 ref h = h.reference
@@ -77,35 +77,19 @@ distinct_filter P (x ∷ xs) h =
 
 -- ---- each of a list stands in it
 
-ref_same : (r : StateRef) → ref_eq r r ≡ true
-ref_same r = and_from _ _ ((bytes_eq-Decides r.id.0 r.id.0).1 refl) (eq-eqb r.index r.index refl)
-
 all_self : (xs : List Held) → list_all (λ x. list_any (λ h. ref_eq (ref x) h.reference) xs) xs ≡ true
 all_self [] = refl
-all_self (x ∷ xs) = and_from _ _ (or_left _ _ (ref_same (ref x))) (all_weaker (λ y. list_any (λ h. ref_eq (ref y) h.reference) xs) (λ y. list_any (λ h. ref_eq (ref y) h.reference) (x ∷ xs)) xs (λ y k. or_right _ _ k) (all_self xs))
+all_self (x ∷ xs) = and_from _ _ (or_left _ _ (ref_same (ref x))) (passes_weaken (λ y. list_any (λ h. ref_eq (ref y) h.reference) xs) (λ y. list_any (λ h. ref_eq (ref y) h.reference) (x ∷ xs)) xs (λ y k. or_right _ _ k) (all_self xs))
 
 all_refs : (test : StateRef → Bool) (xs : List Held) → list_all (λ h. test (ref h)) xs ≡ true → list_all test (map ref xs) ≡ true
 all_refs test [] h = refl
 all_refs test (x ∷ xs) h = let p = and_parts _ _ h in and_from _ _ p.0 (all_refs test xs p.1)
-
-cash_of_some : (token : Token) (d : StateData) → is_cash_of token d ≡ true → is_cash d ≡ true
-cash_of_some token (data_of.Cash other amount owner) h = refl
-cash_of_some token (data_of.TimeLock owner until) h = cc
-cash_of_some token (data_of.Fact issuer name value) h = cc
-cash_of_some token (data_of.Iou lender borrower other amount) h = cc
-
-coin_of : (token : Token) (h : Held) → is_coin_of token h ≡ true → is_coin h ≡ true
-coin_of token h k = let p = and_parts (is_cash_of token h.state.body) (is_free h) k in and_from _ _ (cash_of_some token h.state.body p.0) p.1
 
 -- ---- the vault names no state twice
 
 any_below : (locks : List Lock) (id : Hash32) (m n : ℕ) (states : List TxState) → m < n → list_any (ref_eq (record { id = id; index = m })) (map ref (outputs_from locks id n states)) ≡ false
 any_below locks id m n [] h = refl
 any_below locks id m n (x ∷ xs) h = or_from _ _ (and_right _ _ (ne_eqb m n (λ k. omega arith))) (any_below locks id m (n + 1) xs (omega arith))
-
-distinct_held : (locks : List Lock) (id : Hash32) (n : ℕ) (states : List TxState) → are_distinct (map ref (outputs_from locks id n states)) ≡ true
-distinct_held locks id n [] = refl
-distinct_held locks id n (x ∷ xs) = and_from _ _ (not_from_false _ (any_below locks id n (n + 1) xs (omega arith))) (distinct_held locks id (n + 1) xs)
 
 -- no reference of one id stands among those of another
 any_apart : (locks : List Lock) (r : StateRef) (id : Hash32) (n : ℕ) (states : List TxState) → hash_eq r.id id ≡ false → list_any (ref_eq r) (map ref (outputs_from locks id n states)) ≡ false
@@ -146,7 +130,7 @@ module _ (me : Party) (stored : List SignedTx) (locks : List Lock) (token : Toke
   pub reserved_coins : reserved token amount Vault ≡ Some list → list_all (names_coin Vault) (map ref list) ≡ true
   reserved_coins is =
       let test = λ (h : Held). names_coin Vault (ref h) in
-      let all = all_narrow test (is_coin_of token) is_coin Vault (coin_of token) (all_self (filter is_coin Vault)) in
+      let all = all_narrow test (is_coin_of token) is_coin Vault (coin_of_token token) (all_self (filter is_coin Vault)) in
       let f = coins_front is in
       all_refs (names_coin Vault) list (all_front test list f.rest (subst (λ (l : List Held). list_all test l ≡ true) f.is all))
 

@@ -1,11 +1,13 @@
 -- A node that commits a step keeps the journals local and matched.
-use Rattle.std.proofs.Common.{◌≡◌, ℕ, zero, suc, ⊎_elim, List, [], ◌∷◌, ◌++◌, Some, true, map, option_map, slice_get, slice_set, refl, sym, ap, subst, ◌∙◌}
+use Rattle.std.proofs.Common.{◌≡◌, ℕ, ⊎_elim, List, [], ◌∷◌, ◌++◌, Some, true, map, option_map, slice_get, slice_set, refl, sym, ap, subst, ◌∙◌}
 use Rattle.std.proofs.lemmas.Option.{slice_get-map}
+use Rattle.net_base.proofs.Lists.{map_set}
+use Rattle.net_base.proofs.Options.{some_eq}
 use Rattle.net_model.specs.Environment.{Environment}
 use Rattle.net_model.specs.State.{NodeState, Record, apply_effect, fresh, replay, replay_from}
 use Rattle.net_model.specs.Steps.{node_step}
 use Rattle.net_model.specs.Runs.{IsLocalFrom, IsLocal, AreLocal, IsMatchedFrom, IsMatched, IsItem, accepts, stamped, CommitsKeepLocal, CommitsKeepMatched}
-use Rattle.net_model.proofs.Basics.{some_eq, get_set}
+use Rattle.net_model.proofs.Basics.{get_set}
 use Rattle.net_model.proofs.Effects.{step_taken}
 use Rattle.net_model.proofs.Local.{NetGrows, set_grows, item_on}
 
@@ -27,11 +29,6 @@ matched_on : {F : Type 0} (t : ℕ) (old new : List (NodeState F)) (p : ℕ) (s 
 matched_on t old new p s [] g h = tt
 matched_on t old new p s (r ∷ rs) g h =
     (λ a. let i = h.0 a in record { item = i.item; is_sent = item_on t old new p s r.cause.event i.item g i.is_sent; is_body = i.is_body; in_turn = i.in_turn }, matched_on t old new p (apply_effect s r.cause r.effect) rs g h.1)
-
-map_set : {X Y : Type 0} (f : X → Y) (xs : List X) (p : ℕ) (x : X) → map f (slice_set xs p x) ≡ slice_set (map f xs) p (f x)
-map_set f [] p x = refl
-map_set f (y ∷ ys) zero x = refl
-map_set f (y ∷ ys) (suc p) x = ap (λ (l : List _). f y ∷ l) (map_set f ys p x)
 
 module _ {F : Type 0} (journals : List (List (Record F))) (p : ℕ) (records : List (Record F)) (r : Record F) (is : slice_get journals p ≡ Some records) where
   abbrev More : List (List (Record F))

@@ -6,6 +6,7 @@ use Rattle.net_base.specs.declared.values.Party.{Party}
 use Rattle.net_base.specs.declared.causes.Cause.{Cause}
 use Rattle.net_base.specs.declared.causes.Event.{Event}
 use Rattle.net_base.specs.declared.causes.Event.TheVariants as event
+use Rattle.net_base.proofs.Options.{cond_all, some_eq}
 use Rattle.ledger_types.specs.declared.tx.Tx.{Tx}
 use Rattle.ledger_types.specs.declared.tx.Resolved.{Resolved}
 use Rattle.ledger_types.specs.declared.held.Held.{Held}
@@ -31,7 +32,7 @@ use Rattle.net_model.specs.State.{NodeState, Effect, nothing, with_ids, apply_ef
 use Rattle.net_model.specs.Steps.{Done, opens, opening, sends, receives, takes, verifies, reserves, vault_at, finds, signs_id, records, records_in, records_by, goes_on, onwards, pushes, returns, performed, lapsed, started, answering, answered_with, is_built, meant_of, effect_of, node_step, body_in, stamp_in, in_order, live_at}
 use Rattle.session_wire.specs.Rules.{is_no_peer, has_many, is_next, is_new_key, owned}
 use Rattle.net_model.specs.Runs.{accepts, StepIsItsEffect}
-use Rattle.net_model.proofs.Basics.{some_eq, from_some, from_map, from_then, from_cond, cond_all}
+use Rattle.net_model.proofs.Basics.{from_some, from_map, from_then, from_cond}
 
 -- ---- no act accepts an item
 

@@ -1,25 +1,23 @@
 -- Journals are those of a run exactly where each is its node's own and they are matched.
 use Rattle.std.proofs.Common.{◌≡◌, ℕ, zero, suc, ◌+◌, ◌<◌, ◌≤◌, ◌↔◌, List, [], ◌∷◌, Option, Some, None, Bool, true, false, cond, ◌==◌, max, map, option_map, option_and_then, replicate, length, slice_get, slice_set, refl, sym, ap, subst, ◌∙◌, arith}
-use Rattle.std.proofs.lemmas.Bool.{eqb-true}
+use Rattle.std.proofs.lemmas.Bool.{eqb-true, and_parts}
 use Rattle.std.proofs.lemmas.Option.{slice_get-map}
 use Rattle.net_base.specs.declared.causes.Cause.{Cause}
+use Rattle.net_base.proofs.Lists.{get_there, get_less, all_from_get}
+use Rattle.net_base.proofs.Options.{some_eq}
 use Rattle.net_model.specs.Environment.{Environment}
-use Rattle.net_model.specs.State.{NodeState, Effect, Record, apply_effect, fresh, replay, replay_from}
+use Rattle.net_model.specs.State.{NodeState, Record, apply_effect, fresh, replay, replay_from}
 use Rattle.net_model.specs.Steps.{in_order}
 use Rattle.net_model.specs.Runs.{run_from, run_of, fresh_net, Follows, IsFaithful, IsLocalFrom, AreLocal, IsMatched, merge, network_of, record_stamp, FaithfulExactly, FaithfulRun}
-use Rattle.net_model.proofs.Basics.{some_eq, both_true, set_same, list_ext}
+use Rattle.net_model.proofs.Basics.{list_ext, apply_stamp}
 use Rattle.net_model.proofs.Effects.{step_taken}
 use Rattle.net_model.proofs.Local.{applied, applied_at, applied_is, ends, of_node, Rising, AreBelow, IsOwn, net_taken, get_applied, get_other, follows_own, own_follows}
-use Rattle.net_model.proofs.Merging.{merge_map, Climbs, merge_keeps, merge_below, merge_rising, all_from_get}
+use Rattle.net_model.proofs.Merging.{merge_map, Climbs, merge_keeps, merge_below, merge_rising}
 
 -- ---- stamps rise
 
-apply_stamp : {F : Type 0} (s : NodeState F) (cause : Cause) (e : Effect F) → (apply_effect s cause e).stamp ≡ cause.stamp
-unfolding apply_effect
-apply_stamp s cause e = refl
-
 later : {F : Type 0} (s : NodeState F) (cause : Cause) (n : ℕ) → in_order s cause n ≡ true → s.stamp < cause.stamp
-later s cause n h = let e = eqb-true cause.stamp (max s.stamp n + 1) (both_true _ _ h).0 in omega arith
+later s cause n h = let e = eqb-true cause.stamp (max s.stamp n + 1) (and_parts _ _ h).0 in omega arith
 
 local_climbs : {F : Type 0} (w : Environment F) (p : ℕ) (s : NodeState F) (rs : List (Record F)) → IsLocalFrom w p s rs → Climbs s.stamp rs
 local_climbs w p s [] h = tt
@@ -56,7 +54,7 @@ get_step {F} net x xs q false (Some s) e is =
     ap (option_map {U = NodeState F} (λ t. replay_from t (of_node q xs))) (sym (ap (λ (n : List (NodeState F)). slice_get n q) (applied_is net x s is)) ∙ get_other net x s q is e)
 get_step {F} net x xs q true (Some s) e is =
     let there : q ≡ x.0 = eqb-true q x.0 e in
-    let new : slice_get (slice_set net x.0 (apply_effect s x.1.cause x.1.effect)) q ≡ Some (apply_effect s x.1.cause x.1.effect) = ap (slice_get (slice_set net x.0 (apply_effect s x.1.cause x.1.effect))) there ∙ set_same net x.0 s _ is in
+    let new : slice_get (slice_set net x.0 (apply_effect s x.1.cause x.1.effect)) q ≡ Some (apply_effect s x.1.cause x.1.effect) = ap (slice_get (slice_set net x.0 (apply_effect s x.1.cause x.1.effect))) there ∙ get_there net x.0 s _ is in
     let old : slice_get net q ≡ Some s = ap (slice_get net) there ∙ is in
     rw (new, old)
 
@@ -77,11 +75,6 @@ none_replicate : {X : Type 0} (n q : ℕ) (x : X) → n ≤ q → slice_get (rep
 none_replicate zero q x h = refl
 none_replicate (suc n) zero x h = absurd (omega arith)
 none_replicate (suc n) (suc q) x h = none_replicate n q x (omega arith)
-
-pub get_less : {X : Type 0} (xs : List X) (q : ℕ) (x : X) → slice_get xs q ≡ Some x → q < length xs
-get_less [] q x h = cc
-get_less (y ∷ ys) zero x h = omega arith
-get_less (y ∷ ys) (suc q) x h = let k = get_less ys q x h in omega arith
 
 get_none : {X : Type 0} (xs : List X) (q : ℕ) → slice_get xs q ≡ None → length xs ≤ q
 get_none [] q h = omega arith

@@ -1,5 +1,5 @@
 -- Each cause but Start lowers what a network has left.
-use Rattle.std.proofs.Common.{◌≡◌, ℕ, zero, suc, ◌+◌, ◌<◌, ◌≤◌, ◌⊎◌, ⊎_elim, List, [], ◌∷◌, ◌++◌, Option, Some, None, Bool, true, false, cond, ◌==◌, not, map, filter, option_and_then, option_to_list, slice_get, slice_set, length, refl, sym, ap, subst, ◌∙◌, arith}
+use Rattle.std.proofs.Common.{◌≡◌, ℕ, ◌+◌, ◌≤◌, ◌⊎◌, ⊎_elim, List, [], ◌∷◌, ◌++◌, Option, Some, None, Bool, true, false, cond, ◌==◌, not, map, filter, option_and_then, option_to_list, slice_get, slice_set, length, refl, sym, ap, subst, ◌∙◌, arith}
 use Rattle.std.specs.Option.{option_len}
 use Rattle.std.specs.List.{list_all}
 use Rattle.std.proofs.lemmas.Bool.{and_parts, not-true, ne_eqb}
@@ -8,6 +8,8 @@ use Rattle.net_base.specs.declared.values.Party.{Party}
 use Rattle.net_base.specs.declared.causes.Cause.{Cause}
 use Rattle.net_base.specs.declared.causes.Event.{Event}
 use Rattle.net_base.specs.declared.causes.Event.TheVariants as event
+use Rattle.net_base.proofs.Lists.{get_less}
+use Rattle.net_base.proofs.Options.{some_eq}
 use Rattle.session_wire.specs.declared.body.Body.{Body}
 use Rattle.session_wire.specs.declared.body.Body.TheVariants as body_of
 use Rattle.session_wire.specs.declared.change.SentItem.{SentItem}
@@ -26,7 +28,7 @@ use Rattle.net_model.specs.Steps.{Done, live_at, checkpoint_of, place}
 use Rattle.net_model.specs.Fits.{keys_differ, IsSound, Fits}
 use Rattle.flow_machine.specs.Flows.{cost, Falls, is_fair}
 use Rattle.net_model.specs.Left.{total, one_of, owns, flow_is_fair, flow_left, item_left, node_left}
-use Rattle.net_model.proofs.Basics.{some_eq, from_then}
+use Rattle.net_model.proofs.Basics.{from_then}
 use Rattle.net_model.proofs.Acts.{Performs, tells, opens_to, sends_on, takes_from, has_found, has_tagged, has_locked, has_answered, has_recorded, ends_top, Gives, goes, pushed, popped, finished, failed}
 use Rattle.net_model.proofs.Sound.{keys_map, at_key, at_key_same, opened_kept, came_kept, came_count}
 use Rattle.net_model.proofs.Totals.{total_append, total_set_le, total_same, Items, items_append, items_quiet, items_one}
@@ -192,12 +194,7 @@ module _ {F : Type 0} (w : Environment F) (net : List (NodeState F)) where
   unfolding apply_effect
   node_parts s cause e = refl
 
-pub get_less : {X : Type 0} (xs : List X) (q : ℕ) (x : X) → slice_get xs q ≡ Some x → q < length xs
-get_less [] q x h = cc
-get_less (y ∷ ys) zero x h = omega arith
-get_less (y ∷ ys) (suc q) x h = let k = get_less ys q x h in omega arith
-
-came_none : (ev : Event) (f : ℕ) (bodies : List Body) (owner : Option ℕ) (ss : List Session) → (ev ≡ event.Move f) ⊎ (ev ≡ event.Lapse f) → came_on ev bodies owner ss ≡ ss
+pub came_none : (ev : Event) (f : ℕ) (bodies : List Body) (owner : Option ℕ) (ss : List Session) → (ev ≡ event.Move f) ⊎ (ev ≡ event.Lapse f) → came_on ev bodies owner ss ≡ ss
 came_none ev f bodies owner ss h = ⊎_elim (λ k. ap (λ (v : Event). came_on v bodies owner ss) k) (λ k. ap (λ (v : Event). came_on v bodies owner ss) k) h
 
 checkpoint_live : {F : Type 0} (x : FlowState F) (at : Checkpoint F) → checkpoint_of x ≡ Some at → x ≡ state.Live at

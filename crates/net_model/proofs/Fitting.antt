@@ -7,6 +7,8 @@ use Rattle.net_base.specs.declared.values.Party.{Party}
 use Rattle.net_base.specs.declared.causes.Cause.{Cause}
 use Rattle.net_base.specs.declared.causes.Event.{Event}
 use Rattle.net_base.specs.declared.causes.Event.TheVariants as event
+use Rattle.net_base.proofs.Options.{none_of, some_eq}
+use Rattle.net_base.proofs.Lists.{find_map, find_test, find_push, found_passes}
 use Rattle.ledger_types.specs.declared.tx.Resolved.{Resolved}
 use Rattle.ledger_types.specs.declared.tx.SignedTx.{SignedTx}
 use Rattle.ledger_types.specs.declared.notary.Request.{Request}
@@ -19,6 +21,7 @@ use Rattle.flow_machine.specs.declared.acts.Act.{Act}
 use Rattle.flow_machine.specs.declared.flows.Checkpoint.{Checkpoint}
 use Rattle.session_wire.specs.Sessions.{Sent, Session, changed_at, first_item, is_confirm, key_eq, new_session, next_item, session_of, with_sent}
 use Rattle.session_wire.specs.Rules.{owned, next_key, sessions_of, is_no_peer, has_many, is_new_key, direction_out, direction_in, item_on, is_lawful, is_owner, Continues, FitsSent, FitsTaken}
+use Rattle.session_wire.proofs.Keys.{key_exact, key_same}
 use Rattle.net_model.specs.Environment.{Environment, party, identity}
 use Rattle.ledger_types.specs.Stores.{is_stored, resolved_of, untagged}
 use Rattle.ledger_types.specs.Signatures.{tx_id}
@@ -27,39 +30,14 @@ use Rattle.ledger_types.specs.Notary.{repeats, reply}
 use Rattle.net_model.specs.State.{NodeState, Change, Effect, nothing, with_ids, came_on, flow_of}
 use Rattle.net_model.specs.Steps.{Done, opening, booked_by, vault_at, answering, live_at, place, node_step, stamp_in, body_in}
 use Rattle.net_model.specs.Fits.{IsNextOf, AcceptsInit, GoesOn, FitsEvent, names_coin, FitsBooked, FitsChange, Fits, keys_differ, is_counted, IsSound, StepsFit}
-use Rattle.net_model.proofs.Basics.{some_eq, from_map, find_map}
+use Rattle.net_model.proofs.Basics.{from_map}
 use Rattle.net_model.proofs.Booked.{added}
 use Rattle.net_model.proofs.Recorded.{resolved_there}
 use Rattle.net_model.proofs.Coins.{reserved_coins, reserved_once}
 use Rattle.net_model.proofs.Effects.{step_taken}
 use Rattle.net_model.proofs.Acts.{Performs, tells, opens_to, sends_on, takes_from, has_found, has_tagged, has_locked, has_answered, has_recorded, Gives, goes, pushed, popped, finished, failed, Does, starts, answers_to, arrives, acts, effect_does, owned_there}
-use Rattle.net_model.proofs.Lists.{all_find}
 
 -- ---- keys
-
-pub key_true : (a b : Key) → key_eq a b ≡ true → a ≡ b
-key_true a b h =
-    let k = and_parts _ _ h in
-    let e = eqb-true a.initiator.0 b.initiator.0 k.0 in
-    let f = eqb-true a.number b.number k.1 in
-    ap (λ (n : ℕ). record { initiator = record { 0 = n }; number = a.number }) e ∙ ap (λ (n : ℕ). record { initiator = b.initiator; number = n }) f
-
-pub key_same : (a : Key) → key_eq a a ≡ true
-key_same a = and_from _ _ (eq-eqb a.initiator.0 a.initiator.0 refl) (eq-eqb a.number a.number refl)
-
-pub find_test : {X : Type 0} (P : X → Bool) (xs : List X) (x : X) → find P xs ≡ Some x → P x ≡ true
-find_test P [] x h = cc
-find_test {X} P (y ∷ xs) x h =
-    (elim (P y) as (λ b. P y ≡ b → cond b (Some y) (find P xs) ≡ Some x → P x ≡ true)
-    [ true ↦ λ e k. subst (λ (z : X). P z ≡ true) (some_eq k) e | false ↦ λ e k. find_test P xs x k ]) refl h
-
-pub find_none_append : {X : Type 0} (P : X → Bool) (xs : List X) (y : X) → find P xs ≡ None → P y ≡ true → find P (xs ++ y ∷ []) ≡ Some y
-find_none_append P [] y h k = rw k
-find_none_append {X} P (x ∷ xs) y h k = (elim (P x) as (λ b. cond b (Some x) (find P xs) ≡ None → cond b (Some x) (find P (xs ++ y ∷ [])) ≡ Some y) [ true ↦ λ l. cc | false ↦ λ l. find_none_append P xs y l k ]) h
-
-pub none_of : {X : Type 0} (o : Option X) → is_none o ≡ true → o ≡ None
-none_of None h = refl
-none_of (Some x) h = cc
 
 length_filter : {X : Type 0} (P : X → Bool) (xs : List X) (y : X) → P y ≡ true → length (filter P (xs ++ y ∷ [])) ≡ length (filter P xs) + 1
 length_filter P [] y h = rw h
@@ -97,7 +75,7 @@ module _ {F : Type 0} (w : Environment F) (me : ℕ) (s : NodeState F) (stamp : 
     opens_fit : (f : ℕ) (to : Party) (class : ℕ) (first : Value) → is_no_peer w.nodes (party me) to ≡ false → has_many f s.sessions ≡ false → FitsChange w me s stamp s.sessions (Some f) (opening me s.sessions to class first).1
     opens_fit f to class first other few =
         let new = new_session (next_key (party me) s.sessions) to (Some f) [] in
-        let there = find_none_append (λ x. key_eq (next_key (party me) s.sessions) x.key) s.sessions new next_free (key_same (next_key (party me) s.sessions)) in
+        let there = find_push (λ x. key_eq (next_key (party me) s.sessions) x.key) s.sessions new next_free (key_same (next_key (party me) s.sessions)) in
         let apart = or_parts (to.0 == me) (nat_le w.nodes to.0) other in
         let less = leb-false 64 (length (sessions_of f s.sessions)) few in
         let more = length_filter (λ session. is_owner f session.owner) s.sessions new (eq-eqb f f refl) in
@@ -118,11 +96,11 @@ module _ {F : Type 0} (w : Environment F) (me : ℕ) (s : NodeState F) (stamp : 
         }
 
     begun_at : (key : Key) (session : Session) → session_of key s.sessions ≡ Some session → (length session.sent == 0) ≡ false
-    begun_at key session h = not-true _ (all_find (λ x. not (length x.sent == 0)) (λ x. key_eq key x.key) s.sessions session sound.begun h)
+    begun_at key session h = not-true _ (found_passes (λ x. not (length x.sent == 0)) (λ x. key_eq key x.key) s.sessions session sound.begun h)
 
     -- the session is found by its own key
     own_key : (key : Key) (session : Session) → session_of key s.sessions ≡ Some session → session_of session.key s.sessions ≡ Some session
-    own_key key session h = let e = key_true key session.key (find_test (λ x. key_eq key x.key) s.sessions session h) in subst (λ (k : Key). session_of k s.sessions ≡ Some session) e h
+    own_key key session h = let e = key_exact key session.key (find_test (λ x. key_eq key x.key) s.sessions session h) in subst (λ (k : Key). session_of k s.sessions ≡ Some session) e h
 
     -- a body that stands behind the first items
     abbrev IsLate : Body → Type 0
@@ -233,7 +211,7 @@ module _ {F : Type 0} (w : Environment F) (me : ℕ) (s : NodeState F) (stamp : 
     stand_filter Q sessions (x ∷ xs) h = elim (Q x) as (λ b. Stand sessions (cond b (x ∷ filter Q xs) (filter Q xs))) [ true ↦ (h.0, stand_filter Q sessions xs h.1) | false ↦ stand_filter Q sessions xs h.1 ]
 
     key_turned : (a b : Key) → key_eq a b ≡ false → key_eq b a ≡ false
-    key_turned a b h = false_from_ne_true _ (λ k. both_ways (key_eq a b) h (subst (λ (c : Key). key_eq c b ≡ true) (key_true b a k) (key_same b)))
+    key_turned a b h = false_from_ne_true _ (λ k. both_ways (key_eq a b) h (subst (λ (c : Key). key_eq c b ≡ true) (key_exact b a k) (key_same b)))
 
     stand_behind : (y : Session) (sessions xs : List Session) → list_any (λ x. key_eq y.key x.key) xs ≡ false → Stand sessions xs → Stand (y ∷ sessions) xs
     stand_behind y sessions [] free h = tt
@@ -307,7 +285,7 @@ module _ {F : Type 0} (w : Environment F) (me : ℕ) (s : NodeState F) (stamp : 
     answer_sends : (key : Key) (owner : Option ℕ) (init body : Body) → is_new_key w.nodes (party me) s.sessions key ≡ true → is_lawful 1 0 body ≡ true → FitsSent (party me) stamp (s.sessions ++ new_session key key.initiator owner (init ∷ []) ∷ []) (record { key = key; direction = 1; seq = 0; body = body } ∷ [])
     answer_sends key owner init body h lawful =
         let p = and_parts (is_none (session_of key s.sessions)) (not (is_no_peer w.nodes (party me) key.initiator)) h in
-        let there = find_none_append (λ x. key_eq key x.key) s.sessions (new_session key key.initiator owner (init ∷ [])) (none_of _ p.0) (key_same key) in
+        let there = find_push (λ x. key_eq key x.key) s.sessions (new_session key key.initiator owner (init ∷ [])) (none_of _ p.0) (key_same key) in
         let out : 1 ≡ direction_out (party me) key = let e : (key.initiator.0 == me) ≡ false = initiator_other w.nodes me s.sessions key h in rw e in
         (record { session = new_session key key.initiator owner (init ∷ []); stands = there; outgoing = out; next = refl; lawful = lawful }, tt)
 

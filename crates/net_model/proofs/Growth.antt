@@ -5,12 +5,14 @@ use Rattle.net_base.specs.declared.values.Party.{Party}
 use Rattle.net_base.specs.declared.causes.Cause.{Cause}
 use Rattle.net_base.specs.declared.causes.Event.{Event}
 use Rattle.net_base.specs.declared.causes.Event.TheVariants as event
+use Rattle.net_base.proofs.Options.{cond_all}
+use Rattle.net_base.proofs.Lists.{find_map}
 use Rattle.session_wire.specs.declared.body.Body.{Body}
 use Rattle.session_wire.specs.declared.change.SentItem.{SentItem}
 use Rattle.session_wire.specs.Sessions.{Sent, Session, changed_at, key_eq, opened_on, sent_on, session_of, taken_on, with_came, with_sent, with_taken}
 use Rattle.net_model.specs.State.{Effect, came_on, sessions_on, flow_of}
 use Rattle.net_model.specs.Runs.{sent_to}
-use Rattle.net_model.proofs.Basics.{find_map, find_before, find_last, get_before, get_last, cond_all}
+use Rattle.net_model.proofs.Basics.{find_before, find_last, get_before, get_last}
 
 abbrev pub item_in : List Session → ℕ → Key → ℕ → Option Sent
 item_in sessions me key n = sent_to me n (session_of key sessions)

@@ -6,6 +6,8 @@ use Rattle.net_base.specs.declared.names.Key.{Key}
 use Rattle.net_base.specs.declared.values.Hash32.{Hash32}
 use Rattle.net_base.specs.declared.names.Tag.{Tag}
 use Rattle.net_base.specs.declared.causes.Event.{Event}
+use Rattle.net_base.proofs.Lists.{found_passes}
+use Rattle.net_base.proofs.Options.{some_eq}
 use Rattle.ledger_types.specs.declared.tx.SignedTx.{SignedTx}
 use Rattle.ledger_types.specs.declared.notary.Entry.{Entry}
 use Rattle.ledger_types.specs.declared.notary.Request.{Request}
@@ -29,10 +31,10 @@ use Rattle.net_model.specs.Steps.{Done, handed, onwards, booked_by, place, answe
 use Rattle.session_wire.specs.Rules.{sessions_of, item_on}
 use Rattle.flow_machine.specs.Tags.{answer_tags, value_tags, act_tags, resumed_tags, KeepsTags, BeginsBare}
 use Rattle.net_model.specs.Tags.{body_tags, flow_passes, body_passes, ending_passes, session_passes, entry_passes, Passes}
-use Rattle.net_model.proofs.Basics.{some_eq, from_some, from_map, from_then}
+use Rattle.net_model.proofs.Basics.{from_some, from_map, from_then}
 use Rattle.net_model.proofs.Acts.{IsTold, judged, short, absent, ids, recorded, refused, timed, Performs, tells, opens_to, sends_on, takes_from, has_found, has_tagged, has_locked, has_answered, has_recorded, Gives, goes, pushed, popped, finished, failed, Does, starts, answers_to, arrives, acts, owned_there}
 use Rattle.net_model.proofs.Booked.{added}
-use Rattle.net_model.proofs.Lists.{all_option, all_get, all_find}
+use Rattle.net_model.proofs.Lists.{all_option, all_get}
 use Rattle.net_model.proofs.Passing.{Brings, part_passes}
 
 told_bare : (r : Resumed) → IsTold r → resumed_tags r ≡ []
@@ -118,7 +120,7 @@ module _ {F : Type 0} (w : Environment F) (me : ℕ) (s : NodeState F) (now : �
       bring d _ e (record { resumed = refl; sent = and_from _ _ p refl; came = refl; recorded = refl; booked = refl })
   done_brings f a d h answers (takes_from key session next i j e) =
       let there = owned_there f (session_of key s.sessions) session i in
-      let good = all_find (session_passes test) (λ x. key_eq key x.key) s.sessions session passes.sessions there in
+      let good = found_passes (session_passes test) (λ x. key_eq key x.key) s.sessions session passes.sessions there in
       let p = next_passes test session session.ending next refl good j in
       bring d _ e (record { resumed = ap (list_all test) (handed_tags next.1) ∙ p; sent = refl; came = refl; recorded = refl; booked = refl })
   done_brings f a d h answers (has_found id stx i e) =

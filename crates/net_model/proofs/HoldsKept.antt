@@ -2,7 +2,6 @@
 use Rattle.std.proofs.Common.{◌≡◌, ℕ, ◌⊎◌, inl, inr, ⊎_elim, List, [], ◌∷◌, ◌++◌, Option, Some, None, Bool, true, false, cond, ◌==◌, not, find, option_to_list, slice_get, slice_set, refl, sym, ap, subst, ◌∙◌, append-nil}
 use Rattle.std.specs.List.{list_all, list_any}
 use Rattle.std.proofs.lemmas.Bool.{and_parts, and_from, or_cases, or_left, or_right, not_from_false, eqb-true, eqb-false, eq-eqb, ne_eqb}
-use Rattle.std.proofs.lemmas.Slice.Eq.{bytes_eq-Decides}
 use Rattle.net_base.specs.declared.names.Key.{Key}
 use Rattle.net_base.specs.declared.values.Hash32.{Hash32}
 use Rattle.net_base.specs.declared.values.Party.{Party}
@@ -20,25 +19,28 @@ use Rattle.ledger_types.specs.declared.notary.NotaryAnswer.TheVariants as answer
 use Rattle.session_wire.specs.declared.body.Body.{Body}
 use Rattle.flow_machine.specs.declared.flows.FlowState.{FlowState}
 use Rattle.flow_machine.specs.declared.flows.FlowState.TheVariants as state
-use Rattle.ledger_types.specs.Names.{party_eq, hash_eq, is_party}
+use Rattle.ledger_types.specs.Names.{party_eq, is_party}
 use Rattle.net_base.specs.declared.values.Moment.{Moment}
 use Rattle.net_base.specs.declared.names.Identity.{Identity}
+use Rattle.net_base.proofs.Lists.{get_there, any_append, any_push, found_passes, passes_weaken}
+use Rattle.net_base.proofs.Options.{some_eq}
 use Rattle.ledger_types.specs.declared.tx.Window.{Window}
 use Rattle.session_wire.specs.Sessions.{Sent, Session, key_eq, session_of}
 use Rattle.net_model.specs.Environment.{Environment, party, identity}
 use Rattle.flow_machine.specs.Machine.{Machine}
 use Rattle.ledger_types.specs.Notary.{repeats, tag_by, signs, is_notary, is_inside, has_good_tag, conflicts, answer_unsigned, answer_shown, answer_torn, reply_over, reply, entry_of}
 use Rattle.ledger_types.specs.Tears.{visible_of}
+use Rattle.ledger_types.proofs.Names.{hash_same}
 use Rattle.net_model.specs.State.{NodeState, Effect, apply_effect, fresh}
 use Rattle.net_model.specs.Steps.{booked_by, body_in}
 use Rattle.net_model.specs.Runs.{sent_to, item_from, item_for, net_step, fresh_net, run_from, run_of}
 use Rattle.flow_machine.specs.Tags.{answer_tags, KeepsTags, BeginsBare}
 use Rattle.net_model.specs.Tags.{flow_passes, body_passes, ending_passes, session_passes, entry_passes, Passes, is_good, entries_at, book_of, Holds, NotaryTagsHold}
-use Rattle.net_model.proofs.Basics.{some_eq, from_then, from_cond, get_set, set_same, fresh_get}
+use Rattle.net_model.proofs.Basics.{from_then, from_cond, get_set, fresh_get, apply_entries}
 use Rattle.net_model.proofs.Effects.{step_taken}
 use Rattle.net_model.proofs.Acts.{effect_does}
 use Rattle.net_model.proofs.Local.{net_taken, body_in_item}
-use Rattle.net_model.proofs.Lists.{all_find, all_get, all_weaker}
+use Rattle.net_model.proofs.Lists.{all_get}
 use Rattle.net_model.proofs.Passing.{applied_passes}
 use Rattle.net_model.proofs.Holding.{does_brings}
 
@@ -46,12 +48,12 @@ use Rattle.net_model.proofs.Holding.{does_brings}
 
 module _ {F : Type 0} (m : Machine F) (test other : Tag → Bool) (weaker : (tag : Tag) → test tag ≡ true → other tag ≡ true) where
   tags_weaker : (tags : List Tag) → list_all test tags ≡ true → list_all other tags ≡ true
-  tags_weaker tags h = all_weaker test other tags weaker h
+  tags_weaker tags h = passes_weaken test other tags weaker h
 
   flow_weaker : (x : FlowState F) → flow_passes m.tags test x ≡ true → flow_passes m.tags other x ≡ true
   flow_weaker (state.Live at) h =
       let p = and_parts _ _ h in let q = and_parts _ _ p.1 in
-      and_from _ _ (tags_weaker (m.tags at.stack.top) p.0) (and_from _ _ (all_weaker (λ x. list_all test (m.tags x)) (λ x. list_all other (m.tags x)) at.stack.below (λ x. tags_weaker (m.tags x)) q.0) (tags_weaker _ q.1))
+      and_from _ _ (tags_weaker (m.tags at.stack.top) p.0) (and_from _ _ (passes_weaken (λ x. list_all test (m.tags x)) (λ x. list_all other (m.tags x)) at.stack.below (λ x. tags_weaker (m.tags x)) q.0) (tags_weaker _ q.1))
   flow_weaker (state.Ended step class v) h = tags_weaker _ h
   flow_weaker (state.Failed step class code) h = refl
 
@@ -62,32 +64,24 @@ module _ {F : Type 0} (m : Machine F) (test other : Tag → Bool) (weaker : (tag
   session_weaker : (x : Session) → session_passes test x ≡ true → session_passes other x ≡ true
   session_weaker x h =
       let p = and_parts _ _ h in let q = and_parts _ _ p.1 in
-      and_from _ _ (all_weaker (λ (i : Sent). body_passes test i.body) (λ (i : Sent). body_passes other i.body) x.sent (λ i. tags_weaker _) p.0)
-      (and_from _ _ (all_weaker (body_passes test) (body_passes other) x.came (λ b. tags_weaker _) q.0) (ending_weaker x.ending q.1))
+      and_from _ _ (passes_weaken (λ (i : Sent). body_passes test i.body) (λ (i : Sent). body_passes other i.body) x.sent (λ i. tags_weaker _) p.0)
+      (and_from _ _ (passes_weaken (body_passes test) (body_passes other) x.came (λ b. tags_weaker _) q.0) (ending_weaker x.ending q.1))
 
   entry_weaker : (x : Entry) → entry_passes test x ≡ true → entry_passes other x ≡ true
   entry_weaker x h = let p = and_parts _ _ h in and_from _ _ (weaker _ p.0) (tags_weaker _ p.1)
 
   pub passes_weaker : (s : NodeState F) → Passes m test s → Passes m other s
   passes_weaker s h = record {
-    flows = all_weaker (flow_passes m.tags test) (flow_passes m.tags other) s.flows flow_weaker h.flows;
-    sessions = all_weaker (session_passes test) (session_passes other) s.sessions session_weaker h.sessions;
-    stored = all_weaker (λ (x : SignedTx). list_all test x.tags) (λ (x : SignedTx). list_all other x.tags) s.stored (λ x. tags_weaker x.tags) h.stored;
-    entries = all_weaker (entry_passes test) (entry_passes other) s.entries entry_weaker h.entries;
+    flows = passes_weaken (flow_passes m.tags test) (flow_passes m.tags other) s.flows flow_weaker h.flows;
+    sessions = passes_weaken (session_passes test) (session_passes other) s.sessions session_weaker h.sessions;
+    stored = passes_weaken (λ (x : SignedTx). list_all test x.tags) (λ (x : SignedTx). list_all other x.tags) s.stored (λ x. tags_weaker x.tags) h.stored;
+    entries = passes_weaken (entry_passes test) (entry_passes other) s.entries entry_weaker h.entries;
   }
 
 -- ---- the book of the network grows at its end
 
-any_more : {X : Type 0} (P : X → Bool) (xs ys : List X) → list_any P xs ≡ true → list_any P (xs ++ ys) ≡ true
-any_more P [] ys h = cc
-any_more P (x ∷ xs) ys h = ⊎_elim (λ p. or_left _ _ p) (λ p. or_right _ _ (any_more P xs ys p)) (or_cases _ _ h)
-
 good_more : {F : Type 0} (w : Environment F) (book more : List Entry) (tag : Tag) → is_good w book tag ≡ true → is_good w (book ++ more) tag ≡ true
-good_more w book more tag h = ⊎_elim (λ p. or_left _ _ p) (λ p. let q = and_parts _ _ p in or_right _ _ (and_from _ _ q.0 (any_more (signs tag.of) book more q.1))) (or_cases _ _ h)
-
-apply_entries : {F : Type 0} (s : NodeState F) (cause : Cause) (e : Effect F) → (apply_effect s cause e).entries ≡ s.entries ++ option_to_list e.change.booked
-unfolding apply_effect
-apply_entries s cause e = refl
+good_more w book more tag h = ⊎_elim (λ p. or_left _ _ p) (λ p. let q = and_parts _ _ p in or_right _ _ (and_from _ _ q.0 (any_append (signs tag.of) book more q.1))) (or_cases _ _ h)
 
 -- what a step adds to the notary's book
 record Grown {F : Type 0} (w : Environment F) (net next : List (NodeState F)) (p : ℕ) (s : NodeState F) (e : Effect F) : Type 0 where
@@ -106,7 +100,7 @@ grown {F} w net p s cause e is = ⊎_elim
       is = same ∙ sym (append-nil (book_of w net));
       here = λ t.
           let there : w.notary.0 ≡ p = eqb-true w.notary.0 p t in
-          ap entries_at (ap (slice_get (slice_set net p (apply_effect s cause e))) there ∙ set_same net p s (apply_effect s cause e) is) ∙ apply_entries s cause e;
+          ap entries_at (ap (slice_get (slice_set net p (apply_effect s cause e))) there ∙ get_there net p s (apply_effect s cause e) is) ∙ apply_entries s cause e;
     })
     (get_set net p s (apply_effect s cause e) w.notary.0 is)
 
@@ -137,24 +131,17 @@ module _ (mark : Party → Hash32 → Hash32) (me : Party) where
   fair_torn book q now None = inl refl
   fair_torn book q now (Some v) = fair_if q.torn.id (is_party me v.notary) (answer_shown mark me book q now v) answer.WrongNotary (fair_shown book q now v) (inl refl)
 
-hash_same : (h : Hash32) → hash_eq h h ≡ true
-hash_same h = (bytes_eq-Decides h.0 h.0).1 refl
-
-any_end : {X : Type 0} (P : X → Bool) (xs : List X) (x : X) → P x ≡ true → list_any P (xs ++ x ∷ []) ≡ true
-any_end P [] x h = or_left _ _ h
-any_end P (y ∷ ys) x h = or_right _ _ (any_end P ys x h)
-
 module _ {F : Type 0} (w : Environment F) (me : Identity) (book : List Entry) (q : Request) (now : Moment) where
   -- the fresh answer is good once its entry stands in the book
   fresh_good : (given : NotaryAnswer) → Fair w.mark me.party q.torn.id given → list_all (is_good w (book ++ entry_of q given ∷ [])) (answer_tags given) ≡ true
   fresh_good given f = ⊎_elim
       (λ k. ap (list_all (is_good w (book ++ entry_of q given ∷ []))) k)
       (λ k. subst (λ (g : NotaryAnswer). list_all (is_good w (book ++ entry_of q g ∷ [])) (answer_tags g) ≡ true) (sym k)
-      (and_from _ _ (or_right _ _ (and_from _ _ (hash_same (w.mark me.party q.torn.id)) (any_end (signs q.torn.id) book _ (hash_same q.torn.id)))) refl))
+      (and_from _ _ (or_right _ _ (and_from _ _ (hash_same (w.mark me.party q.torn.id)) (any_push (signs q.torn.id) book _ (hash_same q.torn.id)))) refl))
       f
 
   answers_over : (o : Option Entry) (b : Bool) (new : List Entry) → find (repeats q) book ≡ o → is_notary me ≡ b → list_all (entry_passes (is_good w new)) book ≡ true → (is_notary me ≡ true → new ≡ book ++ option_to_list (booked_by q (reply_over w.mark me book q now o))) → list_all (is_good w new) (answer_tags (reply_over w.mark me book q now o).answer) ≡ true
-  answers_over (Some e) b new f g h k = let p = all_find (entry_passes (is_good w new)) (repeats q) book e h f in (and_parts _ _ p).1
+  answers_over (Some e) b new f g h k = let p = found_passes (entry_passes (is_good w new)) (repeats q) book e h f in (and_parts _ _ p).1
   answers_over None false new f g h k = ap (λ (c : Bool). list_all (is_good w new) (answer_tags (cond c (answer_torn w.mark me.party book q now (visible_of q.torn)) answer.WrongNotary))) g
   answers_over None true new f g h k =
       let given = answer_torn w.mark me.party book q now (visible_of q.torn) in
@@ -178,7 +165,7 @@ sent_passes test me n (Some x) item f h =
 module _ {F : Type 0} (w : Environment F) (net : List (NodeState F)) (test : Tag → Bool) (all : (q : ℕ) (s : NodeState F) → slice_get net q ≡ Some s → Passes w.machine test s) where
   from_passes : (me q n : ℕ) (key : Key) (item : Sent) → item_from net me q key n ≡ Some item → body_passes test item.body ≡ true
   unfolding item_from
-  from_passes me q n key item h = from_then _ (λ s. sent_to me n (session_of key s.sessions)) (slice_get net q) item h (λ s is k. sent_passes test me n (session_of key s.sessions) item (λ x there. all_find (session_passes test) (λ y. key_eq key y.key) s.sessions x (all q s is).sessions there) k)
+  from_passes me q n key item h = from_then _ (λ s. sent_to me n (session_of key s.sessions)) (slice_get net q) item h (λ s is k. sent_passes test me n (session_of key s.sessions) item (λ x there. found_passes (session_passes test) (λ y. key_eq key y.key) s.sessions x (all q s is).sessions there) k)
 
   item_passes : (me : ℕ) (s : NodeState F) (ev : Event) (item : Sent) → item_for net me s ev ≡ Some item → body_passes test item.body ≡ true
   item_passes me s (event.Answer key) item h = from_passes me key.initiator.0 0 key item h

@@ -3,9 +3,10 @@ use Rattle.std.proofs.Common.{◌≡◌, ℕ, zero, suc, ◌≤◌, ◌<◌, Lis
 use Rattle.std.specs.List.{AllByRecursion}
 use Rattle.std.proofs.lemmas.Bool.{eq-eqb, eqb-true, eqb-false, ne_eqb}
 use Rattle.net_base.specs.declared.causes.Cause.{Cause}
+use Rattle.net_base.proofs.Lists.{all_weaken}
 use Rattle.net_model.specs.Runs.{merge, merged, stamp_of, causes_at, MergesEach}
 use Rattle.net_model.proofs.Local.{of_node}
-use Rattle.net_model.proofs.Merging.{merge_keeps, merge_from_nodes, all_weaken}
+use Rattle.net_model.proofs.Merging.{merge_keeps, merge_from_nodes}
 
 -- the causes of a node, the node's number on either side of the test
 at_either : (p : ℕ) (xs : List (ℕ × Cause)) → causes_at p xs ≡ of_node p xs

@@ -7,6 +7,8 @@ use Rattle.net_base.specs.declared.values.Party.{Party}
 use Rattle.net_base.specs.declared.causes.Cause.{Cause}
 use Rattle.net_base.specs.declared.causes.Event.{Event}
 use Rattle.net_base.specs.declared.causes.Event.TheVariants as event
+use Rattle.net_base.proofs.Options.{none_of, some_eq}
+use Rattle.net_base.proofs.Lists.{find_map, get_there, get_less, find_test, find_push, passes_weaken}
 use Rattle.ledger_types.specs.declared.value.Value.{Value}
 use Rattle.session_wire.specs.declared.body.Body.{Body}
 use Rattle.session_wire.specs.declared.body.Body.TheVariants as body_of
@@ -18,6 +20,7 @@ use Rattle.flow_machine.specs.declared.flows.FlowState.{FlowState}
 use Rattle.flow_machine.specs.declared.flows.FlowState.TheVariants as state
 use Rattle.session_wire.specs.Sessions.{Sent, Session, changed_at, key_eq, new_session, opened_on, sent_on, session_of, taken_on, with_came, with_sent, with_taken}
 use Rattle.session_wire.specs.Rules.{is_owner, is_new_key, direction_in}
+use Rattle.session_wire.proofs.Keys.{key_exact, key_same}
 use Rattle.flow_machine.specs.Machine.{Machine}
 use Rattle.net_model.specs.Environment.{Environment, party}
 use Rattle.net_model.specs.State.{NodeState, FlowPart, no_flow, now_live, now_ended, now_failed, Effect, nothing, came_on, sessions_on, flow_of, flows_on, placed, apply_effect, fresh}
@@ -26,17 +29,17 @@ use Rattle.net_model.specs.Runs.{sent_to, item_from, item_for, net_step, fresh_n
 use Rattle.net_model.specs.Fits.{IsSound, Fits, keys_differ}
 use Rattle.flow_machine.specs.Flows.{Falls, LoadHolds, is_fair, OversHold}
 use Rattle.net_model.specs.Left.{total, one_of, owns, flow_is_fair, flow_left, item_left, came_in, arrived_at, session_left, node_left, left, is_start, owner_below, IsFair, AreFair, LeftFalls}
-use Rattle.net_model.proofs.Basics.{some_eq, from_then, from_cond, get_set, set_same, find_map}
+use Rattle.net_model.proofs.Basics.{from_then, from_cond, get_set, apply_sessions}
 use Rattle.net_model.proofs.Effects.{step_taken}
 use Rattle.net_model.proofs.Local.{net_taken}
 use Rattle.net_model.proofs.Acts.{Gives, goes, pushed, popped, finished, failed, Does, starts, answers_to, arrives, acts, effect_does}
-use Rattle.net_model.proofs.Lists.{all_append, all_one, all_set, all_get, all_mapped, all_weaker}
+use Rattle.net_model.proofs.Lists.{all_append, all_one, all_set, all_get, all_mapped}
 use Rattle.net_model.proofs.Local.{body_in_item}
 use Rattle.net_model.proofs.Basics.{fresh_get}
-use Rattle.net_model.proofs.Fitting.{key_true, key_same, find_test, find_none_append, none_of, step_fits}
+use Rattle.net_model.proofs.Fitting.{step_fits}
 use Rattle.net_model.proofs.Sound.{fits_sound, fresh_sound, came_kept}
 use Rattle.net_model.proofs.Totals.{sessions_come, rest_come, total_le, total_append, total_set, total_less, total_find, drop_less, drop_first, Items, items_append, items_quiet}
-use Rattle.net_model.proofs.Falling.{costs, gives_lowers, acts_lower, node_parts, owns_append, owns_changed, owns_sent, get_less, live_get, items_sent}
+use Rattle.net_model.proofs.Falling.{costs, gives_lowers, acts_lower, node_parts, owns_append, owns_changed, owns_sent, live_get, items_sent}
 
 -- ---- fair flows stay fair
 
@@ -101,7 +104,7 @@ module _ {F : Type 0} (m : Machine F) where
   unfolding apply_effect
   fair_applied s cause e h fair owner =
       let n = length (flows_on e.flow s.flows) in
-      let old : Below n s.sessions = all_weaker (λ x. owner_below (length s.flows) x.owner) (λ x. owner_below n x.owner) s.sessions (λ x k. below_more (length s.flows) n x.owner (length_on e.flow s.flows) k) h.owners in
+      let old : Below n s.sessions = passes_weaken (λ x. owner_below (length s.flows) x.owner) (λ x. owner_below n x.owner) s.sessions (λ x k. below_more (length s.flows) n x.owner (length_on e.flow s.flows) k) h.owners in
       record {
         flows = fair_on e.flow s.flows fair h.flows;
         owners = below_taken n e.change.taken _ (below_sent n cause.stamp e.change.sent _ (below_opened n e.change.opened (flow_of e.flow) _ owner (below_came n cause.event (option_to_list e.change.came) (flow_of e.flow) s.sessions owner old)));
@@ -157,10 +160,6 @@ total_index : {X : Type 0} (f g : X → ℕ) (xs : List X) → ((j : ℕ) (x : X
 total_index f g [] h = omega arith
 total_index f g (x ∷ xs) h = let a = h 0 x refl in let b = total_index f g xs (λ j z is. h (suc j) z is) in omega arith
 
-apply_sessions : {F : Type 0} (s : NodeState F) (cause : Cause) (e : Effect F) → (apply_effect s cause e).sessions ≡ sessions_on cause e s.sessions
-unfolding apply_effect
-apply_sessions s cause e = refl
-
 module _ {F : Type 0} (w : Environment F) (net : List (NodeState F)) (p : ℕ) (s : NodeState F) (cause : Cause) (e : Effect F) (is : slice_get net p ≡ Some s) where
   abbrev New : List (NodeState F)
   New = slice_set net p (apply_effect s cause e)
@@ -199,9 +198,9 @@ module _ {F : Type 0} (w : Environment F) (net : List (NodeState F)) (p : ℕ) (
       sender t None i k = cc
       sender t (Some x) i k = from_cond _ (x.peer.0 == p) (slice_get x.sent n) item k (λ to get.
           let peer : x.peer.0 ≡ p = eqb-true x.peer.0 p to in
-          let own : key ≡ x.key = key_true key x.key (find_test (λ y. key_eq key y.key) t.sessions x i) in
+          let own : key ≡ x.key = key_exact key x.key (find_test (λ y. key_eq key y.key) t.sessions x i) in
           let old : arrived_at (slice_get net x.peer.0) x.key ≡ n = ap (λ (j : ℕ). arrived_at (slice_get net j) x.key) peer ∙ (ap (λ (o : Option (NodeState F)). arrived_at o x.key) is ∙ (ap (λ (y : Key). came_in (session_of y s.sessions)) (sym own) ∙ now)) in
-          let new : arrived_at (slice_get New x.peer.0) x.key ≡ came_in (session_of key (apply_effect s cause e).sessions) = ap (λ (j : ℕ). arrived_at (slice_get New j) x.key) peer ∙ (ap (λ (o : Option (NodeState F)). arrived_at o x.key) (set_same net p s (apply_effect s cause e) is) ∙ ap (λ (y : Key). came_in (session_of y (apply_effect s cause e).sessions)) (sym own)) in
+          let new : arrived_at (slice_get New x.peer.0) x.key ≡ came_in (session_of key (apply_effect s cause e).sessions) = ap (λ (j : ℕ). arrived_at (slice_get New j) x.key) peer ∙ (ap (λ (o : Option (NodeState F)). arrived_at o x.key) (get_there net p s (apply_effect s cause e) is) ∙ ap (λ (y : Key). came_in (session_of y (apply_effect s cause e).sessions)) (sym own)) in
           let f = λ (i : Sent). item_left w.machine i.body in
           let a = drop_less f (n + 1) (arrived_at (slice_get New x.peer.0) x.key) x.sent (omega arith) in
           let b = drop_first f n x.sent item get in
@@ -320,7 +319,7 @@ module _ {F : Type 0} (w : Environment F) (falls : Falls w.machine) (load : Load
       let there : item_from net p key.initiator.0 key 0 ≡ Some item = ap (λ (v : Event). item_for net p s v) (sym ev) ∙ from in
       let made = new_session key key.initiator (flow_of x.flow) (option_to_list x.change.came) in
       let came : came_on cause.event (option_to_list e.change.came) (flow_of e.flow) s.sessions ≡ s.sessions ++ made ∷ [] = ap (λ (y : Effect F). came_on cause.event (option_to_list y.change.came) (flow_of y.flow) s.sessions) i ∙ ap (λ (v : Event). came_on v (option_to_list x.change.came) (flow_of x.flow) s.sessions) ev in
-      let found = find_none_append (λ y. key_eq key y.key) s.sessions made none (key_same key) in
+      let found = find_push (λ y. key_eq key y.key) s.sessions made none (key_same key) in
       let rest = (rest_come cause e s.sessions).less key in
       let a = ap (λ (l : List Session). came_in (session_of key l)) came in
       let b = ap came_in found in

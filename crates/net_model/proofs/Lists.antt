@@ -1,8 +1,8 @@
 -- Tests that hold of all of a list.
-use Rattle.std.proofs.Common.{◌≡◌, ℕ, zero, suc, List, [], ◌∷◌, ◌++◌, Option, Some, None, Bool, true, false, cond, map, find, option_to_list, slice_get, slice_set, refl, subst}
+use Rattle.std.proofs.Common.{◌≡◌, ℕ, zero, suc, List, [], ◌∷◌, ◌++◌, Option, Some, None, Bool, true, map, option_to_list, slice_get, slice_set, refl, subst}
 use Rattle.std.specs.List.{list_all}
 use Rattle.std.proofs.lemmas.Bool.{and_parts, and_from}
-use Rattle.net_model.proofs.Basics.{some_eq}
+use Rattle.net_base.proofs.Options.{some_eq}
 
 pub all_append : {X : Type 0} (test : X → Bool) (xs ys : List X) → list_all test xs ≡ true → list_all test ys ≡ true → list_all test (xs ++ ys) ≡ true
 all_append test [] ys h k = k
@@ -25,16 +25,6 @@ all_get test [] n x h e = cc
 all_get test (y ∷ xs) zero x h e = subst (λ z. test z ≡ true) (some_eq e) (and_parts _ _ h).0
 all_get test (y ∷ xs) (suc n) x h e = all_get test xs n x (and_parts _ _ h).1 e
 
-pub all_find : {X : Type 0} (test P : X → Bool) (xs : List X) (x : X) → list_all test xs ≡ true → find P xs ≡ Some x → test x ≡ true
-all_find test P [] x h e = cc
-all_find {X} test P (y ∷ xs) x h e =
-    let p = and_parts _ _ h in
-    (elim (P y) as (λ b. cond b (Some y) (find P xs) ≡ Some x → test x ≡ true) [ true ↦ λ k. subst (λ z. test z ≡ true) (some_eq k) p.0 | false ↦ λ k. all_find test P xs x p.1 k ]) e
-
 pub all_mapped : {X : Type 0} (test : X → Bool) (f : X → X) (xs : List X) → ((x : X) → test x ≡ true → test (f x) ≡ true) → list_all test xs ≡ true → list_all test (map f xs) ≡ true
 all_mapped test f [] g h = refl
 all_mapped test f (x ∷ xs) g h = let p = and_parts _ _ h in and_from _ _ (g x p.0) (all_mapped test f xs g p.1)
-
-pub all_weaker : {X : Type 0} (test other : X → Bool) (xs : List X) → ((x : X) → test x ≡ true → other x ≡ true) → list_all test xs ≡ true → list_all other xs ≡ true
-all_weaker test other [] f h = refl
-all_weaker test other (x ∷ xs) f h = let p = and_parts _ _ h in and_from _ _ (f x p.0) (all_weaker test other xs f p.1)

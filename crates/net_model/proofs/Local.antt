@@ -2,18 +2,20 @@
 use Rattle.std.proofs.Common.{◌≡◌, ℕ, ◌+◌, ◌<◌, ◌≤◌, ⊎_elim, List, [], ◌∷◌, Option, Some, None, Bool, true, false, cond, ◌==◌, max, option_map, option_and_then, length, slice_get, slice_set, refl, sym, ap, subst, ◌∙◌, arith, length-set}
 use Rattle.std.specs.Prelude.{⊤}
 use Rattle.std.specs.List.{AllByRecursion}
-use Rattle.std.proofs.lemmas.Bool.{eq-eqb, eqb-true, eqb-false}
+use Rattle.std.proofs.lemmas.Bool.{eq-eqb, eqb-true, eqb-false, and_parts}
 use Rattle.net_base.specs.declared.names.Key.{Key}
 use Rattle.net_base.specs.declared.causes.Cause.{Cause}
 use Rattle.net_base.specs.declared.causes.Event.{Event}
 use Rattle.net_base.specs.declared.causes.Event.TheVariants as event
+use Rattle.net_base.proofs.Lists.{get_there, get_below}
+use Rattle.net_base.proofs.Options.{some_eq}
 use Rattle.session_wire.specs.declared.body.Body.{Body}
 use Rattle.session_wire.specs.Sessions.{Sent, Session, session_of}
 use Rattle.net_model.specs.Environment.{Environment}
-use Rattle.net_model.specs.State.{NodeState, Effect, Record, apply_effect, sessions_on}
+use Rattle.net_model.specs.State.{NodeState, Effect, Record, apply_effect}
 use Rattle.net_model.specs.Steps.{node_step, in_order, body_in}
 use Rattle.net_model.specs.Runs.{item_from, item_for, net_step, net_step_at, Follows, IsLocalFrom, IsMatchedFrom, IsItem, accepts, stamped, record_stamp, ItemsStay, ItemsAreStamped}
-use Rattle.net_model.proofs.Basics.{some_eq, from_then, both_true, get_set, set_same, get_below}
+use Rattle.net_model.proofs.Basics.{from_then, get_set, apply_sessions, no_item}
 use Rattle.net_model.proofs.Growth.{item_in, Grows, sessions_grow}
 use Rattle.net_model.proofs.Effects.{Stepped, step_taken, step_of, effect_plain, effect_accepts}
 
@@ -44,10 +46,6 @@ net_then g h = record { on = λ q me n key item k. h.on q me n key item (g.on q 
 at_node : {F : Type 0} (net : List (NodeState F)) (q me n : ℕ) (key : Key) (s : NodeState F) → slice_get net q ≡ Some s → item_from net me q key n ≡ item_in s.sessions me key n
 unfolding item_from
 at_node net q me n key s is = rw is
-
-apply_sessions : {F : Type 0} (s : NodeState F) (cause : Cause) (e : Effect F) → (apply_effect s cause e).sessions ≡ sessions_on cause e s.sessions
-unfolding apply_effect
-apply_sessions s cause e = refl
 
 apply_grows : {F : Type 0} (s : NodeState F) (cause : Cause) (e : Effect F) → Grows cause.stamp s.sessions (apply_effect s cause e).sessions
 apply_grows s cause e = subst (Grows cause.stamp s.sessions) (sym (apply_sessions s cause e)) (sessions_grow cause e s.sessions)
@@ -125,20 +123,13 @@ item_back t old new p s (event.Start f class args) item g h l = cc
 item_back t old new p s (event.Move f) item g h l = cc
 item_back t old new p s (event.Lapse f) item g h l = cc
 
-no_item : {F : Type 0} (net : List (NodeState F)) (p : ℕ) (s : NodeState F) (ev : Event) → accepts ev ≡ false → item_for net p s ev ≡ None
-no_item net p s (event.Answer key) a = cc
-no_item net p s (event.Arrive key direction number) a = cc
-no_item net p s (event.Start f class args) a = refl
-no_item net p s (event.Move f) a = refl
-no_item net p s (event.Lapse f) a = refl
-
 -- a step with no item is one of an event that accepts none
 plain_step : {F : Type 0} (w : Environment F) (p : ℕ) (s next : NodeState F) (cause : Cause) (e : Effect F) (b : Bool) → accepts cause.event ≡ b → Stepped w p s cause None next e → accepts cause.event ≡ false
 plain_step w p s next cause e false a st = a
 plain_step w p s next cause e true a st = let k = effect_accepts w p s cause.moment.0 cause.event None e a st.effect in cc (k.1)
 
 earlier : {F : Type 0} (s : NodeState F) (cause : Cause) (n : ℕ) → in_order s cause n ≡ true → cause.stamp ≡ max s.stamp n + 1
-earlier s cause n h = eqb-true cause.stamp (max s.stamp n + 1) (both_true _ _ h).0
+earlier s cause n h = eqb-true cause.stamp (max s.stamp n + 1) (and_parts _ _ h).0
 
 -- what a step takes now is what it takes in the end, and back
 now_to_end : {F : Type 0} (w : Environment F) (t : ℕ) (old new : List (NodeState F)) (p : ℕ) (s next : NodeState F) (cause : Cause) (e : Effect F) (o : Option Sent) → NetGrows t old new → item_for old p s cause.event ≡ o → Stepped w p s cause o next e → item_for new p s cause.event ≡ o
@@ -248,7 +239,7 @@ module _ {F : Type 0} (w : Environment F) (last : List (NodeState F)) (p : ℕ) 
       record { stamp = item.stamp; step = under item.stamp came ∙ step; item = λ yes. record { item = item; is_sent = is; is_body = came; in_turn = earlier s r.cause item.stamp st.ordered } }
 
   in_turn_order : (n m : ℕ) → in_order s r.cause n ≡ true → r.cause.stamp ≡ max s.stamp m + 1 → in_order s r.cause m ≡ true
-  in_turn_order n m h e = rw (eq-eqb r.cause.stamp (max s.stamp m + 1) e) (both_true _ _ h).1
+  in_turn_order n m h e = rw (eq-eqb r.cause.stamp (max s.stamp m + 1) e) (and_parts _ _ h).1
 
   step_by : (b : Bool) → accepts r.cause.event ≡ b → OneStep w last p s r → node_step w p s r.cause (item_for last p s r.cause.event) ≡ Some (Next, r.effect)
   step_by false a one =
@@ -279,7 +270,7 @@ own_first {F} w last p s r rs h =
     (record { stamp = h.0.0; step = h.0.2 ∙ ap (λ (x : NodeState F). Some (x, r.effect)) st.state; item = h.1.0 }, (subst (λ (x : NodeState F). IsLocalFrom w p x rs) st.state h.0.3, h.1.1))
 
 pub get_applied : {F : Type 0} (net : List (NodeState F)) (x : ℕ × Record F) (s : NodeState F) → slice_get net x.0 ≡ Some s → slice_get (applied net x) x.0 ≡ Some (apply_effect s x.1.cause x.1.effect)
-get_applied net x s is = ap (λ (n : List _). slice_get n x.0) (applied_is net x s is) ∙ set_same net x.0 s (apply_effect s x.1.cause x.1.effect) is
+get_applied net x s is = ap (λ (n : List _). slice_get n x.0) (applied_is net x s is) ∙ get_there net x.0 s (apply_effect s x.1.cause x.1.effect) is
 
 pub get_other : {F : Type 0} (net : List (NodeState F)) (x : ℕ × Record F) (s : NodeState F) (q : ℕ) → slice_get net x.0 ≡ Some s → (q == x.0) ≡ false → slice_get (applied net x) q ≡ slice_get net q
 get_other net x s q is ne =

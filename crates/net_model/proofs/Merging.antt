@@ -3,6 +3,7 @@ use Rattle.std.proofs.Common.{◌≡◌, ℕ, zero, suc, ◌+◌, ◌<◌, ◌�
 use Rattle.std.specs.Prelude.{⊤}
 use Rattle.std.specs.List.{AllByRecursion}
 use Rattle.std.proofs.lemmas.Bool.{eq-eqb, eqb-true, ne_eqb, ltb-true, ltb-false, or_cases, or_parts, and_parts}
+use Rattle.net_base.proofs.Lists.{all_weaken}
 use Rattle.net_model.specs.State.{Record}
 use Rattle.net_model.specs.Runs.{is_before, put, merge_two, merge_from, merge, record_stamp}
 use Rattle.net_model.proofs.Local.{of_node, Rising, AreBelow}
@@ -11,10 +12,6 @@ abbrev pub tagged : {X : Type 0} → ℕ → List X → List (ℕ × X)
 tagged p xs = map (λ x. (p, x)) xs
 
 -- ---- what holds of all
-
-pub all_weaken : {X : Type 0} (P Q : X → Type 0) (xs : List X) → ((x : X) → P x → Q x) → AllByRecursion P xs → AllByRecursion Q xs
-all_weaken P Q [] f h = tt
-all_weaken P Q (x ∷ xs) f h = (f x h.0, all_weaken P Q xs f h.1)
 
 pub all_put : {X : Type 0} (P : X → Type 0) (before : X → X → Bool) (x : X) (rest : List X → List X) (ys : List X) → P x → ((zs : List X) → AllByRecursion P zs → AllByRecursion P (rest zs)) → AllByRecursion P ys → AllByRecursion P (put before x rest ys)
 all_put P before x rest [] p f h = (p, f [] tt)
@@ -140,10 +137,6 @@ merge_from_rising q (rs ∷ lists) h = rising_merge_two (tagged q rs) _ (climbs_
 pub merge_rising : {F : Type 0} (lists : List (List (Record F))) → AllByRecursion (Climbs 0) lists → Rising (merge record_stamp lists)
 unfolding merge
 merge_rising lists h = merge_from_rising 0 lists h
-
-pub all_from_get : {X : Type 0} (P : X → Type 0) (xs : List X) → ((n : ℕ) (x : X) → slice_get xs n ≡ Some x → P x) → AllByRecursion P xs
-all_from_get P [] f = tt
-all_from_get P (x ∷ xs) f = (f 0 x refl, all_from_get P xs (λ n y h. f (suc n) y h))
 
 -- ---- a merged list, seen through a map
 

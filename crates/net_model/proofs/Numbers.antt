@@ -1,5 +1,5 @@
 -- Each live flow keeps its own number, and what an effect makes of the flows.
-use Rattle.std.proofs.Common.{◌≡◌, ℕ, zero, suc, ◌+◌, ◌<◌, List, [], ◌∷◌, ◌++◌, Some, length, slice_get, slice_set, refl, ap, subst, arith, ◌∙◌}
+use Rattle.std.proofs.Common.{◌≡◌, ℕ, zero, suc, ◌+◌, ◌<◌, List, [], ◌∷◌, ◌++◌, length, slice_set, refl, ap, subst, arith, ◌∙◌}
 use Rattle.std.proofs.lemmas.Bool.{ne_eqb, eq-eqb}
 use Rattle.flow_machine.specs.declared.flows.FlowState.{FlowState}
 use Rattle.flow_machine.specs.declared.flows.FlowState.TheVariants.{Live, Ended, Failed}
@@ -15,11 +15,6 @@ pub numbered_set : {F : Type 0} (f i : ℕ) (flows : List (FlowState F)) (flow :
 numbered_set f i [] flow h k = h
 numbered_set f zero (x ∷ flows) flow h k = (subst (λ n. IsNumbered n flow) (omega arith) k, h.1)
 numbered_set f (suc i) (x ∷ flows) flow h k = (h.0, numbered_set (f + 1) i flows flow h.1 (subst (λ n. IsNumbered n flow) (omega arith) k))
-
-pub numbered_get : {F : Type 0} (f i : ℕ) (flows : List (FlowState F)) (flow : FlowState F) → AreNumbered f flows → slice_get flows i ≡ Some flow → IsNumbered (f + i) flow
-numbered_get f i [] flow h e = cc
-numbered_get f zero (x ∷ flows) flow h e = let same : x ≡ flow = cc in subst (λ n. IsNumbered n flow) (omega arith) (subst (IsNumbered f) same h.0)
-numbered_get f (suc i) (x ∷ flows) flow h e = subst (λ n. IsNumbered n flow) (omega arith) (numbered_get (f + 1) i flows flow h.1 e)
 
 placed_old : {F : Type 0} (flows : List (FlowState F)) (f : ℕ) (flow : FlowState F) → f < length flows → placed flows f flow ≡ slice_set flows f flow
 placed_old flows f flow h = rw (ne_eqb f (length flows) (λ e. omega arith)) refl

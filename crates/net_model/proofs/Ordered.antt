@@ -2,8 +2,9 @@
 use Rattle.std.proofs.Common.{◌≡◌, ℕ, ◌+◌, ◌<◌, ◌≤◌, ◌⊎◌, inl, inr, ⊎_elim, List, [], ◌∷◌, true, false, ◌==◌, nat_lt, refl, arith}
 use Rattle.std.specs.List.{AllByRecursion}
 use Rattle.std.proofs.lemmas.Bool.{and_parts, and_from, or_cases, or_parts, or_left, or_right, eqb-true, eqb-false, eq-eqb, ltb-true, ltb-false, lt-ltb}
+use Rattle.net_base.proofs.Lists.{all_weaken}
 use Rattle.net_model.specs.Runs.{is_before, put, merge_two, merge_from, merge, AreOrdered, AreRising, MergesInOrder}
-use Rattle.net_model.proofs.Merging.{tagged, all_weaken, all_put, all_merge_two, merge_from_nodes}
+use Rattle.net_model.proofs.Merging.{tagged, all_put, all_merge_two, merge_from_nodes}
 
 module _ {X : Type 0} (stamp : X → ℕ) where
   abbrev Before : ℕ × X → ℕ × X → Type 0

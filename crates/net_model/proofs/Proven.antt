@@ -13,11 +13,12 @@ use Rattle.net_model.specs.Environment.{Environment}
 use Rattle.ledger_types.specs.Signatures.{tx_id}
 use Rattle.ledger_types.specs.Stores.{resolved_of}
 use Rattle.net_base.specs.declared.values.Hash32.{Hash32}
+use Rattle.net_base.proofs.Options.{some_eq}
 use Rattle.net_model.specs.State.{NodeState, Effect, Change, with_ids, apply_effect, fresh}
 use Rattle.net_model.specs.Steps.{Done, answering, body_in}
 use Rattle.net_model.specs.Runs.{item_for, net_step, fresh_net, run_from, run_of}
 use Rattle.net_model.specs.Stores.{IsProven, AreProven, StoresHold, RunsHoldStores}
-use Rattle.net_model.proofs.Basics.{some_eq, from_then, get_set, fresh_get}
+use Rattle.net_model.proofs.Basics.{from_then, get_set, fresh_get}
 use Rattle.net_model.proofs.Recorded.{resolved_more}
 use Rattle.net_model.proofs.Effects.{step_taken}
 use Rattle.net_model.proofs.Local.{net_taken}

@@ -10,6 +10,8 @@ use Rattle.net_base.specs.declared.values.Party.{Party}
 use Rattle.net_base.specs.declared.causes.Cause.{Cause}
 use Rattle.net_base.specs.declared.causes.Event.{Event}
 use Rattle.net_base.specs.declared.causes.Event.TheVariants as event
+use Rattle.net_base.proofs.Options.{none_of, some_eq}
+use Rattle.net_base.proofs.Lists.{none_push, passes_weaken}
 use Rattle.ledger_types.specs.declared.tx.SignedTx.{SignedTx}
 use Rattle.session_wire.specs.declared.body.Body.{Body}
 use Rattle.session_wire.specs.declared.body.Body.TheVariants as body_of
@@ -20,6 +22,7 @@ use Rattle.flow_machine.specs.declared.flows.FlowState.TheVariants as state
 use Rattle.ledger_types.specs.Names.{hash_eq}
 use Rattle.session_wire.specs.Sessions.{Sent, Session, changed_at, key_eq, new_session, opened_on, sent_on, session_of, taken_on, with_came, with_sent, with_taken}
 use Rattle.session_wire.specs.Rules.{is_init_of, is_no_peer}
+use Rattle.session_wire.proofs.Keys.{key_exact, key_same}
 use Rattle.net_model.specs.Environment.{Environment, party}
 use Rattle.ledger_types.specs.Stores.{is_stored}
 use Rattle.ledger_types.specs.Signatures.{tx_id}
@@ -27,10 +30,10 @@ use Rattle.net_model.specs.State.{NodeState, FlowPart, no_flow, now_live, now_en
 use Rattle.net_model.specs.Steps.{checkpoint_of}
 use Rattle.net_model.specs.Runs.{IsLocalFrom}
 use Rattle.net_model.specs.Fits.{AnswersFirst, AcceptsInit, FitsEvent, FitsOpened, FitsRecorded, Fits, keys_differ, ids_differ, is_counted, IsSound, FitsKeepSound, FreshIsSound}
-use Rattle.net_model.proofs.Basics.{some_eq, get_set}
+use Rattle.net_model.proofs.Basics.{get_set}
 use Rattle.net_model.proofs.Effects.{step_taken}
-use Rattle.net_model.proofs.Fitting.{key_true, key_same, step_fits, not_counted, initiator_other}
-use Rattle.net_model.proofs.Lists.{all_append, all_one, all_mapped, all_weaker}
+use Rattle.net_model.proofs.Fitting.{step_fits, not_counted, initiator_other}
+use Rattle.net_model.proofs.Lists.{all_append, all_one, all_mapped}
 
 -- ---- flows keep their numbers
 
@@ -96,11 +99,7 @@ count_own me [] x h = rw h (omega arith)
 count_own me (y ∷ ys) x h = let k = count_own me ys x h in elim (y.key.initiator.0 == me) as (λ b. length (cond b (y ∷ filter (λ z. z.key.initiator.0 == me) (ys ++ x ∷ [])) (filter (λ z. z.key.initiator.0 == me) (ys ++ x ∷ []))) ≡ length (cond b (y ∷ filter (λ z. z.key.initiator.0 == me) ys) (filter (λ z. z.key.initiator.0 == me) ys)) + 1) [ true ↦ omega arith | false ↦ k ]
 
 key_turned : (a b : Key) → key_eq a b ≡ false → key_eq b a ≡ false
-key_turned a b h = false_from_ne_true _ (λ k. both_ways (key_eq a b) h (subst (λ (c : Key). key_eq c b ≡ true) (key_true b a k) (key_same b)))
-
-any_not_last : {X : Type 0} (P : X → Bool) (xs : List X) (y : X) → list_any P xs ≡ false → P y ≡ false → list_any P (xs ++ y ∷ []) ≡ false
-any_not_last P [] y h k = or_from _ _ k refl
-any_not_last P (x ∷ xs) y h k = let p = or_parts _ _ h in or_from _ _ p.0 (any_not_last P xs y p.1 k)
+key_turned a b h = false_from_ne_true _ (λ k. both_ways (key_eq a b) h (subst (λ (c : Key). key_eq c b ≡ true) (key_exact b a k) (key_same b)))
 
 none_head : {X : Type 0} (P : X → Bool) (x : X) (xs : List X) → find P (x ∷ xs) ≡ None → (P x ≡ false) × (find P xs ≡ None)
 none_head {X} P x xs h = (elim (P x) as (λ b. cond b (Some x) (find P xs) ≡ None → (b ≡ false) × (find P xs ≡ None)) [ true ↦ λ k. cc | false ↦ λ k. (refl, k) ]) h
@@ -109,12 +108,12 @@ keys_append : (ss : List Session) (x : Session) → keys_differ ss ≡ true → 
 keys_append [] x h k = refl
 keys_append (y ∷ ys) x h k =
     let p = and_parts _ _ h in let q = none_head (λ z. key_eq x.key z.key) y ys k in
-    and_from _ _ (not_from_false _ (any_not_last (λ z. key_eq y.key z.key) ys x (not-true _ p.0) (key_turned x.key y.key q.0))) (keys_append ys x p.1 q.1)
+    and_from _ _ (not_from_false _ (none_push (λ z. key_eq y.key z.key) ys x (not-true _ p.0) (key_turned x.key y.key q.0))) (keys_append ys x p.1 q.1)
 
 pub kept_append : (me : ℕ) (items : List SentItem) (ss : List Session) (x : Session) → Kept me items ss → list_any (λ item. key_eq item.key x.key) items ≡ true → session_of x.key ss ≡ None → is_counted me (count me (ss ++ x ∷ [])) x ≡ true → Kept me items (ss ++ x ∷ [])
 kept_append me items ss x h sent new own = record {
   begun = all_append (waits items) ss (x ∷ []) h.begun (all_one (waits items) x (or_right _ _ sent));
-  counted = all_append (is_counted me (count me (ss ++ x ∷ []))) ss (x ∷ []) (all_weaker (is_counted me (count me ss)) (is_counted me (count me (ss ++ x ∷ []))) ss (λ y. more_counted me (count me ss) (count me (ss ++ x ∷ [])) y (count_append me ss x)) h.counted) (all_one (is_counted me (count me (ss ++ x ∷ []))) x own);
+  counted = all_append (is_counted me (count me (ss ++ x ∷ []))) ss (x ∷ []) (passes_weaken (is_counted me (count me ss)) (is_counted me (count me (ss ++ x ∷ []))) ss (λ y. more_counted me (count me ss) (count me (ss ++ x ∷ [])) y (count_append me ss x)) h.counted) (all_one (is_counted me (count me (ss ++ x ∷ []))) x own);
   keys = keys_append ss x h.keys new;
 }
 
@@ -185,12 +184,8 @@ kept_taken : (me : ℕ) (o : Option (Key × ℕ)) (ss : List Session) → Kept m
 kept_taken me None ss h = h
 kept_taken me (Some taken) ss h = kept_quiet me [] taken.0 (with_taken taken.1) ss (λ x. refl) (λ x. refl) h
 
-none_of : {X : Type 0} (o : Option X) → is_none o ≡ true → o ≡ None
-none_of None h = refl
-none_of (Some x) h = cc
-
 kept_more : (me : ℕ) (items : List SentItem) (ss : List Session) → list_all begun ss ≡ true → list_all (is_counted me (count me ss)) ss ≡ true → keys_differ ss ≡ true → Kept me items ss
-kept_more me items ss h k l = record { begun = all_weaker begun (waits items) ss (λ x b. or_left _ _ b) h; counted = k; keys = l }
+kept_more me items ss h k l = record { begun = passes_weaken begun (waits items) ss (λ x b. or_left _ _ b) h; counted = k; keys = l }
 
 module _ {F : Type 0} (w : Environment F) (me : ℕ) (s : NodeState F) (sound : IsSound me s) where
   answers_key : (f : ℕ) (key : Key) (class : ℕ) (flow : FlowPart F) (items : List SentItem) → AnswersFirst f key class flow items → list_any (λ item. key_eq item.key key) items ≡ true
@@ -237,7 +232,7 @@ module _ {F : Type 0} (w : Environment F) (me : ℕ) (s : NodeState F) (sound : 
       let number : opened.0.number ≡ count me before = ap (λ (x : Key). x.number) key in
       let bigger = count_own me before new own in
       kept_append me sent before new k
-      (any_weaker (is_init_of opened.0) (λ item. key_eq item.key opened.0) sent (λ item i. let p = and_parts (key_eq opened.0 item.key) _ i in subst (λ (x : Key). key_eq x opened.0 ≡ true) (key_true opened.0 item.key p.0) (key_same opened.0)) h.opens.init)
+      (any_weaker (is_init_of opened.0) (λ item. key_eq item.key opened.0) sent (λ item i. let p = and_parts (key_eq opened.0 item.key) _ i in subst (λ (x : Key). key_eq x opened.0 ≡ true) (key_exact opened.0 item.key p.0) (key_same opened.0)) h.opens.init)
       none (or_right (not (opened.0.initiator.0 == me)) _ (lt-ltb opened.0.number (count me (before ++ new ∷ [])) (omega arith)))
 
   sessions_sound : (cause : Cause) (e : Effect F) → Fits w me s cause e → Kept me [] (taken_on e.change.taken (sent_on cause.stamp e.change.sent (opened_on e.change.opened (flow_of e.flow) (came_on cause.event (option_to_list e.change.came) (flow_of e.flow) s.sessions))))
@@ -264,7 +259,7 @@ module _ {F : Type 0} (w : Environment F) (me : ℕ) (s : NodeState F) (sound : 
   ids_on (Some stx) h = ids_append s.stored stx sound.ids h.0
 
   begun_only : (ss : List Session) → list_all (waits []) ss ≡ true → list_all begun ss ≡ true
-  begun_only ss h = all_weaker (waits []) begun ss (λ x k. ⊎_elim (λ l. l) (λ l. cc) (or_cases (begun x) false k)) h
+  begun_only ss h = passes_weaken (waits []) begun ss (λ x k. ⊎_elim (λ l. l) (λ l. cc) (or_cases (begun x) false k)) h
 
   -- a record that fits keeps the state sound
   pub fits_sound : (cause : Cause) (e : Effect F) → Fits w me s cause e → IsSound me (apply_effect s cause e)

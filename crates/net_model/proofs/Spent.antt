@@ -1,10 +1,11 @@
 -- A recorded transaction that asks the notary is signed in its book.
-use Rattle.std.proofs.Common.{◌&&◌, ◌||◌, ◌≡◌, ℕ, zero, suc, ◌+◌, ◌<◌, ◌≤◌, ⊎_elim, List, [], ◌∷◌, Option, Some, None, Bool, true, false, cond, ◌==◌, not, filter, is_some, slice_get, refl, sym, ap, subst, arith}
-use Rattle.std.specs.List.{AllByRecursion, list_all, list_any, range_with_len}
+use Rattle.std.proofs.Common.{◌&&◌, ◌||◌, ◌≡◌, ℕ, zero, suc, ◌+◌, ◌<◌, ◌≤◌, ⊎_elim, List, [], ◌∷◌, Option, Some, None, Bool, true, false, cond, ◌==◌, not, filter, is_some, slice_get, refl, sym, subst, arith}
+use Rattle.std.specs.List.{list_all, list_any, range_with_len}
 use Rattle.std.proofs.lemmas.Bool.{and_parts, and_from, or_cases, or_right, not-false, both_ways, eqb-true, eq-eqb}
-use Rattle.std.proofs.lemmas.Slice.Eq.{bytes_eq-Decides}
 use Rattle.net_base.specs.declared.values.Hash32.{Hash32}
 use Rattle.net_base.specs.declared.values.Party.{Party}
+use Rattle.net_base.proofs.Lists.{all_get}
+use Rattle.net_base.proofs.Options.{some_eq}
 use Rattle.ledger_types.specs.declared.tx.SignedTx.{SignedTx}
 use Rattle.ledger_types.specs.declared.notary.Entry.{Entry}
 use Rattle.ledger_types.specs.Names.{hash_eq, party_eq, is_party}
@@ -12,17 +13,12 @@ use Rattle.net_model.specs.Environment.{Environment}
 use Rattle.ledger_types.specs.Rules.{asks_notary, is_other_notary}
 use Rattle.ledger_types.specs.Signatures.{tx_id, signs_command, needs, is_tag, checks, has_signed}
 use Rattle.ledger_types.specs.Notary.{signs}
+use Rattle.ledger_types.proofs.Names.{hash_exact}
 use Rattle.net_model.specs.State.{NodeState}
 use Rattle.net_model.specs.Stores.{IsProven, AreProven, NamesNotary, StoredIsSigned}
 use Rattle.net_model.specs.Tags.{is_good, Passes, book_of}
-use Rattle.net_model.proofs.Basics.{some_eq}
 use Rattle.net_model.proofs.HoldsKept.{run_holds}
 use Rattle.net_model.proofs.Proven.{run_proven}
-
-all_at : {X : Type 0} (P : X → Type 0) (xs : List X) (n : ℕ) (x : X) → AllByRecursion P xs → slice_get xs n ≡ Some x → P x
-all_at P [] n x h e = cc
-all_at P (y ∷ ys) zero x h e = subst P (some_eq e) h.0
-all_at P (y ∷ ys) (suc n) x h e = all_at P ys n x h.1 e
 
 -- what holds of each number of a range that passes a test holds of one that does
 range_at : (need test : ℕ → Bool) (a n p : ℕ) → list_all test (filter need (range_with_len a n)) ≡ true → a ≤ p → p < a + n → need p ≡ true → test p ≡ true
@@ -51,9 +47,6 @@ both_of : {X : Type 0} (P Q : X → Bool) (xs : List X) → list_any P xs ≡ tr
 both_of P Q [] h k = cc
 both_of P Q (x ∷ xs) h k = let q = and_parts (Q x) (list_all Q xs) k in ⊎_elim (λ l. record { it = x; first = l; second = q.0 }) (λ l. both_of P Q xs l q.1) (or_cases (P x) (list_any P xs) h)
 
-hash_true : (a b : Hash32) → hash_eq a b ≡ true → a ≡ b
-hash_true a b h = let e = (bytes_eq-Decides a.0 b.0).0 h in ap (λ (x : List ℕ). record { 0 = x }) e
-
 kept : (a b : Bool) → a ≡ true → not a || b ≡ true → b ≡ true
 kept true b h k = k
 kept false b h k = cc
@@ -65,7 +58,7 @@ module _ {F : Type 0} (w : Environment F) (book : List Entry) where
 
   pub stored_signed : NamesNotary w → w.notary.0 < 16 → (s : NodeState F) (stx : SignedTx) (n : ℕ) → AreProven w s.stored → Passes w.machine (is_good w book) s → slice_get s.stored n ≡ Some stx → asks_notary stx.tx ≡ true → list_any (signs (tx_id stx.tx)) book ≡ true
   stored_signed names small s stx n proven passes is asks =
-      let p = all_at (IsProven w s.stored) s.stored n stx proven is in
+      let p = all_get (IsProven w s.stored) s.stored n stx proven is in
       let named = names stx.tx p.states p.accepted asks in
       let need : needs stx.tx w.notary.0 ≡ true = or_right (signs_command stx.tx w.notary.0) _ (and_from _ _ asks (near_party stx.tx.notary named p.near)) in
       let tagged = range_at (needs stx.tx) (has_signed w.mark stx) 0 16 w.notary.0 p.signed (omega arith) (omega arith) need in
@@ -74,7 +67,7 @@ module _ {F : Type 0} (w : Environment F) (book : List Entry) where
       let t = and_parts (b.it.by.0 == w.notary.0) (hash_eq b.it.of (tx_id stx.tx) && checks w.mark b.it) b.first in let u = and_parts (hash_eq b.it.of (tx_id stx.tx)) (checks w.mark b.it) t.1 in
       let own = kept (party_eq b.it.by w.notary) (checks w.mark b.it && list_any (signs b.it.of) book) t.0 b.second in
       let v = and_parts (checks w.mark b.it) (list_any (signs b.it.of) book) own in
-      subst (λ (h : Hash32). list_any (signs h) book ≡ true) (hash_true b.it.of (tx_id stx.tx) u.0) v.1
+      subst (λ (h : Hash32). list_any (signs h) book ≡ true) (hash_exact b.it.of (tx_id stx.tx) u.0) v.1
     where
       tags_good : (xs : List SignedTx) (k : ℕ) (x : SignedTx) → list_all (λ y. list_all (is_good w book) y.tags) xs ≡ true → slice_get xs k ≡ Some x → list_all (is_good w book) x.tags ≡ true
       tags_good [] k x h e = cc

@@ -2,11 +2,12 @@
 use Rattle.std.proofs.Common.{◌≡◌, ℕ, zero, suc, ◌<◌, ◌==◌, List, [], ◌∷◌, ◌++◌, Option, Some, None, true, false, IsSome, option_and_then, slice_get, slice_set, replicate, ⊎_elim, refl, sym, ap, subst}
 use Rattle.std.proofs.lemmas.Bool.{eqb-true, eqb-false}
 use Rattle.net_base.specs.declared.causes.Cause.{Cause}
+use Rattle.net_base.proofs.Lists.{get_there}
 use Rattle.net_model.specs.Environment.{Environment}
 use Rattle.net_model.specs.State.{NodeState, Effect, fresh}
 use Rattle.net_model.specs.Steps.{node_step}
 use Rattle.net_model.specs.Runs.{item_for, net_step_at, net_step, run_from, fresh_net, run_of, stamp_of, AreRising, causes_at, StampsRise, PrefixesAreRuns}
-use Rattle.net_model.proofs.Basics.{from_map, from_then, get_set, set_same}
+use Rattle.net_model.proofs.Basics.{from_map, from_then, get_set}
 use Rattle.net_model.proofs.Steps.{step_stamp}
 
 -- the last stamp of a node, 0 where there is none
@@ -22,7 +23,7 @@ module _ {F : Type 0} (w : Environment F) where
       from_then ((stamp_at (slice_get net q) < cause.stamp) × (stamp_at (slice_get done.0 q) ≡ cause.stamp)) (net_step_at w net q cause) (slice_get net q) done h (λ s here rest.
       from_map (λ d. (stamp_at (slice_get net q) < cause.stamp) × (stamp_at (slice_get d.0 q) ≡ cause.stamp)) (λ d. (slice_set net q d.0, d.1)) (node_step w q s cause (item_for net q s cause.event)) done rest (λ d is.
       let k = step_stamp w q s cause (item_for net q s cause.event) d is in
-      (subst (λ o. stamp_at o < cause.stamp) (sym here) k.1, subst (λ o. stamp_at o ≡ cause.stamp) (sym (set_same net q s d.0 here)) k.0)))
+      (subst (λ o. stamp_at o < cause.stamp) (sym here) k.1, subst (λ o. stamp_at o ≡ cause.stamp) (sym (get_there net q s d.0 here)) k.0)))
 
   step_other : (net : List (NodeState F)) (q p : ℕ) (cause : Cause) (done : List (NodeState F) × Effect F) → net_step w net q cause ≡ Some done → (q == p) ≡ false
       → stamp_at (slice_get net p) ≡ stamp_at (slice_get done.0 p)

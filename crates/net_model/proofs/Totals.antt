@@ -7,15 +7,17 @@ use Rattle.net_base.specs.declared.values.Party.{Party}
 use Rattle.net_base.specs.declared.causes.Cause.{Cause}
 use Rattle.net_base.specs.declared.causes.Event.{Event}
 use Rattle.net_base.specs.declared.causes.Event.TheVariants as event
+use Rattle.net_base.proofs.Lists.{find_map}
+use Rattle.net_base.proofs.Options.{some_eq}
 use Rattle.session_wire.specs.declared.body.Body.{Body}
 use Rattle.session_wire.specs.declared.change.SentItem.{SentItem}
 use Rattle.session_wire.specs.Sessions.{Sent, Session, changed_at, key_eq, opened_on, sent_on, session_of, taken_on, with_came, with_sent, with_taken}
+use Rattle.session_wire.proofs.Keys.{key_exact}
 use Rattle.net_model.specs.Environment.{Environment}
 use Rattle.net_model.specs.State.{NodeState, Effect, came_on, sessions_on, flow_of}
 use Rattle.net_model.specs.Fits.{keys_differ}
 use Rattle.net_model.specs.Left.{total, item_left, came_in, arrived_at, session_left}
-use Rattle.net_model.proofs.Basics.{some_eq, find_map, find_before}
-use Rattle.net_model.proofs.Fitting.{key_true}
+use Rattle.net_model.proofs.Basics.{find_before}
 
 -- ---- sums
 
@@ -159,7 +161,7 @@ module _ {F : Type 0} (w : Environment F) (net : List (NodeState F)) where
       let p = and_parts (not (list_any (λ y. key_eq x.key y.key) xs)) (keys_differ xs) h in
       (elim (key_eq key x.key) as (λ b. key_eq key x.key ≡ b → session_left w net (cond b (with_sent item x) x) + Items (changed_at key (with_sent item) xs) ≤ session_left w net x + Items xs + item_left w.machine item.body) [
         | true ↦ λ e.
-            let same : key ≡ x.key = key_true key x.key e in
+            let same : key ≡ x.key = key_exact key x.key e in
             let rest : Items (changed_at key (with_sent item) xs) ≡ Items xs = ap Items (unchanged key (with_sent item) xs (ap (λ (k : Key). list_any (λ y. key_eq k y.key) xs) same ∙ not-true _ p.0)) in
             let push = drop_push (λ (i : Sent). item_left w.machine i.body) (arrived_at (slice_get net x.peer.0) x.key) x.sent item in omega arith
         | false ↦ λ e. let a = items_one key item xs p.1 in omega arith

@@ -8,7 +8,7 @@ use Rattle.net_model.specs.Environment.{Environment, identity}
 use Rattle.node_tables.specs.Journals.{state_of}
 use Rattle.node_core.specs.declared.faults.BootFault.{BootFault}
 use Rattle.network_core.specs.declared.steps.Outcome.{Outcome}
-use Rattle.network_core.specs.Worlds.{NodeWorld, World, NodeCoherent, Coherent}
+use Rattle.network_core.specs.Worlds.{NodeWorld, World, Coherent}
 use Rattle.network_core.specs.Serves.{WorldPlace, WorldStarts, WorldTurns, WorldCuts, WorldBoots, WorldPosts, WorldHands, LosesAt, WorldClock, waits_on}
 use Rattle.network_core.specs.Drains.{DoesAt}
 use Rattle.network_core.specs.Begins.{Begun, StayDown}
@@ -17,10 +17,6 @@ use Rattle.network_core.proofs.AgreeingSends.{posts_coherent}
 use Rattle.network_core.proofs.AgreeingTakes.{takes_coherent}
 use Rattle.network_core.proofs.AgreeingFrames.{not_garbled, not_other}
 use Rattle.network_core.proofs.AgreeingBegins.{begins_coherent, stays_down_coherent, later_coherent}
-
--- each node of a world is coherent
-abbrev pub NodesCoherent : {F : Type 0} → Environment F → World → Type 0
-NodesCoherent e v = (p : ℕ) (y : NodeWorld) → slice_get v.nodes p ≡ Some y → NodeCoherent e p v.now y
 
 module _ {F : Type 0} (e : Environment F) where
   pub start_coherent : (p class : ℕ) (args : List ℕ) (w v : World) (o : Option Outcome) → Coherent e w → WorldPlace p w o v (λ x r y. WorldStarts e p w.now class args x r y) → Coherent e v

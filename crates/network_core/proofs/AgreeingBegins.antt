@@ -2,13 +2,13 @@
 use Rattle.std.proofs.Common.{◌≡◌, ℕ, ◌≤◌, inl, ⊎_elim, List, [], Some, None, false, length, slice_get, sym, ap, subst, ◌∙◌}
 use Rattle.std.specs.List.{AllByRecursion}
 use Rattle.std.proofs.lemmas.Bool.{true≢false}
+use Rattle.net_base.proofs.Lists.{get_beside}
 use Rattle.net_model.specs.Environment.{Environment}
 use Rattle.node_tables.specs.Journals.{state_of}
 use Rattle.node_core.specs.declared.faults.BootFault.{BootFault}
 use Rattle.network_core.specs.Worlds.{NodeWorld, World, MaySpell, Choice, states_of, Sound, WaitsAt, AreArrived, Coherent}
 use Rattle.network_core.specs.Begins.{Begun, BeginsUp, StayDown}
 use Rattle.node_tables.specs.Seen.{padded}
-use Rattle.network_core.proofs.AgreeingLists.{get_beside}
 use Rattle.network_core.proofs.AgreeingPlace.{sound_later}
 use Rattle.network_core.proofs.AgreeingSteps.{padded_length, none_arrived}
 

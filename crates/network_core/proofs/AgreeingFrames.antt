@@ -1,27 +1,24 @@
 -- What a node says of a frame that waits at it tells of that frame.
-use Rattle.std.proofs.Common.{◌≡◌, ℕ, suc, inl, List, [], ◌∷◌, Some, map, option_map, length, slice_get, refl, sym, ap, subst, ◌∙◌}
+use Rattle.std.proofs.Common.{◌≡◌, ℕ, inl, List, Some, map, option_map, slice_get, sym, ap, subst, ◌∙◌}
 use Rattle.std.specs.List.{AllByRecursion}
 use Rattle.std.proofs.lemmas.Option.{slice_get-map}
+use Rattle.std.proofs.lemmas.List.{length-map}
 use Rattle.net_base.specs.declared.values.Party.{Party}
+use Rattle.net_base.proofs.Lists.{all_get}
+use Rattle.net_base.proofs.Options.{some_eq}
 use Rattle.session_frames.specs.declared.judged.Judged.{Judged}
 use Rattle.session_frames.specs.declared.judged.Judged.TheVariants as judged
 use Rattle.session_frames.specs.Judging.{IsJudged}
 use Rattle.session_frames.proofs.Spelled.{spelled}
 use Rattle.net_model.specs.Environment.{Environment, identity}
 use Rattle.net_model.specs.State.{NodeState}
-use Rattle.net_model.proofs.Basics.{some_eq}
 use Rattle.node_tables.specs.Journals.{state_of}
 use Rattle.network_core.specs.Worlds.{NodeWorld, World, Choice, states_of, WaitsAt, Coherent}
-use Rattle.network_core.proofs.AgreeingLists.{all_get}
 use Rattle.network_core.proofs.AgreeingSaid.{Says, says}
 
 -- the journals that the disks keep
 first_choice : (w : World) → Choice w (map (λ (z : NodeWorld). z.journal) w.nodes)
-first_choice w = record { count = map_length w.nodes; each = λ q z l at is. inl (some_eq (sym is ∙ (slice_get-map (λ (y : NodeWorld). y.journal) w.nodes q ∙ ap (option_map (λ (y : NodeWorld). y.journal)) at))) }
-  where
-    map_length : (xs : List NodeWorld) → length (map (λ (z : NodeWorld). z.journal) xs) ≡ length xs
-    map_length [] = refl
-    map_length (x ∷ xs) = ap suc (map_length xs)
+first_choice w = record { count = length-map w.nodes (λ (y : NodeWorld). y.journal); each = λ q z l at is. inl (some_eq (sym is ∙ (slice_get-map (λ (y : NodeWorld). y.journal) w.nodes q ∙ ap (option_map (λ (y : NodeWorld). y.journal)) at))) }
 
 module _ {F : Type 0} (e : Environment F) (w : World) (p : ℕ) (x : NodeWorld) (coherent : Coherent e w) (there : slice_get w.nodes p ≡ Some x) where
   abbrev state : NodeState F

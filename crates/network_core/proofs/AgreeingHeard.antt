@@ -10,6 +10,7 @@ use Rattle.session_wire.specs.Frames.{IsFrame}
 use Rattle.session_wire.specs.Sessions.{Sent, Session, key_eq, session_of}
 use Rattle.session_wire.specs.declared.frame.Frame.{Frame}
 use Rattle.session_wire.specs.declared.frame.Frame.TheVariants.{Message, Ack}
+use Rattle.session_wire.proofs.Keys.{key_exact}
 use Rattle.session_table.specs.Tables.{raised}
 use Rattle.session_frames.specs.declared.judged.Judged.TheVariants as judged
 use Rattle.session_frames.specs.Items.{GoesFurther}
@@ -19,17 +20,18 @@ use Rattle.net_model.specs.Environment.{Environment, identity, party}
 use Rattle.net_model.specs.State.{NodeState, came_on, flow_of, sessions_on}
 use Rattle.net_model.specs.Steps.{next_cause}
 use Rattle.net_model.specs.Runs.{accepts, item_for, item_from}
-use Rattle.net_model.proofs.Fitting.{key_true}
+use Rattle.net_model.proofs.Basics.{apply_sessions}
 use Rattle.node_tables.specs.Journals.{state_of}
+use Rattle.node_tables.proofs.Acked.{raised_length}
 use Rattle.node_core.specs.Seen.{Pends}
 use Rattle.node_core.specs.Takes.{accepting, ack_to}
 use Rattle.network_core.specs.Worlds.{NodeWorld, World, Choice, states_of, came_at, IsTrue, WaitsAt, Coherent}
-use Rattle.network_core.proofs.AgreeingNets.{came_there, keeps_rest, apply_sessions}
+use Rattle.network_core.proofs.AgreeingNets.{came_there, keeps_rest}
 use Rattle.network_core.proofs.AgreeingPlace.{state_after, came_of}
 use Rattle.network_core.proofs.AgreeingOnce.{goes_coherent}
 use Rattle.network_core.proofs.AgreeingSteps.{IsSenders}
 use Rattle.network_core.proofs.AgreeingSends.{Told, state_here, keyed}
-use Rattle.network_core.proofs.AgreeingSaid.{raised_length, raised_get, IsPlace, answers, arrives, accepts_it, comes}
+use Rattle.network_core.proofs.AgreeingSaid.{raised_get, IsPlace, answers, arrives, accepts_it, comes}
 use Rattle.network_core.proofs.AgreeingFrames.{waiting_frame, told_of, frame_in}
 
 module _ {F : Type 0} (e : Environment F) (w : World) (p : ℕ) (x : NodeWorld) (coherent : Coherent e w) (there : slice_get w.nodes p ≡ Some x) (up : x.up ≡ true) where
@@ -53,7 +55,7 @@ module _ {F : Type 0} (e : Environment F) (w : World) (p : ℕ) (x : NodeWorld) 
       one = (coherent.each p x there).one;
       lists = λ l may. (l, may, inl refl);
       waits = λ old choice h. h;
-      numbers = λ here. raised_length (party p) key direction upto state.sessions x.acked (coherent.numbers p x there up) ∙ coherent.numbers p x there up;
+      numbers = λ here. raised_length (party p) key direction upto state.sessions x.acked (coherent.numbers p x there up);
       acks = λ here net frames known k session n at is.
           let found = raised_get (party p) key direction upto state.sessions x.acked k n session at is in
           let before = known up k session found.0 at found.1 in
@@ -64,7 +66,7 @@ module _ {F : Type 0} (e : Environment F) (w : World) (p : ℕ) (x : NodeWorld) 
         below net frames k session at test =
             let h = waiting_frame e w p x coherent there i bytes waits net frames in
             let told = told_of e w p x coherent there i bytes waits (judged.Acked key direction upto) net judges h in
-            let same : key ≡ session.key = key_true key session.key test in
+            let same : key ≡ session.key = key_exact key session.key test in
             let true_is : IsTrue net (Ack told.0 told.1 key direction upto) = subst (IsTrue net) told.2 h.true_is in
             let found : session_of key state.sessions ≡ Some session = ap (λ (q : Key). session_of q state.sessions) same ∙ keyed e w p x coherent there up k session at in
             let with_sender : is_with told.0 (Some session) ≡ true = subst (λ (o : Option Session). is_with told.0 o ≡ true) found told.3 in

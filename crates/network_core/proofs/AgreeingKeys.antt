@@ -3,14 +3,15 @@ use Rattle.std.proofs.Common.{◌≡◌, ℕ, zero, suc, List, [], ◌∷◌, So
 use Rattle.std.specs.List.{list_any}
 use Rattle.std.proofs.lemmas.Bool.{and_parts, or_parts, not-true}
 use Rattle.net_base.specs.declared.names.Key.{Key}
+use Rattle.net_base.proofs.Options.{some_eq}
 use Rattle.session_wire.specs.Sessions.{Session, key_eq, session_of}
+use Rattle.session_wire.proofs.Keys.{key_exact, key_same}
 use Rattle.net_model.specs.Environment.{Environment}
 use Rattle.net_model.specs.State.{NodeState, Record, apply_effect, fresh, replay, replay_from}
 use Rattle.net_model.specs.Runs.{IsLocalFrom}
 use Rattle.net_model.specs.Fits.{IsSound, keys_differ}
-use Rattle.net_model.proofs.Basics.{some_eq}
 use Rattle.net_model.proofs.Effects.{step_taken}
-use Rattle.net_model.proofs.Fitting.{key_true, key_same, step_fits}
+use Rattle.net_model.proofs.Fitting.{step_fits}
 use Rattle.net_model.proofs.Sound.{fresh_is_sound, fits_keep_sound}
 use Rattle.node_tables.specs.Journals.{records_of, state_of}
 use Rattle.network_core.specs.Worlds.{Sound}
@@ -48,7 +49,7 @@ found_by_key (t ∷ ss) (suc i) s differ at =
   where
     by : (b : Bool) → key_eq s.key t.key ≡ b → key_eq t.key s.key ≡ false → session_of s.key ss ≡ Some s → cond b (Some t) (session_of s.key ss) ≡ Some s
     by true is apart rest =
-        let same : s.key ≡ t.key = key_true s.key t.key is in
+        let same : s.key ≡ t.key = key_exact s.key t.key is in
         let yes : key_eq t.key s.key ≡ true = subst (λ (k : Key). key_eq t.key k ≡ true) (sym same) (key_same t.key) in
         absurd (no (key_eq t.key s.key) yes apart)
       where

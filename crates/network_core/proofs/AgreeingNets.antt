@@ -7,6 +7,7 @@ use Rattle.net_base.specs.declared.values.Party.{Party}
 use Rattle.net_base.specs.declared.causes.Cause.{Cause}
 use Rattle.net_base.specs.declared.causes.Event.{Event}
 use Rattle.net_base.specs.declared.causes.Event.TheVariants as event
+use Rattle.net_base.proofs.Lists.{find_map, get_there, all_weaken, get_other}
 use Rattle.session_wire.specs.declared.body.Body.{Body}
 use Rattle.session_wire.specs.declared.change.SentItem.{SentItem}
 use Rattle.session_wire.specs.declared.frame.Frame.{Frame}
@@ -15,10 +16,10 @@ use Rattle.session_wire.specs.Sessions.{Sent, Session, changed_at, key_eq, opene
 use Rattle.session_frames.specs.Judging.{arrived}
 use Rattle.net_model.specs.State.{NodeState, Effect, apply_effect, came_on, sessions_on, flow_of}
 use Rattle.net_model.specs.Runs.{item_from}
-use Rattle.net_model.proofs.Basics.{find_map, find_before, get_before}
+use Rattle.net_model.proofs.Basics.{find_before, get_before, apply_sessions}
 use Rattle.net_model.proofs.Local.{set_grows}
 use Rattle.network_core.specs.Worlds.{came_at, IsTrue, WaitsAt, AreArrived}
-use Rattle.network_core.proofs.AgreeingLists.{all_weaker, set_here, set_there, same_or_not}
+use Rattle.network_core.proofs.AgreeingLists.{same_or_not}
 
 -- each session keeps its place, its key and its other side, and as many items as arrived in the session of a key are there still
 pub record Keeps (old new : List Session) : Type 0 where
@@ -103,10 +104,6 @@ keeps_sessions cause e ss =
     let one = came_on cause.event (option_to_list e.change.came) (flow_of e.flow) ss in
     keeps_then ss one (sessions_on cause e ss) (keeps_came cause.event (option_to_list e.change.came) (flow_of e.flow) ss) (keeps_rest cause e one)
 
-pub apply_sessions : {F : Type 0} (s : NodeState F) (cause : Cause) (e : Effect F) → (apply_effect s cause e).sessions ≡ sessions_on cause e s.sessions
-unfolding apply_effect
-apply_sessions s cause e = refl
-
 -- ---- networks
 
 -- no item is lost, nor one that arrived
@@ -133,9 +130,9 @@ set_wider {F} net p s cause e is = record { items = (set_grows net p s cause e i
     by : (q : ℕ) (key : Key) → (q ≡ p) ⊎ (q ≡ p → ⊥) → came_at net q key ≤ came_at (slice_set net p next) q key
     by q key (inl here) =
         let before = came_there net q key s (ap (slice_get net) here ∙ is) in
-        let after = came_there (slice_set net p next) q key next (ap (slice_get (slice_set net p next)) here ∙ set_here net p s next is) in
+        let after = came_there (slice_set net p next) q key next (ap (slice_get (slice_set net p next)) here ∙ get_there net p s next is) in
         rw (before, after) (more key)
-    by q key (inr other) = rw (set_there net p next q other) (omega arith)
+    by q key (inr other) = rw (get_other net p next q other) (omega arith)
 
 module _ {F : Type 0} (old new : List (NodeState F)) (wider : Wider old new) where
   wider_true : (f : Frame) → IsTrue old f → IsTrue new f
@@ -146,7 +143,7 @@ module _ {F : Type 0} (old new : List (NodeState F)) (wider : Wider old new) whe
   wider_waits m bytes h = record { carried = h.carried; lawful = h.lawful; whole = h.whole; to = h.to; true_is = wider_true h.carried h.true_is }
 
   pub wider_all : (m : ℕ) (frames : List (List ℕ)) → AllByRecursion (WaitsAt old m) frames → AllByRecursion (WaitsAt new m) frames
-  wider_all m frames h = all_weaker (WaitsAt old m) (WaitsAt new m) frames (wider_waits m) h
+  wider_all m frames h = all_weaken (WaitsAt old m) (WaitsAt new m) frames (wider_waits m) h
 
   pub wider_arrived : (ss : List Session) (acked : List ℕ) → AreArrived old ss acked → AreArrived new ss acked
   wider_arrived ss acked h i session n at is = omega (arith, h i session n at is, wider.came session.peer.0 session.key)

@@ -1,12 +1,13 @@
 -- A coherent world stays coherent where one node changes as said here.
 use Rattle.std.proofs.Common.{◌≡◌, ℕ, ◌⊎◌, ⊎_elim, List, Some, None, true, map, length, slice_get, slice_set, sym, ap, subst, ◌∙◌}
 use Rattle.std.specs.List.{AllByRecursion}
+use Rattle.net_base.proofs.Lists.{get_there, set_length, set_own, get_beside, get_other}
 use Rattle.net_model.specs.Environment.{Environment}
 use Rattle.net_model.specs.State.{NodeState}
 use Rattle.net_model.specs.Runs.{IsMatched}
 use Rattle.node_tables.specs.Journals.{records_of, state_of}
 use Rattle.network_core.specs.Worlds.{NodeWorld, World, MaySpell, Choice, states_of, Sound, NodeCoherent, WaitsAt, AreArrived, Agrees, Coherent}
-use Rattle.network_core.proofs.AgreeingLists.{set_length, set_here, set_there, in_set, set_twice, set_own, get_beside}
+use Rattle.network_core.proofs.AgreeingLists.{in_set, set_twice}
 use Rattle.network_core.proofs.AgreeingNets.{Wider, wider_same, wider_all, wider_arrived}
 use Rattle.network_core.proofs.AgreeingPlace.{Adds, Widens, adds_widens, sound_push}
 
@@ -45,10 +46,10 @@ module _ {F : Type 0} (e : Environment F) where
 
     module _ (lists : List (List (List ℕ))) (choice : Choice v lists) where
       mine : (l : List (List ℕ)) × (slice_get lists p ≡ Some l)
-      mine = get_beside v.nodes lists p y (sym choice.count) (set_here w.nodes p x y there)
+      mine = get_beside v.nodes lists p y (sym choice.count) (get_there w.nodes p x y there)
 
       back : (old : List (List ℕ)) × MaySpell x old × ((mine.0 ≡ old) ⊎ Adds e w p old mine.0)
-      back = goes.lists mine.0 (choice.each p y mine.0 (set_here w.nodes p x y there) mine.1)
+      back = goes.lists mine.0 (choice.each p y mine.0 (get_there w.nodes p x y there) mine.1)
 
       abbrev before : List (List (List ℕ))
       before = slice_set lists p back.0
@@ -60,7 +61,7 @@ module _ {F : Type 0} (e : Environment F) where
             (λ here.
             let same : z ≡ x = some_same z x (sym at ∙ ap (slice_get w.nodes) here.0 ∙ there) in
             subst (λ (k : NodeWorld). MaySpell k l) (sym same) (subst (λ (j : List (List ℕ)). MaySpell x j) (sym here.1) back.1))
-            (λ other. choice.each q z l (set_there w.nodes p y q other.0 ∙ at) other.1)
+            (λ other. choice.each q z l (get_other w.nodes p y q other.0 ∙ at) other.1)
             (in_set lists p mine.0 back.0 q l mine.1 list_at);
       }
         where
@@ -81,7 +82,7 @@ module _ {F : Type 0} (e : Environment F) where
             matched = subst (λ (l : List (List (List ℕ))). IsMatched (map (records_of e.frame_at) l)) is known.matched;
             wider = subst (λ (l : List (List (List ℕ))). Wider (states_of e before) (states_of e l)) is (wider_same (states_of e before));
           })
-          (λ adds. subst (λ (l : List (List (List ℕ))). Widens e before l) restored (adds_widens e w p before chosen back.0 mine.0 (set_here lists p mine.0 back.0 mine.1) adds known.matched))
+          (λ adds. subst (λ (l : List (List (List ℕ))). Widens e before l) restored (adds_widens e w p before chosen back.0 mine.0 (get_there lists p mine.0 back.0 mine.1) adds known.matched))
           back.2
 
       abbrev net : List (NodeState F)

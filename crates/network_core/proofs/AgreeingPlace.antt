@@ -1,8 +1,9 @@
 -- A world in which one node changed: its lists are those of before, or one has a body more.
-use Rattle.std.proofs.Common.{◌≡◌, ℕ, ◌+◌, ◌≤◌, List, [], ◌∷◌, ◌++◌, Option, Some, None, true, map, length, option_map, option_to_list, slice_get, slice_set, refl, sym, ap, subst, ◌∙◌, arith, append_assoc, append-nil, length-append}
+use Rattle.std.proofs.Common.{◌≡◌, ℕ, ◌+◌, ◌≤◌, List, [], ◌∷◌, ◌++◌, Option, Some, None, true, map, length, option_map, option_to_list, slice_get, slice_set, refl, sym, ap, subst, ◌∙◌, arith, length-append}
 use Rattle.std.proofs.lemmas.Option.{slice_get-map}
 use Rattle.net_base.specs.declared.causes.Cause.{Cause}
 use Rattle.net_base.specs.declared.causes.Event.{Event}
+use Rattle.net_base.proofs.Lists.{map_set, map_twice}
 use Rattle.session_wire.specs.Sessions.{Sent}
 use Rattle.net_model.specs.Environment.{Environment}
 use Rattle.net_model.specs.State.{NodeState, Record, Effect, apply_effect, fresh, replay, replay_from}
@@ -10,16 +11,11 @@ use Rattle.net_model.specs.Steps.{node_step, next_cause}
 use Rattle.net_model.specs.Runs.{IsLocalFrom, IsItem, IsMatched, accepts, stamped, item_for}
 use Rattle.net_model.proofs.Effects.{effect_bare, effect_accepts, step_taken, step_is_its_effect}
 use Rattle.net_model.proofs.Commits.{commits_keep_matched}
-use Rattle.flow_records.specs.Records.{record_of}
-use Rattle.node_tables.specs.Journals.{Reads, records_of, state_of}
+use Rattle.node_tables.specs.Journals.{records_of, state_of}
+use Rattle.node_tables.proofs.Runs.{records_push}
 use Rattle.node_core.specs.Seen.{Pends}
 use Rattle.network_core.specs.Worlds.{World, Choice, states_of, Sound}
-use Rattle.network_core.proofs.AgreeingLists.{map_set}
 use Rattle.network_core.proofs.AgreeingNets.{Wider, set_wider}
-
-records_push : {F : Type 0} (f : Reads F) (bs : List (List ℕ)) (b : List ℕ) → records_of f (bs ++ b ∷ []) ≡ records_of f bs ++ option_to_list (record_of f b)
-records_push f [] b = append-nil (option_to_list (record_of f b))
-records_push f (x ∷ xs) b = ap (λ l. option_to_list (record_of f x) ++ l) (records_push f xs b) ∙ sym (append_assoc (option_to_list (record_of f x)) (records_of f xs) (option_to_list (record_of f b)))
 
 -- what an accepted item is in the effect: its body, under its own stamp; or there is none
 pub record Takes {F : Type 0} (item : Option Sent) (effect : Effect F) : Type 0 where
@@ -85,14 +81,10 @@ module _ {F : Type 0} (e : Environment F) (p : ℕ) where
 
 -- ---- journals of all nodes
 
-map_same : {X Y Z : Type 0} (g : Y → Z) (f : X → Y) (h : X → Z) (xs : List X) → ((x : X) → g (f x) ≡ h x) → map g (map f xs) ≡ map h xs
-map_same g f h [] same = refl
-map_same g f h (x ∷ xs) same = rw (same x) (ap (λ l. h x ∷ l) (map_same g f h xs same))
-
 module _ {F : Type 0} (e : Environment F) where
   replayed : (lists : List (List (List ℕ))) → map replay (map (records_of e.frame_at) lists) ≡ states_of e lists
   unfolding state_of
-  replayed lists = map_same replay (records_of e.frame_at) (state_of e.frame_at) lists (λ l. refl)
+  replayed lists = map_twice replay (records_of e.frame_at) (state_of e.frame_at) lists (λ l. refl)
 
   -- the list is the old one with one body more; an item that is accepted is its sender's, whichever journals a power cut leaves
   pub record Adds (w : World) (p : ℕ) (old l : List (List ℕ)) : Type 0 where

@@ -7,11 +7,14 @@ use Rattle.net_base.specs.declared.names.Key.{Key}
 use Rattle.net_base.specs.declared.values.Party.{Party}
 use Rattle.net_base.specs.declared.causes.Event.{Event}
 use Rattle.net_base.specs.declared.causes.Event.TheVariants as event
+use Rattle.net_base.proofs.Options.{none_of, some_eq}
+use Rattle.net_base.proofs.Lists.{find_map, find_test, find_push}
 use Rattle.session_wire.specs.declared.body.Body.{Body}
 use Rattle.session_wire.specs.declared.frame.Frame.{Frame}
 use Rattle.session_wire.specs.declared.frame.Frame.TheVariants.{Message, Ack}
 use Rattle.session_wire.specs.Rules.{direction_in, direction_out, is_init, is_lawful, is_no_peer}
 use Rattle.session_wire.specs.Sessions.{Session, key_eq, new_session, session_of, with_came}
+use Rattle.session_wire.proofs.Keys.{key_same}
 use Rattle.session_table.specs.Tables.{raised}
 use Rattle.session_frames.specs.declared.judged.Judged.{Judged}
 use Rattle.session_frames.specs.declared.judged.Judged.TheVariants.{Garbled, NotMine, NoSession, Early, Acked, Again, Next}
@@ -21,8 +24,6 @@ use Rattle.session_frames.specs.Sending.{addressee}
 use Rattle.session_frames.proofs.Further.{at_if}
 use Rattle.net_model.specs.State.{came_on}
 use Rattle.net_model.specs.Runs.{accepts}
-use Rattle.net_model.proofs.Basics.{some_eq, find_map}
-use Rattle.net_model.proofs.Fitting.{key_same, find_test, find_none_append, none_of}
 use Rattle.node_core.specs.Takes.{accepting}
 
 module _ (node : Identity) (ss : List Session) where
@@ -61,12 +62,6 @@ module _ (node : Identity) (ss : List Session) where
 
 -- ---- acknowledged numbers that are raised
 
-pub raised_length : (me : Party) (key : Key) (direction upto : ℕ) (ss : List Session) (ns : List ℕ) → length ns ≡ length ss → length (raised me key direction upto ss ns) ≡ length ns
-raised_length me key direction upto [] [] h = refl
-raised_length me key direction upto [] (n ∷ ns) h = cc
-raised_length me key direction upto (s ∷ ss) [] h = refl
-raised_length me key direction upto (s ∷ ss) (n ∷ ns) h = ap suc (raised_length me key direction upto ss ns (omega (arith, h)))
-
 -- each stays, or is raised in a session of the key
 pub raised_get : (me : Party) (key : Key) (direction upto : ℕ) (ss : List Session) (ns : List ℕ) (i n : ℕ) (s : Session) → slice_get ss i ≡ Some s → slice_get (raised me key direction upto ss ns) i ≡ Some n
     → (m : ℕ) × (slice_get ns i ≡ Some m) × ((n ≡ m) ⊎ ((key_eq key s.key ≡ true) × (n ≡ max m upto)))
@@ -103,7 +98,7 @@ module _ (node : Identity) (ss : List Session) (from : Party) (key : Key) (direc
   -- then as many arrived
   answered : (owner : Option ℕ) → BeginsSession node ss from key direction number body → number + 1 ≤ arrived (session_of key (came_on (event.Answer key) (body ∷ []) owner ss))
   answered owner b =
-      let found = find_none_append (λ s. key_eq key s.key) ss (new_session key key.initiator owner (body ∷ [])) (none_of (session_of key ss) (begins_new b)) (key_same key) in
+      let found = find_push (λ s. key_eq key s.key) ss (new_session key key.initiator owner (body ∷ [])) (none_of (session_of key ss) (begins_new b)) (key_same key) in
       rw found (omega (arith, b.first))
 
   arrived_on : (owner : Option ℕ) → GoesOn node ss from key direction number body → number + 1 ≤ arrived (session_of key (came_on (event.Arrive key direction number) (body ∷ []) owner ss))

@@ -3,22 +3,24 @@ use Rattle.std.proofs.Common.{◌≡◌, ℕ, suc, ◌+◌, inl, ⊎_elim, List,
 use Rattle.std.specs.List.{AllByRecursion}
 use Rattle.std.proofs.lemmas.Option.{slice_get-map}
 use Rattle.net_base.specs.declared.values.Party.{Party}
+use Rattle.net_base.proofs.Lists.{all_append, all_kept, get_there, all_weaken, set_length, get_beside, get_other}
+use Rattle.net_base.proofs.Options.{some_eq}
 use Rattle.session_wire.specs.Frames.{IsFrame}
 use Rattle.session_wire.specs.Sessions.{Session, Sent, session_of}
 use Rattle.session_table.specs.declared.resent.Item.{Item}
 use Rattle.session_table.specs.Tables.{item_of, items_from, unacked_in, unacked}
 use Rattle.session_frames.specs.declared.sending.Outgoing.{Outgoing}
 use Rattle.session_frames.specs.Sending.{message_of, outgoing}
+use Rattle.session_frames.proofs.Messages.{all_items}
 use Rattle.waiting_frames.specs.Waiting.{is_waiting, joined}
 use Rattle.net_model.specs.Environment.{Environment, party}
 use Rattle.net_model.specs.Runs.{item_from}
-use Rattle.net_model.proofs.Basics.{some_eq}
 use Rattle.node_tables.specs.Journals.{state_of}
 use Rattle.network_core.specs.declared.steps.Outcome.{Outcome}
 use Rattle.network_core.specs.declared.steps.Outcome.TheVariants as outcome
 use Rattle.network_core.specs.Worlds.{NodeWorld, World, MaySpell, Choice, states_of, WaitsAt, Coherent}
 use Rattle.network_core.specs.Serves.{with_frame, sent_to, sent_once, sent_all, PostsFrom}
-use Rattle.network_core.proofs.AgreeingLists.{same_or_not, set_length, set_here, set_there, get_beside, all_append, all_filter, all_map, all_weaker}
+use Rattle.network_core.proofs.AgreeingLists.{same_or_not, all_map}
 use Rattle.network_core.proofs.AgreeingKeys.{sound_keys, found_by_key}
 use Rattle.network_core.proofs.AgreeingOnce.{goes_coherent}
 
@@ -61,9 +63,9 @@ module _ {F : Type 0} (e : Environment F) where
         each = λ q z l at there. ⊎_elim
             (λ here.
             let same : x ≡ z = some_eq (sym is ∙ ap (slice_get u.nodes) (sym here) ∙ at) in
-            let may : MaySpell (with_frame o.bytes x) l = choice.each q (with_frame o.bytes x) l (ap (slice_get (slice_set u.nodes o.to.0 (with_frame o.bytes x))) here ∙ set_here u.nodes o.to.0 x (with_frame o.bytes x) is) there in
+            let may : MaySpell (with_frame o.bytes x) l = choice.each q (with_frame o.bytes x) l (ap (slice_get (slice_set u.nodes o.to.0 (with_frame o.bytes x))) here ∙ get_there u.nodes o.to.0 x (with_frame o.bytes x) is) there in
             subst (λ (k : NodeWorld). MaySpell k l) same may)
-            (λ other. choice.each q z l (set_there u.nodes o.to.0 (with_frame o.bytes x) q other ∙ at) there)
+            (λ other. choice.each q z l (get_other u.nodes o.to.0 (with_frame o.bytes x) q other ∙ at) there)
             (same_or_not q o.to.0);
       }
 
@@ -72,7 +74,7 @@ module _ {F : Type 0} (e : Environment F) where
 
   pub sends_coherent : (frames : List Outgoing) (u : World) → Coherent e u → AllByRecursion (Told u) frames → Coherent e (record { nodes = sent_all frames u.nodes; now = u.now })
   sends_coherent [] u coherent told = coherent
-  sends_coherent (o ∷ os) u coherent told = sends_coherent os (after u o) (send_coherent u o coherent told.0) (all_weaker (Told u) (Told (after u o)) os (told_after u o) told.1)
+  sends_coherent (o ∷ os) u coherent told = sends_coherent os (after u o) (send_coherent u o coherent told.0) (all_weaken (Told u) (Told (after u o)) os (told_after u o) told.1)
 
 -- ---- where items that aren't acknowledged come from
 
@@ -85,16 +87,6 @@ pub record Origin (me : Party) (ss : List Session) (item : Item) : Type 0 where
   pub there : slice_get session.sent number ≡ Some sent
   pub is : item ≡ item_of me session number sent
 
-all_items : (P : Item → Type 0) (me : Party) (s : Session) (n : ℕ) (xs : List Sent) → ((k : ℕ) (x : Sent) → slice_get xs k ≡ Some x → P (item_of me s (n + k) x)) → AllByRecursion P (items_from me s n xs)
-all_items P me s n [] h = tt
-all_items P me s n (x ∷ xs) h =
-    let first : n + 0 ≡ n = omega arith in (
-      subst (λ (j : ℕ). P (item_of me s j x)) first (h 0 x refl),
-      all_items P me s (n + 1) xs (λ k y there.
-          let place : n + suc k ≡ n + 1 + k = omega arith in
-          subst (λ (j : ℕ). P (item_of me s j y)) place (h (suc k) y there)),
-    )
-
 later : (me : Party) (s : Session) (ss : List Session) (item : Item) → Origin me ss item → Origin me (s ∷ ss) item
 later me s ss item o = record { place = suc o.place; session = o.session; number = o.number; sent = o.sent; at = o.at; there = o.there; is = o.is }
 
@@ -104,10 +96,10 @@ origins me (s ∷ ss) [] = tt
 origins me (s ∷ ss) (n ∷ ns) =
     let P : Item → Type 0 = Origin me (s ∷ ss) in
     all_append P (unacked_in me (s, n)) (unacked me ss ns)
-    (all_filter P (λ item. nat_le n item.number) (items_from me s 0 s.sent) (all_items P me s 0 s.sent (λ k x there.
+    (all_kept P (λ item. nat_le n item.number) (items_from me s 0 s.sent) (all_items P me s 0 s.sent (λ k x there.
     let at : 0 + k ≡ k = omega arith in
     record { place = 0; session = s; number = k; sent = x; at = refl; there = there; is = ap (λ (j : ℕ). item_of me s j x) at })))
-    (all_weaker (Origin me ss) P (unacked me ss ns) (later me s ss) (origins me ss ns))
+    (all_weaken (Origin me ss) P (unacked me ss ns) (later me s ss) (origins me ss ns))
 
 all_both : {X : Type 0} (P Q R : X → Type 0) (xs : List X) → ((x : X) → P x → Q x → R x) → AllByRecursion P xs → AllByRecursion Q xs → AllByRecursion R xs
 all_both P Q R [] f h k = tt

@@ -4,12 +4,14 @@ use Rattle.std.specs.List.{AllByRecursion}
 use Rattle.std.proofs.lemmas.Bool.{true≢false}
 use Rattle.net_base.specs.declared.causes.Event.{Event}
 use Rattle.net_base.specs.declared.causes.Event.TheVariants as event
+use Rattle.net_base.proofs.Lists.{all_append, all_drop, all_take, get_beside}
+use Rattle.net_base.proofs.Options.{some_eq}
 use Rattle.session_wire.specs.Sessions.{Sent, Session}
 use Rattle.net_model.specs.Environment.{Environment}
 use Rattle.net_model.specs.State.{NodeState, sessions_on}
 use Rattle.net_model.specs.Steps.{next_cause}
 use Rattle.net_model.specs.Runs.{item_for, accepts}
-use Rattle.net_model.proofs.Basics.{some_eq}
+use Rattle.net_model.proofs.Basics.{apply_sessions}
 use Rattle.net_model.proofs.Effects.{effect_accepts, step_taken}
 use Rattle.node_tables.specs.Journals.{state_of}
 use Rattle.node_tables.specs.Seen.{padded}
@@ -18,8 +20,7 @@ use Rattle.network_core.specs.declared.steps.Outcome.{Outcome}
 use Rattle.network_core.specs.declared.steps.Outcome.TheVariants as outcome
 use Rattle.network_core.specs.Worlds.{NodeWorld, World, MaySpell, Choice, states_of, came_at, WaitsAt, AreArrived, Coherent}
 use Rattle.network_core.specs.Serves.{WorldCommits, WorldFaults, WorldPlace, WorldStarts, WorldTurns, WorldCuts, StaysDown, ComesUp, WorldBoots, LosesAt, without}
-use Rattle.network_core.proofs.AgreeingLists.{get_beside, all_append, all_take, all_drop}
-use Rattle.network_core.proofs.AgreeingNets.{keeps_sessions, apply_sessions}
+use Rattle.network_core.proofs.AgreeingNets.{keeps_sessions}
 use Rattle.network_core.proofs.AgreeingPlace.{Adds, state_after}
 use Rattle.network_core.proofs.AgreeingOnce.{goes_coherent}
 

@@ -2,6 +2,7 @@
 use Rattle.std.proofs.Common.{◌≡◌, ℕ, ◌+◌, ◌<◌, ◌≤◌, ◌^◌, List, [], ◌∷◌, ◌++◌, Option, Some, None, Bool, true, false, slice_get, slice_set, refl, sym, ap, subst, ◌∙◌, arith}
 use Rattle.net_base.specs.declared.names.Key.{Key}
 use Rattle.net_base.specs.declared.values.Party.{Party}
+use Rattle.net_base.proofs.Lists.{get_there}
 use Rattle.session_wire.specs.declared.body.Body.{Body}
 use Rattle.session_wire.specs.Frames.{IsFrame}
 use Rattle.session_wire.specs.Sessions.{Session, session_of}
@@ -18,7 +19,7 @@ use Rattle.network_core.specs.declared.steps.Outcome.{Outcome}
 use Rattle.network_core.specs.declared.steps.Outcome.TheVariants as outcome
 use Rattle.network_core.specs.Worlds.{NodeWorld, World, Coherent}
 use Rattle.network_core.specs.Serves.{HearsNext, Hears, WorldTakes, sent_all, without, handed_over}
-use Rattle.network_core.proofs.AgreeingLists.{set_here, set_twice}
+use Rattle.network_core.proofs.AgreeingLists.{set_twice}
 use Rattle.network_core.proofs.AgreeingSteps.{commits_coherent, faults_coherent, stays_coherent, same_coherent, all_without}
 use Rattle.network_core.proofs.AgreeingSends.{sends_coherent}
 use Rattle.network_core.proofs.AgreeingFrames.{first_says}
@@ -34,7 +35,7 @@ module _ {F : Type 0} (e : Environment F) (w : World) (p i : ℕ) (x : NodeWorld
   removed y true known = known
   removed y false known =
       let z : NodeWorld = record y { waiting = without i y.waiting } in
-      let here = set_here w.nodes p x y there in
+      let here = get_there w.nodes p x y there in
       let all : Coherent e (record { nodes = slice_set (slice_set w.nodes p y) p z; now = w.now }) = stays_coherent e (world_of y) p y z known here refl refl refl refl (λ P h. all_without e (world_of y) p y z known here P i y.waiting h) in
       subst (λ (nodes : List NodeWorld). Coherent e (record { nodes = nodes; now = w.now })) (set_twice w.nodes p y z) all
 
@@ -49,10 +50,10 @@ module _ {F : Type 0} (e : Environment F) (w : World) (p i : ℕ) (x : NodeWorld
       subst (λ (l : List Outgoing). Coherent e (record { nodes = sent_all l (slice_set w.nodes p (handed_over b i y)); now = w.now })) (sym is) (by b (removed y b known))
     where
       by : (b : Bool) → Coherent e (world_of (handed_over b i y)) → Coherent e (record { nodes = sent_all (ack_to (party p) from key direction upto ∷ []) (slice_set w.nodes p (handed_over b i y)); now = w.now })
-      by true all = sends_coherent e (ack_to (party p) from key direction upto ∷ []) (world_of y) all (ack_told e (world_of y) p y all (set_here w.nodes p x y there) y_up from key direction upto lawful few, tt)
+      by true all = sends_coherent e (ack_to (party p) from key direction upto ∷ []) (world_of y) all (ack_told e (world_of y) p y all (get_there w.nodes p x y there) y_up from key direction upto lawful few, tt)
       by false all =
           let z : NodeWorld = record y { waiting = without i y.waiting } in
-          sends_coherent e (ack_to (party p) from key direction upto ∷ []) (world_of z) all (ack_told e (world_of z) p z all (set_here w.nodes p x z there) y_up from key direction upto lawful few, tt)
+          sends_coherent e (ack_to (party p) from key direction upto ∷ []) (world_of z) all (ack_told e (world_of z) p z all (get_there w.nodes p x z there) y_up from key direction upto lawful few, tt)
 
   module _ (bytes : List ℕ) (waits : slice_get x.waiting i ≡ Some bytes) (b : Bool) (y : NodeWorld) (frames : List Outgoing) where
     abbrev Stays : Type 0

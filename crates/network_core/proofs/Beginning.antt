@@ -3,13 +3,14 @@ use Rattle.std.proofs.Common.{◌≡◌, ◌⊎◌, inl, inr, ⊎_elim, ℕ, zer
 use Rattle.std.specs.List.{slice_get, AllByRecursion}
 use Rattle.std.proofs.lemmas.Bool.{cases_lt, true≢false}
 use Rattle.std.proofs.lemmas.Option.{same_Some, none-some}
+use Rattle.std.proofs.lemmas.List.{length-map}
 use Rattle.outside.specs.Disk.{DiskView, IsImage}
 use Rattle.net_base.specs.declared.names.Identity.{Identity}
 use Rattle.net_base.specs.declared.values.Party.{Party}
+use Rattle.net_base.proofs.Lists.{get_below, get_less, all_from_get, get_beside, get_map}
 use Rattle.flow_machine.specs.Machine.{Machine}
 use Rattle.disk_journal.specs.Journal.{journal_of}
 use Rattle.net_model.specs.Environment.{Environment, environment}
-use Rattle.net_model.proofs.Faithful.{get_less}
 use Rattle.node_core.specs.declared.faults.BootFault.{BootFault}
 use Rattle.node_core.specs.declared.faults.BootFault.TheVariants as boot_fault
 use Rattle.node_tables.specs.Journals.{Reads, state_of}
@@ -19,7 +20,6 @@ use Rattle.network_core.proofs.Agreeing.{begun_coherent, stay_down_coherent}
 use Rattle.network_core.proofs.Mailing.{waits_in}
 use Rattle.network_core.specs.Worlds.{NodeWorld, World, NetSeen, MaySpell, ShowsJournal, NodeShows, Shows, AreOpenable, Coherent}
 use Rattle.network_core.specs.Begins.{Begun, BeginsUp, LeavesDisk, member, came_up, no_boot, IsLast, BootsUpTo, BootStops, node_over, nodes_over, net_over, BeginsWorld, StayDown, IsRefused}
-use Rattle.network_core.proofs.Faithful.{get_beside, map_length}
 use Rattle.network_core.proofs.Booting.{down_world, same_kept, booted_world, gives_up, coherent_fits}
 use Rattle.network_core.proofs.Stands.{AreYoung}
 
@@ -69,7 +69,7 @@ over_get nodes notary from (d ∷ ds) (suc p) n at =
 pub over_down : (nodes : ℕ) (notary : Party) (from : ℕ) (ds : List DiskView) (p : ℕ) (n : NodeSeen) → slice_get (nodes_over nodes notary from ds) p ≡ Some n → n.journal ≡ None
 over_down nodes notary from ds p n at = ap (λ z. z.journal) (over_get nodes notary from ds p n at).2
 
-over_at : (nodes : ℕ) (notary : Party) (from : ℕ) (ds : List DiskView) (p : ℕ) (d : DiskView) → slice_get ds p ≡ Some d → slice_get (nodes_over nodes notary from ds) p ≡ Some (node_over nodes notary (from + p) d)
+pub over_at : (nodes : ℕ) (notary : Party) (from : ℕ) (ds : List DiskView) (p : ℕ) (d : DiskView) → slice_get ds p ≡ Some d → slice_get (nodes_over nodes notary from ds) p ≡ Some (node_over nodes notary (from + p) d)
 over_at nodes notary from [] p d at = cc
 over_at nodes notary from (x ∷ ds) zero d at = let same : x ≡ d = cc in
     let place : from ≡ from + zero = omega arith in
@@ -87,16 +87,6 @@ same_node i j d c same disk = rw (same, disk) refl
 closed : (k : NodeSeen) → k.journal ≡ None → k.acked ≡ [] → k ≡ lain k.identity k.disk
 closed k none unsent = ap (λ j. record { identity = k.identity; disk = k.disk; journal = j; acked = k.acked }) none ∙ ap (λ (a : List ℕ). record { identity = k.identity; disk = k.disk; journal = None; acked = a }) unsent
 
-get_mapped : {X Y : Type 0} (f : X → Y) (xs : List X) (p : ℕ) (x : X) → slice_get xs p ≡ Some x → slice_get (map f xs) p ≡ Some (f x)
-get_mapped f [] p x at = cc
-get_mapped f (y ∷ xs) zero x at = let same : y ≡ x = cc in ap (λ z. Some (f z)) same
-get_mapped f (y ∷ xs) (suc p) x at = get_mapped f xs p x at
-
-get_within : {X : Type 0} (xs : List X) (p : ℕ) → p < length xs → (x : X) × (slice_get xs p ≡ Some x)
-get_within [] p lt = absurd (omega (arith, lt))
-get_within (x ∷ xs) zero lt = (x, refl)
-get_within (x ∷ xs) (suc p) lt = get_within xs p (omega (arith, lt))
-
 -- from the first place on
 pub first_get : (nodes : ℕ) (notary : Party) (ds : List DiskView) (p : ℕ) (n : NodeSeen) → slice_get (nodes_over nodes notary 0 ds) p ≡ Some n → (d : DiskView) × (slice_get ds p ≡ Some d) × (n ≡ node_over nodes notary p d)
 first_get nodes notary ds p n at =
@@ -104,7 +94,7 @@ first_get nodes notary ds p n at =
     let place : 0 + p ≡ p = omega arith in
     (found.0, found.1, found.2 ∙ ap (λ q. node_over nodes notary q found.0) place)
 
-first_at : (nodes : ℕ) (notary : Party) (ds : List DiskView) (p : ℕ) (d : DiskView) → slice_get ds p ≡ Some d → slice_get (nodes_over nodes notary 0 ds) p ≡ Some (node_over nodes notary p d)
+pub first_at : (nodes : ℕ) (notary : Party) (ds : List DiskView) (p : ℕ) (d : DiskView) → slice_get ds p ≡ Some d → slice_get (nodes_over nodes notary 0 ds) p ≡ Some (node_over nodes notary p d)
 first_at nodes notary ds p d at =
     let place : 0 + p ≡ p = omega arith in
     over_at nodes notary 0 ds p d at ∙ ap (λ q. Some (node_over nodes notary q d)) place
@@ -264,14 +254,14 @@ module _ {F : Type 0} (m : Machine F) (f : Reads F) (nodes : ℕ) (notary : Part
 
   module _ (place : ℕ) (why : BootFault) (news : List NodeSeen) (stops : BootStops f place why olds news) (back : List DiskView) (handed : map roomless back ≡ map (λ n. n.disk) news) where
     long : length back ≡ length news
-    long = sym (map_length roomless back) ∙ ap length handed ∙ map_length (λ (n : NodeSeen). n.disk) news
+    long = sym (length-map back roomless) ∙ ap length handed ∙ length-map news (λ (n : NodeSeen). n.disk)
 
     count : length back ≡ length disks
     count = long ∙ stops.count ∙ over_length nodes notary 0 disks
 
     -- the disk that comes back is that of the node
     disk_back : (p : ℕ) (b : DiskView) (k : NodeSeen) → slice_get back p ≡ Some b → slice_get news p ≡ Some k → roomless b ≡ k.disk
-    disk_back p b k i j = same_Some _ _ (sym (get_mapped roomless back p b i) ∙ ap (λ l. slice_get l p) handed ∙ get_mapped (λ (n : NodeSeen). n.disk) news p k j)
+    disk_back p b k i j = same_Some _ _ (sym (get_map roomless back p b i) ∙ ap (λ l. slice_get l p) handed ∙ get_map (λ (n : NodeSeen). n.disk) news p k j)
 
     one_left : (now : ℕ) (w : World) → Shows e (net_over nodes notary now disks) w → (p : ℕ) (k : NodeSeen) (x : NodeWorld) → slice_get news p ≡ Some k → slice_get w.nodes p ≡ Some x → (y : NodeWorld) × Lefts why p k x y
     one_left now w shows p k x i j =
@@ -291,7 +281,7 @@ module _ {F : Type 0} (m : Machine F) (f : Reads F) (nodes : ℕ) (notary : Part
 
     stopped_so : (now : ℕ) (w : World) → Shows e (net_over nodes notary now disks) w → Coherent e w → AreOpenable w → GaveUp why
     stopped_so now w shows coherent on =
-        let n = get_within olds place stops.within in
+        let n = get_below olds place stops.within in
         let k = get_beside olds news place n.0 (sym stops.count) n.1 in
         let x = get_beside olds w.nodes place n.0 (sym shows.count) n.1 in
         let s = stops.refused n.0 k.0 n.1 k.1 in
@@ -348,8 +338,8 @@ module _ {F : Type 0} (m : Machine F) (f : Reads F) (nodes : ℕ) (notary : Part
 
     pub refused_world : IsRefused m f nodes notary disks place why back
     refused_world =
-        let first = get_within disks place (omega (arith, stops.within, over_length nodes notary 0 disks)) in
-        let last = get_within back place (omega (arith, stops.within, over_length nodes notary 0 disks, count)) in
+        let first = get_below disks place (omega (arith, stops.within, over_length nodes notary 0 disks)) in
+        let last = get_below back place (omega (arith, stops.within, over_length nodes notary 0 disks, count)) in
         record {
           count = count;
           refused = inr (first.0, last.0, first.1, last.1, refused_boot first.0 last.0 first.1 last.1);
@@ -382,14 +372,9 @@ module _ {F : Type 0} (m : Machine F) (f : Reads F) (nodes : ℕ) (notary : Part
     );
   }
 
--- each of a list has what stands at each place
-all_from : {X : Type 0} (P : X → Type 0) (xs : List X) → ((p : ℕ) (x : X) → slice_get xs p ≡ Some x → P x) → AllByRecursion P xs
-all_from P [] each = tt
-all_from P (x ∷ xs) each = (each zero x refl, all_from P xs (λ p y at. each (suc p) y at))
-
 -- no cause of the nodes that were booted is later than the moment
 pub all_by_last : {F : Type 0} (f : Reads F) (olds news : List NodeSeen) (now : ℕ) → BootsUpTo f (length olds) now olds news → AllByRecursion (λ n. IsBy f n.journal now) news
 all_by_last f olds news now b =
-    all_from (λ n. IsBy f n.journal now) news (λ p k at.
+    all_from_get (λ n. IsBy f n.journal now) news (λ p k at.
     let there = get_beside news olds p k b.count at in
     b.latest p there.0 k (get_less olds p there.0 there.1) there.1 at)

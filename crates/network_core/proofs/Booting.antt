@@ -1,12 +1,13 @@
 -- What a boot makes of the world.
-use Rattle.std.proofs.Common.{◌≡◌, ◌⊎◌, inl, inr, ⊎_elim, ℕ, zero, suc, max, ◌<◌, ◌≤◌, Bool, true, false, List, [], ◌∷◌, map, Option, Some, None, IsSome, Result, Ok, Err, refl, sym, ◌∙◌, ap, subst, arith, slice_set}
+use Rattle.std.proofs.Common.{◌≡◌, ◌⊎◌, inl, inr, ⊎_elim, ℕ, max, ◌<◌, ◌≤◌, Bool, true, false, List, [], map, Option, Some, None, Result, Ok, Err, refl, sym, ◌∙◌, ap, subst, arith, slice_set}
 use Rattle.std.specs.List.{slice_get, AllByRecursion}
 use Rattle.std.specs.Option.{MatchOption}
-use Rattle.std.proofs.lemmas.Bool.{cases_lt}
+use Rattle.std.proofs.lemmas.Bool.{cases_lt, false_from_ne_true}
 use Rattle.std.proofs.lemmas.Option.{same_Some, none-some}
 use Rattle.outside.specs.Disk.{DiskView, IsImage}
 use Rattle.outside.specs.Faults.{Rose}
 use Rattle.net_base.specs.declared.names.Identity.{Identity}
+use Rattle.net_base.proofs.Lists.{get_there, all_weaken, get_beside, all_set}
 use Rattle.flow_machine.specs.Machine.{Machine}
 use Rattle.disk_journal.specs.Journal.{journal_of, placed, WasSpelt}
 use Rattle.disk_journal.specs.declared.fault.OpenFault.TheVariants as open_fault
@@ -24,10 +25,10 @@ use Rattle.network_core.specs.Worlds.{NodeWorld, World, NetSeen, MaySpell, Shows
 use Rattle.network_core.specs.Answers.{said, boot_outcome, Restored, BootServes, BootClock, AtPlace}
 use Rattle.network_core.specs.Serves.{WorldPlace, WorldBoots, StaysDown}
 use Rattle.network_core.proofs.Agreeing.{boot_coherent}
-use Rattle.network_core.proofs.Stands.{Goes, AreYoung, shows_down, images_now, not_true, young_now}
-use Rattle.network_core.proofs.Faithful.{get_beside}
+use Rattle.network_core.proofs.Stands.{Goes, AreYoung, shows_down, images_now, young_now}
 use Rattle.network_core.proofs.Fitting.{local_fits}
 use Rattle.network_core.proofs.Places.{place_world_of}
+use Rattle.network_core.proofs.Delivering.{up_of}
 
 -- what a boot makes of a node that is down, whether or not its power came back
 pub record Unmoved (x y : NodeWorld) (k : NodeSeen) : Type 0 where
@@ -206,7 +207,7 @@ module _ {F : Type 0} (e : Environment F) (p : ℕ) (n mid k : NodeSeen) (x : No
   foreign : (why : BootFault) → (GaveUp why → ⊥) → (why ≡ boot_fault.Fault → ⊥) → k.journal ≡ None → k.acked ≡ [] → k.identity ≡ mid.identity → Unbooted e.frame_at mid.identity mid.disk why k.disk → Goes e p x k (λ y. WorldBoots e x (Some (outcome.Refused 13)) y)
   foreign why never other none acked id u =
       let to = refused why other none acked id u in
-      (to.0, to.1, to.2, inr (refl, not_true x.openable (λ on. never (gives_up e p mid k z shows_mid restored.journal fit why u on)), to.3.0, to.3.1))
+      (to.0, to.1, to.2, inr (refl, false_from_ne_true x.openable (λ on. never (gives_up e p mid k z shows_mid restored.journal fit why u on)), to.3.0, to.3.1))
 
   boots : (answer : Result (Unit {0}) BootFault) → BootsAs e.frame_at mid answer k → Goes e p x k (λ y. WorldBoots e x (boot_outcome answer) y)
   boots (Ok u) s =
@@ -221,10 +222,6 @@ module _ {F : Type 0} (e : Environment F) (p : ℕ) (n mid k : NodeSeen) (x : No
   boots (Err boot_fault.NotAJournal) s = foreign boot_fault.NotAJournal (λ g. g) (λ is. cc) s.0 s.1 s.2 s.3
   boots (Err (boot_fault.WrongNode found)) s = foreign (boot_fault.WrongNode found) (λ g. g) (λ is. cc) s.0 s.1 s.2 s.3
   boots (Err (boot_fault.Damaged at)) s = foreign (boot_fault.Damaged at) (λ g. g) (λ is. cc) s.0 s.1 s.2 s.3
-
-up_of : (journal : Option (List (List ℕ))) (x : NodeWorld) → IsSome journal → ShowsJournal journal x → x.up ≡ true
-up_of None x up shows = cc
-up_of (Some b) x up shows = shows.0
 
 -- a boot of any node
 boot_any : {F E : Type 0} (e : Environment F) (p : ℕ) (n k : NodeSeen) (x : NodeWorld) (result : Result Outcome E) → NodeShows e p n x → misfit e.frame_at e.nodes (party p) (placed 16 x.journal) ≡ None → BootServes e.frame_at n result k → Goes e p x k (λ y. WorldBoots e x (said result) y)
@@ -266,21 +263,12 @@ boot_world m f p old new result clock at id w shows coherent =
 
 -- ---- the moments of the nodes after a boot
 
-AllByRecursion-set : {X : Type 0} (P : X → Type 0) (xs : List X) (i : ℕ) (y : X) → AllByRecursion P xs → P y → AllByRecursion P (slice_set xs i y)
-AllByRecursion-set P [] i y h p = h
-AllByRecursion-set P (x ∷ xs) zero y h p = (p, h.1)
-AllByRecursion-set P (x ∷ xs) (suc i) y h p = (h.0, AllByRecursion-set P xs i y h.1 p)
-
-AllByRecursion-weaken : {X : Type 0} (P Q : X → Type 0) (xs : List X) → ((x : X) → P x → Q x) → AllByRecursion P xs → AllByRecursion Q xs
-AllByRecursion-weaken P Q [] f h = tt
-AllByRecursion-weaken P Q (x ∷ xs) f h = (f x h.0, AllByRecursion-weaken P Q xs f h.1)
-
 by_later : {F : Type 0} (f : Reads F) (journal : Option (List (List ℕ))) (now later : ℕ) → now ≤ later → IsBy f journal now → IsBy f journal later
 by_later f None now later le by = tt
 by_later f (Some b) now later le by = omega (arith, le, by)
 
 pub all_later : {F : Type 0} (f : Reads F) (ns : List NodeSeen) (now later : ℕ) → now ≤ later → AllByRecursion (λ n. IsBy f n.journal now) ns → AllByRecursion (λ n. IsBy f n.journal later) ns
-all_later f ns now later le all = AllByRecursion-weaken (λ n. IsBy f n.journal now) (λ n. IsBy f n.journal later) ns (λ n by. by_later f n.journal now later le by) all
+all_later f ns now later le all = all_weaken (λ n. IsBy f n.journal now) (λ n. IsBy f n.journal later) ns (λ n by. by_later f n.journal now later le by) all
 
 by_last : {F : Type 0} (f : Reads F) (journal : Option (List (List ℕ))) (last later : ℕ) → MatchOption journal (last ≡ 0) (λ b. last ≡ (state_of f b).moment) → last ≤ later → IsBy f journal later
 by_last f None last later is le = tt
@@ -289,12 +277,7 @@ by_last f (Some b) last later is le = omega (arith, is, le)
 pub all_by : {F : Type 0} (f : Reads F) (ns : List NodeSeen) (i : ℕ) (k : NodeSeen) (now last later : ℕ) → AllByRecursion (λ n. IsBy f n.journal now) ns → MatchOption k.journal (last ≡ 0) (λ b. last ≡ (state_of f b).moment) → later ≡ max now last
     → AllByRecursion (λ n. IsBy f n.journal later) (slice_set ns i k)
 all_by f ns i k now last later all is same =
-    AllByRecursion-set (λ n. IsBy f n.journal later) ns i k (AllByRecursion-weaken (λ n. IsBy f n.journal now) (λ n. IsBy f n.journal later) ns (λ n by. by_later f n.journal now later (omega (arith, same)) by) all) (by_last f k.journal last later is (omega (arith, same)))
-
-slice_get_set : {X : Type 0} (xs : List X) (i : ℕ) (x y : X) → slice_get xs i ≡ Some x → slice_get (slice_set xs i y) i ≡ Some y
-slice_get_set [] i x y e = cc
-slice_get_set (z ∷ zs) zero x y e = refl
-slice_get_set (z ∷ zs) (suc i) x y e = slice_get_set zs i x y e
+    all_set (λ n. IsBy f n.journal later) ns i k (all_weaken (λ n. IsBy f n.journal now) (λ n. IsBy f n.journal later) ns (λ n by. by_later f n.journal now later (omega (arith, same)) by) all) (by_last f k.journal last later is (omega (arith, same)))
 
 clock_by : {F : Type 0} (f : Reads F) (place : ℕ) (old new : NetSeen) (k : NodeSeen) (last : ℕ) (journal : Option (List (List ℕ))) → slice_get new.nodes place ≡ Some k → k.journal ≡ journal → MatchOption journal (last ≡ 0) (λ b. last ≡ (state_of f b).moment) → new.now ≡ max old.now last → BootClock f place old new
 clock_by f place old new k last None there here none same = inl (omega (arith, none, same))
@@ -302,4 +285,4 @@ clock_by f place old new k last (Some b) there here some same = ⊎_elim (λ lat
 
 -- the moment stays, or the node's journal has a later cause
 pub clock_boot : {F : Type 0} (f : Reads F) (place : ℕ) (old new : NetSeen) (n k : NodeSeen) (last : ℕ) → slice_get old.nodes place ≡ Some n → new.nodes ≡ slice_set old.nodes place k → MatchOption k.journal (last ≡ 0) (λ b. last ≡ (state_of f b).moment) → new.now ≡ max old.now last → BootClock f place old new
-clock_boot f place old new n k last at nodes is same = clock_by f place old new k last k.journal (rw nodes (slice_get_set old.nodes place n k at)) refl is same
+clock_boot f place old new n k last at nodes is same = clock_by f place old new k last k.journal (rw nodes (get_there old.nodes place n k at)) refl is same

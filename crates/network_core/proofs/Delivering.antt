@@ -4,6 +4,7 @@ use Rattle.std.specs.List.{slice_get}
 use Rattle.std.specs.Option.{option_map, option_to_list}
 use Rattle.std.proofs.lemmas.Option.{MatchOption-at_some, same_Some, none-some}
 use Rattle.net_base.specs.declared.names.Identity.{Identity}
+use Rattle.net_base.proofs.Lists.{get_below, map_set, set_length, set_own, get_beside}
 use Rattle.session_table.specs.Tables.{unacked}
 use Rattle.session_frames.specs.Sending.{AreMessages}
 use Rattle.session_frames.specs.declared.sending.Outgoing.{Outgoing}
@@ -20,9 +21,8 @@ use Rattle.network_core.specs.Worlds.{NodeWorld, World, NetSeen, ShowsJournal, N
 use Rattle.network_core.specs.Answers.{said, take_sent, mailed, count_fresh, parted, Posting, PostServes, Handed, Handing, HandServes, TakeServes, reached, replied}
 use Rattle.network_core.specs.Serves.{WorldPosts, PostsFrom, WorldTakes, WorldHands, handed_over, waits_on, without, sent_all, count_new}
 use Rattle.network_core.proofs.Agreeing.{post_coherent, hand_coherent, never_garbled}
-use Rattle.network_core.proofs.Faithful.{get_beside}
-use Rattle.network_core.proofs.Mailing.{waits_in, map_set, map_set_same, get_map_is, sent_all_waits, sent_all_length, sent_all_get, count_is}
-use Rattle.network_core.proofs.Placing.{list_at, set_length, set_same, get_set_both}
+use Rattle.network_core.proofs.Mailing.{waits_in, map_set_same, get_map_is, sent_all_waits, sent_all_length, sent_all_get, count_is}
+use Rattle.network_core.proofs.Placing.{get_set_both}
 use Rattle.network_core.proofs.Places.{shows_but}
 use Rattle.network_core.proofs.Served.{takes}
 
@@ -167,15 +167,12 @@ parted_short : (repeated : Bool) (place at : ℕ) (frames : List (List ℕ)) (wa
 parted_short true place at frames waiting = refl
 parted_short false place at frames waiting = refl
 
-pub frame_at_place : (frames : List (List ℕ)) (at : ℕ) → at < length frames → (bytes : List ℕ) × (slice_get frames at ≡ Some bytes)
-frame_at_place frames at lt = list_at frames at lt
-
 module _ {F : Type 0} (m : Machine F) (f : Reads F) (repeated : Bool) (place at : ℕ) (old new : NetSeen) (n : NodeSeen) (frames : List (List ℕ)) (there : slice_get old.nodes place ≡ Some n) (up : IsSome n.journal) (waits : slice_get old.waiting place ≡ Some frames) where
   -- memory ran out before the frame was handed over
   pub handed_short : {E : Type 0} (r : Result Outcome E) → IsErr r → at < length frames → new ≡ old → HandServes m f repeated place at old r new
   handed_short (Ok o) err lt same = cc
   handed_short (Err x) err lt same =
-      let found = frame_at_place frames at lt in
+      let found = get_below frames at lt in
       inr (
         n,
         frames,
@@ -191,7 +188,7 @@ module _ {F : Type 0} (m : Machine F) (f : Reads F) (repeated : Bool) (place at 
             takes = memory_answers (environment m f n.identity) old.now found.0 n n.journal refl up;
             counted = tt;
             outcome_is = refl;
-            nodes = ap (λ (z : NetSeen). z.nodes) same ∙ sym (set_same old.nodes place n there);
+            nodes = ap (λ (z : NetSeen). z.nodes) same ∙ sym (set_own old.nodes place n there);
             waiting = ap (λ (z : NetSeen). z.waiting) same ∙ sym (parted_short repeated place at frames old.waiting);
             now = ap (λ (z : NetSeen). z.now) same;
           }),
@@ -255,5 +252,5 @@ pub list_there : {W : Type 0} (g : W → List (List ℕ)) (items : List W) (p : 
 list_there g items p a frames at there = same_Some _ _ (sym (get_map_is g items p ∙ ap (option_map g) at) ∙ there)
 
 pub got_some : {X Y : Type 0} (g : X → Y) (o : Option X) (ys : List Y) (i : ℕ) → option_map g o ≡ slice_get ys i → i < length ys → IsSome o
-got_some g None ys i is lt = let found = list_at ys i lt in absurd (none-some _ (is ∙ found.1))
+got_some g None ys i is lt = let found = get_below ys i lt in absurd (none-some _ (is ∙ found.1))
 got_some g (Some x) ys i is lt = refl

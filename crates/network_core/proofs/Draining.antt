@@ -1,6 +1,7 @@
 -- Turns, posts and deliveries at places, rounds and drains, put together.
 use Rattle.std.proofs.lemmas.Bool.{eqb-true, eqb-false}
 use Rattle.std.proofs.Common.{◌≡◌, ◌==◌, if◌then◌else◌, ◌⊎◌, inl, inr, ⊎_elim, ℕ, zero, suc, ◌+◌, ◌<◌, Bool, true, false, ◌||◌, length, Option, Some, None, Result, Ok, Err, IsErr, refl, sym, ◌∙◌, ap, subst, arith, slice_get}
+use Rattle.net_base.proofs.Lists.{set_length}
 use Rattle.net_model.specs.Environment.{Environment}
 use Rattle.network_core.specs.declared.net.Turning.{Turning}
 use Rattle.network_core.specs.declared.net.Turning.TheVariants as turning
@@ -12,7 +13,6 @@ use Rattle.network_core.specs.Serves.{WorldTurns, WorldPosts}
 use Rattle.network_core.specs.Served.{WorldDrains}
 use Rattle.network_core.specs.Drains.{TurnAt, HandAt, Quiet, Moves, IsLastTurn, TurnsAt, StopsAt, InOrder, PostsAt, Hands, IsTaken, committed, DeliversAt, HandStops, Round, TurnsStop, PostsStop, HandsStop, RoundStops, Rounds, IsDrained, DrainStops, Drains, Turns, turned, heard, joined}
 use Rattle.network_core.proofs.QuietingSteps.{post_grows}
-use Rattle.network_core.proofs.QuietingFrames.{set_length}
 use Rattle.network_core.proofs.Emptying.{hands_shorter, hands_over_at}
 
 -- as a flag says: with true so many that are not 0, with false none
@@ -273,9 +273,6 @@ quiet_is_no_move t a b = cc
 
 pub quiet_is_no_full : (t : Turning) → t ≡ turning.Quiet → t ≡ turning.Full → ⊥
 quiet_is_no_full t a b = cc
-
-pub moved_is_no_full : (t : Turning) → t ≡ turning.Moved → t ≡ turning.Full → ⊥
-moved_is_no_full t a b = cc
 
 pub not_moved : (o : Outcome) → turned o ≡ turning.Quiet → (g : ℕ) → o ≡ outcome.Moved g → ⊥
 not_moved o h g is = quiet_is_no_move (turned o) h (ap turned is)

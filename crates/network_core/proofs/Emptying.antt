@@ -4,6 +4,7 @@ use Rattle.std.proofs.lemmas.Bool.{eqb-true, not-false}
 use Rattle.net_base.specs.declared.names.Identity.{Identity}
 use Rattle.net_base.specs.declared.names.Key.{Key}
 use Rattle.net_base.specs.declared.values.Party.{Party}
+use Rattle.net_base.proofs.Lists.{get_there, get_other}
 use Rattle.session_wire.specs.declared.body.Body.{Body}
 use Rattle.session_wire.specs.declared.frame.Frame.{Frame}
 use Rattle.session_wire.specs.declared.frame.Frame.TheVariants.{Message, Ack}
@@ -62,16 +63,9 @@ said_other node ss bytes other party h is = of_judges node ss bytes other party 
 
 -- ---- what is sent goes elsewhere
 
-set_other : {X : Type 0} (xs : List X) (i : ℕ) (y : X) (r : ℕ) → (i ≡ r → ⊥) → slice_get (slice_set xs i y) r ≡ slice_get xs r
-set_other [] i y r other = refl
-set_other (x ∷ xs) zero y zero other = absurd (other refl)
-set_other (x ∷ xs) zero y (suc r) other = refl
-set_other (x ∷ xs) (suc i) y zero other = refl
-set_other (x ∷ xs) (suc i) y (suc r) other = set_other xs i y r (λ is. other (ap suc is))
-
 to_other : (o : Outgoing) (xs : List NodeWorld) (x : Option NodeWorld) (r : ℕ) → (o.to.0 ≡ r → ⊥) → slice_get (sent_to o xs x) r ≡ slice_get xs r
 to_other o xs None r other = refl
-to_other o xs (Some x) r other = set_other xs o.to.0 (with_frame o.bytes x) r other
+to_other o xs (Some x) r other = get_other xs o.to.0 (with_frame o.bytes x) r (λ is. other (sym is))
 
 all_other : (os : List Outgoing) (xs : List NodeWorld) (r : ℕ) → ((o : Outgoing) → Has o os → o.to.0 ≡ r → ⊥) → slice_get (sent_all os xs) r ≡ slice_get xs r
 all_other [] xs r other = refl
@@ -90,11 +84,6 @@ first_gone (x ∷ xs) b h = refl
 none_waits : (xs : List (List ℕ)) → length xs ≡ 0 → slice_get xs 0 ≡ None
 none_waits [] h = refl
 none_waits (x ∷ xs) h = absurd (omega (arith, h))
-
-set_there : {X : Type 0} (xs : List X) (i : ℕ) (x y : X) → slice_get xs i ≡ Some x → slice_get (slice_set xs i y) i ≡ Some y
-set_there [] i x y h = cc
-set_there (z ∷ xs) zero x y h = refl
-set_there (z ∷ xs) (suc i) x y h = set_there xs i x y h
 
 module _ {F : Type 0} (e : Environment F) where
   next_sent : (r now : ℕ) (from : Party) (key : Key) (direction number : ℕ) (item : Sent) (x : NodeWorld) (o : Outcome) (y : NodeWorld) (sent : List Outgoing) (a : Outgoing) → HearsNext e r now from key direction number item x o y sent → Has a sent → a.to ≡ from
@@ -137,7 +126,7 @@ module _ {F : Type 0} (e : Environment F) where
       let one = same_node w.nodes r z x there at in
       let over = handed_over (waits_on false (Some o)) 0 y in
       let elsewhere = all_other sent (slice_set w.nodes r over) r (λ a has. said_other (identity e r) (state_of e.frame_at z.journal).sessions bytes takes.0 a.to takes.1 (hears_sent r w.now takes.0 z o y sent a takes.3 has)) in
-      let after : slice_get v.nodes r ≡ Some over = ap (λ (a : World). slice_get a.nodes r) same ∙ elsewhere ∙ set_there w.nodes r z over there in
+      let after : slice_get v.nodes r ≡ Some over = ap (λ (a : World). slice_get a.nodes r) same ∙ elsewhere ∙ get_there w.nodes r z over there in
       let left : over.waiting ≡ without 0 z.waiting = ap (λ (b : Bool). (handed_over b 0 y).waiting) (waits_taken o taken) ∙ ap (without 0) (hears_waiting r w.now takes.0 z o y sent takes.3) in
       let gone = first_gone z.waiting bytes first in
       let was : length x.waiting ≡ length z.waiting = ap (λ (a : NodeWorld). length a.waiting) (sym one) in

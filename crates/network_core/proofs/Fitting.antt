@@ -5,6 +5,7 @@ use Rattle.net_base.specs.declared.causes.Event.{Event}
 use Rattle.net_base.specs.declared.causes.Event.TheVariants as event
 use Rattle.net_base.specs.declared.names.Key.{Key}
 use Rattle.net_base.specs.declared.values.Party.{Party}
+use Rattle.net_base.proofs.Options.{cond_all}
 use Rattle.ledger_types.specs.declared.value.Value.{Value}
 use Rattle.session_wire.specs.declared.body.Body.{Body}
 use Rattle.session_wire.specs.declared.body.Body.TheVariants as body_of
@@ -21,7 +22,7 @@ use Rattle.net_model.specs.Fits.{IsSound}
 use Rattle.net_model.specs.Runs.{IsLocal, IsLocalFrom, stamped}
 use Rattle.net_model.specs.State.{NodeState, Effect, Record, nothing, apply_effect, fresh}
 use Rattle.net_model.specs.Steps.{Done, opens, opening, sends, receives, takes, goes_on, onwards, returns, performed, lapsed, lapses, place, started, answering, answered_with, answered, arrived, meant_of, is_built, is_flow_built, effect_of, node_step, body_in, live_at}
-use Rattle.net_model.proofs.Basics.{from_some, from_map, from_then, from_cond, cond_all}
+use Rattle.net_model.proofs.Basics.{from_some, from_map, from_then, from_cond}
 use Rattle.net_model.proofs.Effects.{step_taken, step_is_its_effect}
 use Rattle.net_model.proofs.Fitting.{steps_fit}
 use Rattle.net_model.proofs.Sound.{fits_keep_sound, fresh_is_sound}

@@ -3,6 +3,7 @@ use Rattle.std.proofs.Common.{◌≡◌, ℕ, inl, inr, ⊎_elim, Bool, true, Li
 use Rattle.net_base.specs.declared.causes.Event.{Event}
 use Rattle.net_base.specs.declared.values.Party.{Party}
 use Rattle.net_base.specs.declared.names.Key.{Key}
+use Rattle.net_base.proofs.Lists.{get_set}
 use Rattle.session_wire.specs.Sessions.{Sent}
 use Rattle.session_frames.specs.declared.judged.Judged.{Judged}
 use Rattle.session_frames.specs.declared.judged.Judged.TheVariants as judged
@@ -12,7 +13,6 @@ use Rattle.network_core.specs.declared.steps.Outcome.{Outcome}
 use Rattle.network_core.specs.declared.steps.Outcome.TheVariants as outcome
 use Rattle.network_core.specs.Worlds.{NodeWorld, MaySpell}
 use Rattle.network_core.specs.Serves.{WorldCommits, WorldFaults, WorldStarts, WorldTurns, WorldCuts, StaysDown, ComesUp, WorldBoots, LosesAt, HearsNext, Hears, WorldTakes, handed_over, sent_all}
-use Rattle.network_core.proofs.Placing.{get_set}
 use Rattle.network_core.proofs.QuietingFrames.{all_grown}
 use Rattle.network_core.proofs.QuietingSteps.{handed}
 

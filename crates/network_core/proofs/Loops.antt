@@ -1,22 +1,17 @@
 -- The loops by which a network begins, and gives its disks back.
-use Rattle.std.proofs.Common.{◌≡◌, inl, inr, ⊎_elim, ℕ, zero, suc, ◌+◌, max, ◌<◌, ◌≤◌, List, [], ◌∷◌, ◌++◌, length, map, Option, Some, None, Result, Ok, Err, refl, sym, ◌∙◌, ap, subst, arith, slice_set, length-append, append-nil, append_assoc}
+use Rattle.std.proofs.Common.{◌≡◌, inl, inr, ⊎_elim, ℕ, zero, suc, ◌+◌, max, ◌<◌, ◌≤◌, List, [], ◌∷◌, ◌++◌, length, map, Option, Some, None, Result, Ok, Err, refl, sym, ◌∙◌, ap, subst, arith, slice_set}
 use Rattle.std.specs.List.{slice_get, AllByRecursion}
 use Rattle.std.proofs.lemmas.Bool.{cases_lt}
 use Rattle.std.proofs.lemmas.Option.{same_Some}
 use Rattle.outside.specs.Disk.{DiskView}
-use Rattle.net_base.specs.declared.names.Identity.{Identity}
 use Rattle.net_base.specs.declared.values.Party.{Party}
 use Rattle.net_base.specs.declared.values.Moment.{Moment}
+use Rattle.net_base.proofs.Lists.{get_less, set_length, get_set}
 use Rattle.node_core.specs.declared.faults.BootFault.{BootFault}
 use Rattle.node_tables.specs.Journals.{Reads}
 use Rattle.node_core.specs.Disks.{roomless}
 use Rattle.node_core.specs.Seen.{NodeSeen, BootsAs, IsBy, IsMember}
-use Rattle.network_core.specs.Begins.{member, came_up, no_boot, IsLast, BootsUpTo, BootStops, node_over, nodes_over}
-use Rattle.net_model.proofs.Faithful.{get_less}
-use Rattle.network_core.proofs.Placing.{set_length, get_set}
-
-over_node : (n : NodeSeen) (i : Identity) (d : DiskView) → n.identity ≡ i → n.disk ≡ d → n.journal ≡ None → n.acked ≡ [] → n ≡ record { identity = i; disk = d; journal = None; acked = [] }
-over_node n i d id disk down none = rw (← id, ← disk) (ap (λ j. record { identity = n.identity; disk = n.disk; journal = j; acked = n.acked }) down ∙ ap (λ (a : List ℕ). record { identity = n.identity; disk = n.disk; journal = None; acked = a }) none)
+use Rattle.network_core.specs.Begins.{member, came_up, no_boot, IsLast, BootsUpTo, BootStops, nodes_over}
 
 -- ---- the nodes over disks
 
@@ -25,28 +20,6 @@ pub record Making {D : Type 0} (seen : D → DiskView) (nodes : ℕ) (notary : P
   pub all_of : made ++ nodes_over nodes notary place (map seen left) ≡ nodes_over nodes notary 0 (map seen all)
   pub count : length made ≡ place
   pub rest : place + length left ≡ length all
-
-pub making_none : {D : Type 0} (seen : D → DiskView) (nodes : ℕ) (notary : Party) (all : List D) (made : List NodeSeen) → made ≡ [] → Making seen nodes notary all made 0 all
-making_none seen nodes notary all made none = record { all_of = rw none refl; count = ap length none; rest = omega arith }
-
-pub making_more : {D : Type 0} (seen : D → DiskView) (nodes : ℕ) (notary : Party) (all : List D) (made more : List NodeSeen) (place : ℕ) (left rest : List D) (d : D) (n : NodeSeen) → Making seen nodes notary all made place left → left ≡ d ∷ rest
-    → n.identity ≡ member nodes notary place → n.disk ≡ roomless (seen d) → n.journal ≡ None → n.acked ≡ [] → more ≡ made ++ n ∷ [] → Making seen nodes notary all more (place + 1) rest
-making_more seen nodes notary all made more place left rest d n m is id disk down none pushed =
-    let same : n ≡ node_over nodes notary place (seen d) = over_node n (member nodes notary place) (roomless (seen d)) id disk down none in
-    let before : made ++ nodes_over nodes notary place (map seen (d ∷ rest)) ≡ nodes_over nodes notary 0 (map seen all) = subst (λ l. made ++ nodes_over nodes notary place (map seen l) ≡ nodes_over nodes notary 0 (map seen all)) is m.all_of in
-    record {
-      all_of = ap (λ l. l ++ nodes_over nodes notary (place + 1) (map seen rest)) (pushed ∙ ap (λ z. made ++ z ∷ []) same) ∙ append_assoc made (node_over nodes notary place (seen d) ∷ []) (nodes_over nodes notary (place + 1) (map seen rest)) ∙ before;
-      count = ap length pushed ∙ length-append made (n ∷ []) ∙ ap (λ i. i + 1) m.count;
-      rest = omega (arith, m.rest, ap length is);
-    }
-
-pub made_all : {D : Type 0} (seen : D → DiskView) (nodes : ℕ) (notary : Party) (all : List D) (made : List NodeSeen) (place : ℕ) (left : List D) → Making seen nodes notary all made place left → length left ≡ 0 → made ≡ nodes_over nodes notary 0 (map seen all)
-made_all seen nodes notary all made place [] m none = sym (append-nil made) ∙ m.all_of
-made_all seen nodes notary all made place (d ∷ left) m none = absurd (omega (arith, none))
-
--- a node is still to be made
-pub making_place : {D : Type 0} (seen : D → DiskView) (nodes : ℕ) (notary : Party) (all : List D) (made : List NodeSeen) (place : ℕ) (left rest : List D) (d : D) → Making seen nodes notary all made place left → left ≡ d ∷ rest → place < length all
-making_place seen nodes notary all made place left rest d m is = omega (arith, m.rest, ap length is)
 
 pub is_member : (nodes : ℕ) (notary : Party) (place : ℕ) → nodes ≤ 16 → notary.0 < nodes → place < nodes → IsMember (member nodes notary place)
 is_member nodes notary place few within below = record { limits = (omega (arith, few, below), ((omega (arith, below), omega (arith, few)), omega (arith, few, within))); node = below; notary = within }
@@ -58,24 +31,9 @@ pub record Handing {D : Type 0} (seen : D → DiskView) (all : List NodeSeen) (d
   pub all_of : map (λ d. roomless (seen d)) disks ++ map (λ n. n.disk) left ≡ map (λ n. n.disk) all
   pub rest : length disks + length left ≡ length all
 
-pub handing_none : {D : Type 0} (seen : D → DiskView) (all : List NodeSeen) (disks : List D) → disks ≡ [] → Handing seen all disks all
-handing_none seen all disks none = record { all_of = rw none refl; rest = omega (arith, ap length none) }
-
 map_push : {X Y : Type 0} (f : X → Y) (xs : List X) (x : X) (ys : List Y) → map f (xs ++ x ∷ []) ++ ys ≡ map f xs ++ f x ∷ ys
 map_push f [] x ys = refl
 map_push f (z ∷ xs) x ys = ap (λ l. f z ∷ l) (map_push f xs x ys)
-
-pub handing_more : {D : Type 0} (seen : D → DiskView) (all : List NodeSeen) (disks more : List D) (left rest : List NodeSeen) (n : NodeSeen) (d : D) → Handing seen all disks left → left ≡ n ∷ rest → roomless (seen d) ≡ n.disk → more ≡ disks ++ d ∷ [] → Handing seen all more rest
-handing_more seen all disks more left rest n d h is same pushed =
-    let first = ap (λ l. map (λ d. roomless (seen d)) l ++ map (λ n. n.disk) rest) pushed in
-    let second = map_push (λ d. roomless (seen d)) disks d (map (λ (n : NodeSeen). n.disk) rest) in
-    let third = ap (λ z. map (λ d. roomless (seen d)) disks ++ z ∷ map (λ (n : NodeSeen). n.disk) rest) same in
-    let last = ap (λ l. map (λ d. roomless (seen d)) disks ++ map (λ (n : NodeSeen). n.disk) l) (sym is) in
-    record { all_of = first ∙ second ∙ third ∙ last ∙ h.all_of; rest = omega (arith, h.rest, ap length is, ap length pushed, length-append disks (d ∷ [])) }
-
-pub handed_all : {D : Type 0} (seen : D → DiskView) (all : List NodeSeen) (disks : List D) (left : List NodeSeen) → Handing seen all disks left → length left ≡ 0 → map (λ d. roomless (seen d)) disks ≡ map (λ n. n.disk) all
-handed_all seen all disks [] h none = sym (append-nil (map (λ d. roomless (seen d)) disks)) ∙ h.all_of
-handed_all seen all disks (n ∷ left) h none = absurd (omega (arith, none))
 
 -- ---- boots in order
 

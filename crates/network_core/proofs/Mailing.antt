@@ -2,21 +2,17 @@
 use Rattle.std.proofs.Common.{◌≡◌, ⊎_elim, ℕ, zero, suc, ◌+◌, Bool, true, false, not, if◌then◌else◌, List, [], ◌∷◌, ◌++◌, length, map, take, drop, remove, slice_set, Option, Some, None, refl, sym, ◌∙◌, ap, subst, arith}
 use Rattle.std.specs.List.{slice_get}
 use Rattle.std.specs.Option.{option_map}
+use Rattle.std.proofs.lemmas.List.{length-map}
+use Rattle.net_base.proofs.Lists.{map_set, set_length, get_set}
 use Rattle.session_frames.specs.declared.sending.Outgoing.{Outgoing}
 use Rattle.network_core.specs.Worlds.{NodeWorld}
 use Rattle.waiting_frames.specs.Waiting.{is_waiting, joined}
 use Rattle.network_core.specs.Answers.{mailed, mailed_once, mailed_to, fresh_at, count_fresh, parted}
 use Rattle.network_core.specs.Serves.{with_frame, without, sent_to, sent_once, sent_all, new_at, count_new}
-use Rattle.network_core.proofs.Placing.{set_length, get_set}
 
 -- the frames that wait at each node of a world
 abbrev pub waits_in : List NodeWorld → List (List (List ℕ))
 waits_in nodes = map (λ (x : NodeWorld). x.waiting) nodes
-
-pub map_set : {X Y : Type 0} (g : X → Y) (xs : List X) (i : ℕ) (y : X) → map g (slice_set xs i y) ≡ slice_set (map g xs) i (g y)
-map_set g [] i y = refl
-map_set g (x ∷ xs) zero y = refl
-map_set g (x ∷ xs) (suc i) y = ap (λ l. g x ∷ l) (map_set g xs i y)
 
 pub map_set_same : {X Y : Type 0} (g : X → Y) (xs : List X) (i : ℕ) (x y : X) → slice_get xs i ≡ Some x → g y ≡ g x → map g (slice_set xs i y) ≡ map g xs
 map_set_same g [] i x y at same = cc
@@ -113,20 +109,12 @@ module _ {W : Type 0} (g : W → List (List ℕ)) (items : List W) (o : Outgoing
 pub parts_at : {W : Type 0} (g : W → List (List ℕ)) (items : List W) (place at : ℕ) (a b : W) → slice_get items place ≡ Some a → g b ≡ without at (g a) → map g (slice_set items place b) ≡ parted false place at (g a) (map g items)
 parts_at g items place at a b there is = map_set g items place b ∙ ap (slice_set (map g items) place) is
 
-pub not_flip : (b : Bool) → not b ≡ true → b ≡ false
-not_flip true h = cc
-not_flip false h = refl
-
 pub removed_is : {X : Type 0} (xs : List X) (i : ℕ) → remove xs i ≡ take i xs ++ drop (i + 1) xs
 removed_is xs i =
     let next : suc i ≡ i + 1 = omega arith in
     ap (λ k. take i xs ++ drop k xs) next
 
 -- ---- as many lists
-
-list_count : {X Y : Type 0} (g : X → Y) (xs : List X) → length (map g xs) ≡ length xs
-list_count g [] = refl
-list_count g (x ∷ xs) = ap suc (list_count g xs)
 
 to_length : (o : Outgoing) (waiting : List (List (List ℕ))) (r : Option (List (List ℕ))) → length (mailed_to o waiting r) ≡ length waiting
 to_length o waiting None = refl
@@ -142,13 +130,13 @@ parted_length false place at frames waiting = set_length waiting place (without 
 
 module _ {W : Type 0} (g : W → List (List ℕ)) (old new : List W) where
   pub same_lists : map g new ≡ map g old → length new ≡ length old
-  same_lists is = sym (list_count g new) ∙ ap length is ∙ list_count g old
+  same_lists is = sym (length-map new g) ∙ ap length is ∙ length-map old g
 
   pub mailed_lists : (os : List Outgoing) → map g new ≡ mailed os (map g old) → length new ≡ length old
-  mailed_lists os is = sym (list_count g new) ∙ ap length is ∙ mailed_length os (map g old) ∙ list_count g old
+  mailed_lists os is = sym (length-map new g) ∙ ap length is ∙ mailed_length os (map g old) ∙ length-map old g
 
   pub settled_lists : (os : List Outgoing) (b : Bool) (place at : ℕ) (frames : List (List ℕ)) → map g new ≡ mailed os (parted b place at frames (map g old)) → length new ≡ length old
-  settled_lists os b place at frames is = sym (list_count g new) ∙ ap length is ∙ mailed_length os (parted b place at frames (map g old)) ∙ parted_length b place at frames (map g old) ∙ list_count g old
+  settled_lists os b place at frames is = sym (length-map new g) ∙ ap length is ∙ mailed_length os (parted b place at frames (map g old)) ∙ parted_length b place at frames (map g old) ∙ length-map old g
 
 -- taking away what isn't there changes nothing
 pub without_none : {X : Type 0} (xs : List X) (i : ℕ) → slice_get xs i ≡ None → remove xs i ≡ xs

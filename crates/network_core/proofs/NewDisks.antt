@@ -1,21 +1,21 @@
 -- Over new disks a network shows a coherent world.
-use Rattle.std.proofs.Common.{◌≡◌, inl, inr, ℕ, ◌≤◌, ◌+◌, false, true, List, [], length, map, Option, Some, None, refl, sym, ◌∙◌, ap, subst, arith}
+use Rattle.std.proofs.Common.{◌≡◌, inl, inr, ℕ, false, true, List, [], length, map, Some, None, refl, sym, ◌∙◌, ap, subst, arith}
 use Rattle.std.specs.List.{slice_get, AllByRecursion}
 use Rattle.std.proofs.lemmas.Bool.{true≢false}
+use Rattle.std.proofs.lemmas.List.{length-map}
 use Rattle.outside.specs.Disk.{DiskView, IsImage}
 use Rattle.outside.proofs.Moments.{clean_image}
 use Rattle.net_base.specs.declared.values.Party.{Party}
+use Rattle.net_base.proofs.Lists.{all_get, get_beside, map_twice, of_map}
 use Rattle.flow_machine.specs.Machine.{Machine}
 use Rattle.disk_journal.specs.Journal.{found, journal_of}
 use Rattle.net_model.specs.Environment.{Environment, environment}
 use Rattle.net_model.specs.State.{Record, fresh, replay}
-use Rattle.net_model.specs.Runs.{IsMatched, IsMatchedFrom}
+use Rattle.net_model.specs.Runs.{IsMatchedFrom}
 use Rattle.node_tables.specs.Journals.{Reads, records_of, state_of}
 use Rattle.node_core.specs.Seen.{NodeSeen}
 use Rattle.network_core.specs.Worlds.{NodeWorld, World, MaySpell, NodeShows, Choice, WaitsAt, states_of, Agrees, Sound, NodeCoherent}
 use Rattle.network_core.specs.Begins.{member, node_over, nodes_over, IsNew, NewDisksAreCoherent}
-use Rattle.network_core.proofs.AgreeingLists.{all_get}
-use Rattle.network_core.proofs.Faithful.{get_map, get_beside, map_length, map_twice}
 use Rattle.network_core.proofs.Beginning.{over_length, first_get}
 
 -- a node over a new disk
@@ -62,21 +62,21 @@ module _ {F : Type 0} (m : Machine F) (f : Reads F) (nodes : ℕ) (notary : Part
   shown_at : (p : ℕ) (n : NodeSeen) (x : NodeWorld) → slice_get (nodes_over nodes notary 0 disks) p ≡ Some n → slice_get (map unused disks) p ≡ Some x → NodeShows e p n x
   shown_at p n x i j =
       let place = first_get nodes notary disks p n i in
-      let there = get_map unused disks p x j in
+      let there = of_map unused disks p x j in
       let one : there.0 ≡ place.0 = cc in
       subst (λ (z : NodeSeen). NodeShows e p z x) (sym place.2)
       (subst (λ (z : NodeWorld). NodeShows e p (node_over nodes notary p place.0) z) (ap unused (sym one) ∙ there.2) (shown p place.0 (all_get IsNew disks p place.0 new place.1)))
 
   spelt_at : (p : ℕ) (x : NodeWorld) (l : List (List ℕ)) → slice_get (map unused disks) p ≡ Some x → MaySpell x l → l ≡ []
   spelt_at p x l j may =
-      let there = get_map unused disks p x j in
+      let there = of_map unused disks p x j in
       spells_none there.0 l (subst (λ (z : NodeWorld). MaySpell z l) (sym there.2) may)
 
   down_at : (p : ℕ) (x : NodeWorld) → slice_get (map unused disks) p ≡ Some x → x.up ≡ false
-  down_at p x j = let there = get_map unused disks p x j in ap (λ (z : NodeWorld). z.up) (sym there.2)
+  down_at p x j = let there = of_map unused disks p x j in ap (λ (z : NodeWorld). z.up) (sym there.2)
 
   silent_at : (p : ℕ) (x : NodeWorld) → slice_get (map unused disks) p ≡ Some x → x.waiting ≡ []
-  silent_at p x j = let there = get_map unused disks p x j in ap (λ (z : NodeWorld). z.waiting) (sym there.2)
+  silent_at p x j = let there = of_map unused disks p x j in ap (λ (z : NodeWorld). z.waiting) (sym there.2)
 
   none_sound : (p : ℕ) → Sound e p now []
   none_sound p = record { local = tt; whole = refl; by = let zero_is = no_moment f in omega (arith, zero_is) }
@@ -84,7 +84,7 @@ module _ {F : Type 0} (m : Machine F) (f : Reads F) (nodes : ℕ) (notary : Part
   agrees : (lists : List (List (List ℕ))) → Choice w lists → Agrees e w lists
   agrees lists choice = record {
     matched = λ p records at.
-        let spelt = get_map (records_of f) lists p records at in
+        let spelt = of_map (records_of f) lists p records at in
         let there = get_beside lists (map unused disks) p spelt.0 choice.count spelt.1 in
         let empty : spelt.0 ≡ [] = spelt_at p there.0 spelt.0 there.1 (choice.each p there.0 spelt.0 there.1 spelt.1) in
         let none : records ≡ [] = sym spelt.2 ∙ ap (records_of f) empty in
@@ -94,7 +94,7 @@ module _ {F : Type 0} (m : Machine F) (f : Reads F) (nodes : ℕ) (notary : Part
   }
 
   openable_at : (p : ℕ) (x : NodeWorld) → slice_get (map unused disks) p ≡ Some x → x.openable ≡ true
-  openable_at p x j = let there = get_map unused disks p x j in ap (λ (z : NodeWorld). z.openable) (sym there.2)
+  openable_at p x j = let there = of_map unused disks p x j in ap (λ (z : NodeWorld). z.openable) (sym there.2)
 
   node_coherent : (p : ℕ) (x : NodeWorld) → slice_get (map unused disks) p ≡ Some x → NodeCoherent e p now x
   node_coherent p x at = record {
@@ -106,13 +106,13 @@ pub new_disks_are_coherent : {F : Type 0} → NewDisksAreCoherent F
 new_disks_are_coherent m f nodes notary now disks many new = (
   w m f nodes notary now disks many new,
   record {
-    count = map_length unused disks ∙ sym (over_length nodes notary 0 disks);
+    count = length-map disks unused ∙ sym (over_length nodes notary 0 disks);
     each = shown_at m f nodes notary now disks many new;
     waiting = waits_none disks nodes;
     clock = refl;
   },
   record {
-    count = map_length unused disks ∙ many;
+    count = length-map disks unused ∙ many;
     each = node_coherent m f nodes notary now disks many new;
     numbers = λ p x at up. absurd (true≢false (sym up ∙ down_at m f nodes notary now disks many new p x at));
     agrees = agrees m f nodes notary now disks many new;

@@ -2,6 +2,7 @@
 use Rattle.std.proofs.Common.{◌≡◌, ◌⊎◌, inl, inr, ⊎_elim, ℕ, zero, suc, ◌<◌, ◌≤◌, List, [], ◌∷◌, length, map, slice_set, Option, Some, Result, refl, sym, ◌∙◌, ap, subst, arith}
 use Rattle.std.specs.List.{slice_get}
 use Rattle.net_base.specs.declared.names.Identity.{Identity}
+use Rattle.net_base.proofs.Lists.{map_set, set_length, set_own, get_beside, get_set}
 use Rattle.flow_machine.specs.Machine.{Machine}
 use Rattle.net_model.specs.Environment.{Environment, environment}
 use Rattle.node_tables.specs.Journals.{Reads}
@@ -12,9 +13,8 @@ use Rattle.network_core.specs.Worlds.{NodeWorld, World, NetSeen, NodeShows, Node
 use Rattle.network_core.specs.Answers.{said, StartServes, TurnServes, CutServes, AtPlace, ClockServes, LoseServes}
 use Rattle.network_core.specs.Serves.{WorldStarts, WorldTurns, WorldCuts, WorldPlace, WorldClock, LosesAt, without}
 use Rattle.network_core.proofs.Agreeing.{start_coherent, turn_coherent, cut_coherent, lose_coherent, clock_coherent}
-use Rattle.network_core.proofs.Faithful.{get_beside}
-use Rattle.network_core.proofs.Mailing.{waits_in, map_set, map_set_same}
-use Rattle.network_core.proofs.Placing.{set_length, get_set, get_set_both, set_same}
+use Rattle.network_core.proofs.Mailing.{waits_in, map_set_same}
+use Rattle.network_core.proofs.Placing.{get_set_both}
 use Rattle.network_core.proofs.Stands.{Goes, shows_same}
 use Rattle.network_core.proofs.Served.{start_any, turn_any, cut_any}
 
@@ -142,7 +142,7 @@ module _ {F : Type 0} (m : Machine F) (f : Reads F) where
       let found = waits_at id p old w frames shows at in
       let x = found.0 in
       let v : World = record { nodes = slice_set w.nodes p x; now = w.now } in
-      let stays : w ≡ v = ap (λ l. record { nodes = l; now = w.now }) (sym (set_same w.nodes p x found.1)) in
+      let stays : w ≡ v = ap (λ l. record { nodes = l; now = w.now }) (sym (set_own w.nodes p x found.1)) in
       let lost : LosesAt i x (said result) x = rw is (refl, ap (λ l. slice_get l i) found.2 ∙ none, refl) in
       let goes : WorldPlace p w (said result) v (λ x o y. LosesAt i x o y) = inr (x, x, found.1, refl, lost) in
       let there : WorldPlace p w (said result) w (λ x o y. LosesAt i x o y) = inr (x, x, found.1, stays, lost) in

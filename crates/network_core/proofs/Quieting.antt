@@ -1,9 +1,11 @@
 -- A round in which nothing was committed leaves a quiet world.
-use Rattle.std.proofs.Common.{◌≡◌, ℕ, zero, suc, ◌<◌, ◌≤◌, inl, inr, ⊎_elim, List, [], ◌∷◌, Option, Some, None, true, false, map, length, slice_get, refl, sym, ◌∙◌, ap, subst, arith}
+use Rattle.std.proofs.Common.{◌≡◌, ℕ, zero, suc, ◌<◌, ◌≤◌, inl, inr, ⊎_elim, List, Option, Some, None, true, false, map, length, slice_get, refl, sym, ◌∙◌, ap, subst, arith}
 use Rattle.std.specs.List.{AllByRecursion}
 use Rattle.std.proofs.lemmas.Bool.{cases_lt, false_from_ne_true, leb-true}
 use Rattle.std.proofs.lemmas.Option.{slice_get_within}
 use Rattle.std.specs.Prelude.{nat_le}
+use Rattle.std.proofs.lemmas.List.{length-map}
+use Rattle.net_base.proofs.Lists.{all_get, get_below, get_beside, get_map}
 use Rattle.session_wire.specs.Frames.{IsFrame, frame}
 use Rattle.session_wire.specs.Sessions.{Sent, Session, session_of}
 use Rattle.session_wire.specs.Rules.{direction_out}
@@ -18,30 +20,16 @@ use Rattle.node_core.specs.Seen.{picked_at}
 use Rattle.network_core.specs.Worlds.{NodeWorld, World, Choice, states_of, came_at, Agrees, Coherent}
 use Rattle.network_core.specs.Drains.{InOrder, TurnAt, TurnsAt, PostsAt, DeliversAt, HasArrived, Quiet, Round, DrainsByTurns}
 use Rattle.network_core.proofs.Agreeing.{does_coherent}
-use Rattle.network_core.proofs.QuietingSides.{IsSided, sided, other_side, all_there}
-use Rattle.network_core.proofs.QuietingFrames.{Has, Keeps, get_beside, has_unacked, judged_next}
+use Rattle.network_core.proofs.QuietingSides.{IsSided, sided, other_side}
+use Rattle.network_core.proofs.QuietingFrames.{Has, Keeps, has_unacked, judged_next}
 use Rattle.network_core.proofs.QuietingSteps.{order_all, order_split, Still, Stayed, stayed_same, stayed_then, Posted, posted_same, posted_then, posted_stayed, same_node, AreIdle, idle_on, post_grows, post_sends, IsNextFor}
 use Rattle.network_core.proofs.QuietingRuns.{drained_run, stopped_run}
 use Rattle.network_core.proofs.QuietingRounds.{delivers_stayed, delivers_none, before_keeps}
 
 -- ---- lists
 
-get_mapped : {X Y : Type 0} (f : X → Y) (xs : List X) (p : ℕ) (x : X) → slice_get xs p ≡ Some x → slice_get (map f xs) p ≡ Some (f x)
-get_mapped f [] p x h = cc
-get_mapped f (y ∷ xs) zero x h = let same : y ≡ x = cc in ap (λ a. Some (f a)) same
-get_mapped f (y ∷ xs) (suc p) x h = get_mapped f xs p x h
-
-mapped_length : {X Y : Type 0} (f : X → Y) (xs : List X) → length (map f xs) ≡ length xs
-mapped_length f [] = refl
-mapped_length f (x ∷ xs) = ap suc (mapped_length f xs)
-
 of_mapped : {X Y : Type 0} (f : X → Y) (xs : List X) (p : ℕ) (x : X) (y : Y) → slice_get xs p ≡ Some x → slice_get (map f xs) p ≡ Some y → y ≡ f x
-of_mapped f xs p x y h k = let m = get_mapped f xs p x h in cc
-
-get_below : {X : Type 0} (xs : List X) (n : ℕ) → n < length xs → (x : X) × (slice_get xs n ≡ Some x)
-get_below [] n h = absurd (omega arith)
-get_below (x ∷ xs) zero h = (x, refl)
-get_below (x ∷ xs) (suc n) h = get_below xs n (omega arith)
+of_mapped f xs p x y h k = let m = get_map f xs p x h in cc
 
 not_both : (o : Option (List (List ℕ))) (l : List (List ℕ)) → o ≡ None → o ≡ Some l → ⊥
 not_both o l none some = cc
@@ -83,27 +71,27 @@ module _ {F : Type 0} (e : Environment F) where
     net = map replay (map (records_of e.frame_at) lists)
 
     chosen : Choice u lists
-    chosen = record { count = mapped_length (λ (x : NodeWorld). x.journal) u.nodes; each = λ p x l at there. inl (of_mapped (λ (a : NodeWorld). a.journal) u.nodes p x l at there) }
+    chosen = record { count = length-map u.nodes (λ (x : NodeWorld). x.journal); each = λ p x l at there. inl (of_mapped (λ (a : NodeWorld). a.journal) u.nodes p x l at there) }
 
     agrees : Agrees e u lists
     agrees = coherent.agrees lists chosen
 
     list_at : (p : ℕ) (x : NodeWorld) → slice_get u.nodes p ≡ Some x → slice_get lists p ≡ Some x.journal
-    list_at p x at = get_mapped (λ (a : NodeWorld). a.journal) u.nodes p x at
+    list_at p x at = get_map (λ (a : NodeWorld). a.journal) u.nodes p x at
 
     state_at : (p : ℕ) (x : NodeWorld) → slice_get u.nodes p ≡ Some x → slice_get net p ≡ Some (state_of e.frame_at x.journal)
     unfolding state_of
-    state_at p x at = get_mapped replay (map (records_of e.frame_at) lists) p (records_of e.frame_at x.journal) (get_mapped (records_of e.frame_at) lists p x.journal (list_at p x at))
+    state_at p x at = get_map replay (map (records_of e.frame_at) lists) p (records_of e.frame_at x.journal) (get_map (records_of e.frame_at) lists p x.journal (list_at p x at))
 
     sides_at : (p : ℕ) (x : NodeWorld) → slice_get u.nodes p ≡ Some x → AllByRecursion (IsSided net p) (state_of e.frame_at x.journal).sessions
     unfolding state_of
     sides_at p x at =
         sided net p e (records_of e.frame_at x.journal) ((coherent.each p x at).every x.journal (inl refl)).local
-        (agrees.matched p (records_of e.frame_at x.journal) (get_mapped (records_of e.frame_at) lists p x.journal (list_at p x at)))
+        (agrees.matched p (records_of e.frame_at x.journal) (get_map (records_of e.frame_at) lists p x.journal (list_at p x at)))
 
     -- how many items arrived at a node
     came_is : (p : ℕ) (x : NodeWorld) (session : Session) → slice_get u.nodes p ≡ Some x → came_at (states_of e lists) p session.key ≡ arrived (session_of session.key (state_of e.frame_at x.journal).sessions)
-    came_is p x session at = let there = get_mapped (state_of e.frame_at) lists p x.journal (list_at p x at) in rw there refl
+    came_is p x session at = let there = get_map (state_of e.frame_at) lists p x.journal (list_at p x at) in rw there refl
 
     module _ (p q i : ℕ) (x y : NodeWorld) (session : Session) (at : slice_get u.nodes p ≡ Some x) (up : x.up ≡ true) (there : slice_get (state_of e.frame_at x.journal).sessions i ≡ Some session) (peer : session.peer.0 ≡ q) (to : slice_get u.nodes q ≡ Some y) where
       abbrev came : ℕ
@@ -130,7 +118,7 @@ module _ {F : Type 0} (e : Environment F) where
           omega (arith, past, below, coherent.count))
 
       mine : IsSided net p session
-      mine = all_there (IsSided net p) (state_of e.frame_at x.journal).sessions i session (sides_at p x at) there
+      mine = all_get (IsSided net p) (state_of e.frame_at x.journal).sessions i session (sides_at p x at) there
 
       -- its message is that of the item that comes next where it goes
       pub next_there : (item : Sent) → IsFrame (message_of (party p) (item_of (party p) session came item)) → IsNextFor e q y.journal (frame (message_of (party p) (item_of (party p) session came item)))
@@ -201,7 +189,7 @@ module _ {F : Type 0} (e : Environment F) where
         let l = get_beside v.nodes lists q y (sym choice.count) to in
         let alone : x.other ≡ None = (turned.coherent.each q x at).one still.up in
         let is : l.0 ≡ x.journal = ⊎_elim (λ k. k ∙ still.journal) (λ k. absurd (not_both y.other l.0 (still.other ∙ alone) k)) (choice.each q y l.0 to l.1) in
-        let there = get_mapped (state_of e.frame_at) lists q l.0 l.1 in
+        let there = get_map (state_of e.frame_at) lists q l.0 l.1 in
         rw (there, is) refl
 
     -- a frame that waits once all have posted, and is to be committed where it is handed over

@@ -4,6 +4,7 @@ use Rattle.std.specs.List.{AllByRecursion, list_any}
 use Rattle.std.proofs.lemmas.Bool.{or_cases, eq-eqb, ltb-true, le-leb, false_from_ne_true, and_right}
 use Rattle.std.proofs.lemmas.Slice.Eq.{bytes_eq-Decides}
 use Rattle.net_base.specs.declared.values.Party.{Party}
+use Rattle.net_base.proofs.Lists.{set_length}
 use Rattle.session_wire.specs.Sessions.{Sent, Session, session_of}
 use Rattle.session_wire.specs.Rules.{direction_out}
 use Rattle.session_table.specs.Tables.{item_of, items_from, unacked_in, unacked}
@@ -57,11 +58,6 @@ all_has P [] x all h = absurd h
 all_has P (y ∷ ys) x all (inl e) = subst P e all.0
 all_has P (y ∷ ys) x all (inr h) = all_has P ys x all.1 h
 
-pub set_length : {X : Type 0} (xs : List X) (i : ℕ) (y : X) → length (slice_set xs i y) ≡ length xs
-set_length [] i y = refl
-set_length (x ∷ xs) zero y = refl
-set_length (x ∷ xs) (suc i) y = ap suc (set_length xs i y)
-
 -- what stands in a list of which one place was set
 pub get_set : {X : Type 0} (xs : List X) (i : ℕ) (y : X) (q : ℕ) (z : X) → slice_get (slice_set xs i y) q ≡ Some z → ((q ≡ i) × (z ≡ y)) ⊎ ((q ≡ i → ⊥) × (slice_get xs q ≡ Some z))
 get_set [] i y q z h = cc
@@ -69,12 +65,6 @@ get_set (x ∷ xs) zero y zero z h = inl (refl, cc)
 get_set (x ∷ xs) zero y (suc q) z h = inr (λ e. omega (arith, e), h)
 get_set (x ∷ xs) (suc i) y zero z h = inr (λ e. omega (arith, e), h)
 get_set (x ∷ xs) (suc i) y (suc q) z h = ⊎_elim (λ s. inl (ap suc s.0, s.1)) (λ s. inr (λ e. s.0 (omega (arith, e)), s.1)) (get_set xs i y q z h)
-
-pub get_beside : {X Y : Type 0} (xs : List X) (ys : List Y) (p : ℕ) (x : X) → length xs ≡ length ys → slice_get xs p ≡ Some x → (y : Y) × (slice_get ys p ≡ Some y)
-get_beside [] ys p x n h = cc
-get_beside (z ∷ xs) [] p x n h = cc
-get_beside (z ∷ xs) (y ∷ ys) zero x n h = (y, refl)
-get_beside (z ∷ xs) (y ∷ ys) (suc p) x n h = get_beside xs ys p x (omega (arith, n)) h
 
 -- ---- frames that join others
 

@@ -1,6 +1,7 @@
 -- Deliveries that commit nothing, at one place and at all.
 use Rattle.std.proofs.Common.{◌≡◌, ℕ, zero, suc, ◌<◌, ◌⊎◌, inl, inr, ⊎_elim, List, Some, Bool, true, false, length, slice_get, slice_set, refl, sym, ◌∙◌, ap, subst, arith}
 use Rattle.std.proofs.lemmas.Option.{slice_get_within}
+use Rattle.net_base.proofs.Lists.{set_length}
 use Rattle.session_frames.specs.declared.sending.Outgoing.{Outgoing}
 use Rattle.net_model.specs.Environment.{Environment}
 use Rattle.network_core.specs.declared.steps.Outcome.{Outcome}
@@ -8,7 +9,7 @@ use Rattle.network_core.specs.declared.steps.Outcome.TheVariants as outcome
 use Rattle.network_core.specs.Worlds.{NodeWorld, World}
 use Rattle.network_core.specs.Serves.{WorldTakes, waits_on, handed_over, without, sent_all}
 use Rattle.network_core.specs.Drains.{HandAt, InOrder, Hands, DeliversAt, IsTaken, committed}
-use Rattle.network_core.proofs.QuietingFrames.{Has, Keeps, keeps_same, keeps_then, all_grown, get_set, set_length}
+use Rattle.network_core.proofs.QuietingFrames.{Has, Keeps, keeps_same, keeps_then, all_grown, get_set}
 use Rattle.network_core.proofs.QuietingSteps.{code_in, order_all, Still, Stayed, stayed_same, stayed_then, waits_taken, rest_has, none_first, handed, same_node, down_not_up, IsNextFor, hears_still, takes_none, hears_refused}
 
 -- where a delivery ends those at its place

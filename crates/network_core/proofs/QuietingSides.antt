@@ -1,21 +1,24 @@
 -- The two sides of a session: each has the other as its peer.
-use Rattle.std.proofs.Common.{◌≡◌, ◌≢◌, ℕ, zero, suc, List, [], ◌∷◌, ◌++◌, Option, Some, None, Bool, true, false, cond, not, ◌==◌, is_none, nat_le, find, option_to_list, slice_get, refl, sym, ◌∙◌, ap, subst}
+use Rattle.std.proofs.Common.{◌≡◌, ◌≢◌, ℕ, List, [], ◌∷◌, Option, Some, None, Bool, true, false, cond, not, ◌==◌, is_none, nat_le, find, option_to_list, slice_get, refl, sym, ◌∙◌, ap, subst}
 use Rattle.std.specs.List.{AllByRecursion}
 use Rattle.std.proofs.lemmas.Bool.{and_parts, or_parts, not-true, eqb-true, eqb-false, eq-eqb}
 use Rattle.net_base.specs.declared.names.Key.{Key}
 use Rattle.net_base.specs.declared.values.Party.{Party}
 use Rattle.net_base.specs.declared.causes.Event.{Event}
 use Rattle.net_base.specs.declared.causes.Event.TheVariants as event
+use Rattle.net_base.proofs.Options.{cond_all}
+use Rattle.net_base.proofs.Lists.{all_push}
 use Rattle.session_wire.specs.declared.change.SentItem.{SentItem}
 use Rattle.session_wire.specs.Sessions.{Sent, Session, key_eq, changed_at, new_session, opened_on, sent_on, taken_on, session_of, with_came, with_sent, with_taken}
 use Rattle.session_wire.specs.Rules.{is_opened_by, is_no_peer, is_new_key, direction_out}
+use Rattle.session_wire.proofs.Keys.{key_exact}
 use Rattle.session_frames.specs.Agreement.{IsOtherSide}
 use Rattle.net_model.specs.Environment.{Environment, party}
 use Rattle.net_model.specs.State.{NodeState, Record, apply_effect, came_on, sessions_on, flow_of, fresh, replay, replay_from}
 use Rattle.net_model.specs.Runs.{IsLocal, IsLocalFrom, IsMatchedFrom, IsItem, accepts, item_from, sent_to, stamped}
 use Rattle.net_model.specs.Fits.{Fits, FitsEvent, FitsOpened, IsSound}
 use Rattle.net_model.proofs.Effects.{step_is_its_effect}
-use Rattle.net_model.proofs.Fitting.{steps_fit, key_true}
+use Rattle.net_model.proofs.Fitting.{steps_fit}
 use Rattle.net_model.proofs.Sound.{fits_keep_sound, fresh_is_sound}
 
 -- a session is with another party; where that party opened it, it sent the first item of it to this one
@@ -25,14 +28,6 @@ pub record IsSided {F : Type 0} (net : List (NodeState F)) (me : ℕ) (s : Sessi
 
 -- ---- lists
 
-push_all : {X : Type 0} (P : X → Type 0) (xs : List X) (x : X) → AllByRecursion P xs → P x → AllByRecursion P (xs ++ x ∷ [])
-push_all P [] x h p = (p, tt)
-push_all P (y ∷ ys) x h p = (h.0, push_all P ys x h.1 p)
-
-either : {X : Type 0} (P : X → Type 0) (b : Bool) (x y : X) → P x → P y → P (cond b x y)
-either P true x y p q = p
-either P false x y p q = q
-
 pub all_found : {X : Type 0} (P : X → Type 0) (test : X → Bool) (xs : List X) (x : X) → AllByRecursion P xs → find test xs ≡ Some x → P x × (test x ≡ true)
 all_found P test [] x h is = cc
 all_found {X} P test (y ∷ ys) x h is =
@@ -40,11 +35,6 @@ all_found {X} P test (y ∷ ys) x h is =
       | true ↦ λ t e. let same : y ≡ x = cc in subst (λ (z : X). P z × (test z ≡ true)) same (h.0, t)
       | false ↦ λ t e. all_found P test ys x h.1 e
     ]) refl is
-
-pub all_there : {X : Type 0} (P : X → Type 0) (xs : List X) (i : ℕ) (x : X) → AllByRecursion P xs → slice_get xs i ≡ Some x → P x
-all_there P [] i x h is = cc
-all_there {X} P (y ∷ ys) zero x h is = let same : y ≡ x = cc in subst (λ (z : X). P z) same h.0
-all_there P (y ∷ ys) (suc i) x h is = all_there P ys i x h.1 is
 
 module _ {F : Type 0} (net : List (NodeState F)) (me : ℕ) where
   abbrev All : List Session → Type 0
@@ -54,7 +44,7 @@ module _ {F : Type 0} (net : List (NodeState F)) (me : ℕ) where
 
   changed_all : (key : Key) (change : Session → Session) → ((s : Session) → IsSided net me s → IsSided net me (change s)) → (ss : List Session) → All ss → All (changed_at key change ss)
   changed_all key change keeps [] h = tt
-  changed_all key change keeps (s ∷ ss) h = (either (IsSided net me) (key_eq key s.key) (change s) s (keeps s h.0) h.0, changed_all key change keeps ss h.1)
+  changed_all key change keeps (s ∷ ss) h = (cond_all (IsSided net me) (key_eq key s.key) (change s) s (keeps s h.0) h.0, changed_all key change keeps ss h.1)
 
   sent_all : (stamp : ℕ) (items : List SentItem) (ss : List Session) → All ss → All (sent_on stamp items ss)
   sent_all stamp [] ss h = h
@@ -82,14 +72,14 @@ module _ {F : Type 0} (net : List (NodeState F)) (me : ℕ) where
   came_all w s r (event.Answer key) is fits item all =
       let there = item refl in
       let first : item_from net me key.initiator.0 key 0 ≡ Some there.item = rw is at there.is_sent in
-      push_all (IsSided net me) s.sessions (new_session key key.initiator (flow_of r.effect.flow) (option_to_list r.effect.change.came)) all
+      all_push (IsSided net me) s.sessions (new_session key key.initiator (flow_of r.effect.flow) (option_to_list r.effect.change.came)) all
       (record { other = other_initiator w.nodes s.sessions key fits.0; answered = λ no. (refl, there.item, first) })
 
   opened_all : (w : Environment F) (s : NodeState F) (later : List Session) (owner : Option ℕ) (sent : List SentItem) (opened : Option (Key × Party)) (ss : List Session) → FitsOpened w me s later owner sent opened → All ss → All (opened_on opened owner ss)
   opened_all w s later owner sent None ss fits h = h
   opened_all w s later owner sent (Some opened) ss fits h =
       let own : is_opened_by (party me) opened.0 ≡ true = eq-eqb opened.0.initiator.0 me (ap (λ (k : Key). k.initiator.0) fits.opens.next) in
-      push_all (IsSided net me) ss (new_session opened.0 opened.1 owner []) h (record { other = eqb-false opened.1.0 me fits.opens.other; answered = λ no. absurd cc })
+      all_push (IsSided net me) ss (new_session opened.0 opened.1 owner []) h (record { other = eqb-false opened.1.0 me fits.opens.other; answered = λ no. absurd cc })
 
   record_all : (w : Environment F) (s : NodeState F) (r : Record F) → Fits w me s r.cause r.effect → (accepts r.cause.event ≡ true → IsItem net me s r) → All s.sessions → All (sessions_on r.cause r.effect s.sessions)
   record_all w s r fits item all =
@@ -125,12 +115,12 @@ module _ {F : Type 0} (net : List (NodeState F)) (p q : ℕ) (s : Session) (mine
   -- where this side opened it, the other one answered
   of_opened : (t : Session) → is_opened_by (party p) s.key ≡ true → key_eq s.key t.key ≡ true → IsSided net q t → (b : Bool) → is_opened_by (party q) t.key ≡ b → t.peer ≡ party p
   of_opened t opened key h true is =
-      let same = key_true s.key t.key key in
+      let same = key_exact s.key t.key key in
       let a : s.key.initiator.0 ≡ p = eqb-true s.key.initiator.0 p opened in
       let b : t.key.initiator.0 ≡ q = eqb-true t.key.initiator.0 q is in
       absurd (mine.other (peer ∙ sym b ∙ ap (λ (k : Key). k.initiator.0) (sym same) ∙ a))
   of_opened t opened key h false is =
-      let same = key_true s.key t.key key in
+      let same = key_exact s.key t.key key in
       let a : s.key.initiator.0 ≡ p = eqb-true s.key.initiator.0 p opened in
       party_is t.peer p (ap (λ (x : Party). x.0) (h.answered is).0 ∙ ap (λ (k : Key). k.initiator.0) (sym same) ∙ a)
 

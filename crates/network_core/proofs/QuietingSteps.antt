@@ -4,6 +4,7 @@ use Rattle.std.proofs.lemmas.Bool.{true≢false, cases_lt}
 use Rattle.std.proofs.lemmas.Option.{slice_get_within}
 use Rattle.net_base.specs.declared.names.Key.{Key}
 use Rattle.net_base.specs.declared.values.Party.{Party}
+use Rattle.net_base.proofs.Lists.{set_length}
 use Rattle.session_wire.specs.declared.body.Body.{Body}
 use Rattle.session_wire.specs.declared.frame.Frame.{Frame}
 use Rattle.session_wire.specs.Frames.{IsFrame, frame}
@@ -25,7 +26,7 @@ use Rattle.network_core.specs.declared.steps.Outcome.TheVariants as outcome
 use Rattle.network_core.specs.Worlds.{NodeWorld, World}
 use Rattle.network_core.specs.Serves.{WorldTurns, WorldPosts, PostsFrom, HearsNext, Hears, WorldTakes, waits_on, handed_over, without, sent_all}
 use Rattle.network_core.specs.Drains.{TurnAt, InOrder, IsLastTurn, IsTaken, committed}
-use Rattle.network_core.proofs.QuietingFrames.{Has, Grown, grown_same, grown_then, all_grown, all_sent, get_set, set_length, has_mapped, all_has}
+use Rattle.network_core.proofs.QuietingFrames.{Has, Grown, grown_same, grown_then, all_grown, all_sent, get_set, has_mapped, all_has}
 
 -- the code of a refusal, 0 of another outcome
 abbrev pub code_in : Outcome → ℕ

@@ -5,18 +5,19 @@ use Rattle.std.proofs.lemmas.Bool.{eqb-true, eqb-false}
 use Rattle.std.proofs.lemmas.List.{map-append}
 use Rattle.std.proofs.lemmas.Option.{slice_get-map}
 use Rattle.net_base.specs.declared.causes.Cause.{Cause}
+use Rattle.net_base.proofs.Lists.{get_beside}
+use Rattle.net_base.proofs.Options.{some_eq}
 use Rattle.flow_records.specs.Records.{record_of}
 use Rattle.net_model.specs.Environment.{Environment}
 use Rattle.net_model.specs.State.{NodeState, Record, fresh}
 use Rattle.net_model.specs.Runs.{merged, stamp_of, stamped, IsLocalFrom, AreRising}
-use Rattle.net_model.proofs.Basics.{some_eq, get_before}
+use Rattle.net_model.proofs.Basics.{get_before}
 use Rattle.net_model.proofs.Local.{of_node}
 use Rattle.net_model.proofs.Merging.{merge_keeps}
 use Rattle.net_model.proofs.Steps.{step_stamp}
 use Rattle.node_tables.specs.Journals.{Reads, records_of, causes_of}
 use Rattle.network_core.specs.Worlds.{NodeWorld, World, MaySpell, Choice, Sound, Coherent}
 use Rattle.network_core.specs.Acknowledged.{Reaches, StandsOnce, AcknowledgedStandsOnce}
-use Rattle.network_core.proofs.AgreeingLists.{get_beside}
 use Rattle.network_core.proofs.Reaching.{reaches_leads}
 
 -- ---- lists

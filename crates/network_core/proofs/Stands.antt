@@ -1,6 +1,7 @@
 -- What a call of a node makes of what the world shows of it.
-use Rattle.std.proofs.Common.{◌≡◌, ◌⊎◌, inl, inr, ℕ, Bool, true, false, List, [], ◌∷◌, ◌++◌, Option, Some, None, refl, sym, ◌∙◌, ap, subst}
+use Rattle.std.proofs.Common.{◌≡◌, ◌⊎◌, inl, inr, ℕ, true, false, List, [], ◌∷◌, ◌++◌, Option, Some, None, refl, sym, ◌∙◌, ap, subst}
 use Rattle.std.proofs.lemmas.Option.{same_Some}
+use Rattle.std.proofs.lemmas.Bool.{false_from_ne_true}
 use Rattle.outside.specs.Disk.{DiskState, DiskView, IsImage}
 use Rattle.outside.specs.Faults.{Rose}
 use Rattle.outside.proofs.Moments.{at_now}
@@ -42,11 +43,6 @@ shows_like (Some b) x y shows up kept other = (up ∙ shows.0, kept ∙ shows.1,
 
 pub shows_same : (journal after : Option (List (List ℕ))) (x y : NodeWorld) → ShowsJournal journal x → journal ≡ after → y.up ≡ x.up → y.journal ≡ x.journal → y.other ≡ x.other → ShowsJournal after y
 shows_same journal after x y shows is up kept other = rw (← is) (shows_like journal x y shows up kept other)
-
--- what isn't true is false
-pub not_true : (b : Bool) → (b ≡ true → ⊥) → b ≡ false
-not_true true h = absurd (h refl)
-not_true false h = refl
 
 module _ {F : Type 0} (m : Machine F) (f : Reads F) (id : Identity) (p now : ℕ) (n k : NodeSeen) (x : NodeWorld) (shows : NodeShows (environment m f id) p n x) where
   abbrev e : Environment F
@@ -154,7 +150,7 @@ module _ {F : Type 0} (m : Machine F) (f : Reads F) (id : Identity) (p now : ℕ
               down = faulted.0;
               lists = λ l may. rw stands.1 (lists_of y c.body l faulted may);
               rose = rose;
-              calm = not_true x.calm (λ calm. c.failing.calm (sym shows.calm_is ∙ calm));
+              calm = false_from_ne_true x.calm (λ calm. c.failing.calm (sym shows.calm_is ∙ calm));
               file = rest.file_is;
               openable = rest.openable_is;
               acked = rest.acked_none;

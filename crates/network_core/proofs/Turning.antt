@@ -10,6 +10,7 @@ use Rattle.session_frames.specs.declared.judged.Judged.TheVariants as judged
 use Rattle.net_base.specs.declared.causes.Event.{Event}
 use Rattle.net_base.specs.declared.names.Key.{Key}
 use Rattle.net_base.specs.declared.values.Party.{Party}
+use Rattle.net_base.proofs.Lists.{set_length}
 use Rattle.flow_machine.specs.Machine.{Machine}
 use Rattle.disk_journal.specs.Journal.{is_full_at}
 use Rattle.net_model.specs.Environment.{Environment, environment}
@@ -31,11 +32,10 @@ use Rattle.network_core.specs.declared.steps.Outcome.{Outcome}
 use Rattle.network_core.specs.declared.steps.Outcome.TheVariants as outcome
 use Rattle.network_core.specs.Worlds.{World, NetSeen, Shows, Coherent, KeepsWorld}
 use Rattle.network_core.specs.Serves.{WorldPosts}
-use Rattle.network_core.specs.Answers.{said, turn_outcome, take_outcome, TurnServes, AtPlace, Posting, PostServes, SendServes, Handing, HandServes, LoseServes, count_fresh, mailed}
+use Rattle.network_core.specs.Answers.{said, turn_outcome, take_outcome, TurnServes, AtPlace, Posting, PostServes, SendServes, Handing, HandServes, count_fresh, mailed}
 use Rattle.network_core.specs.Drains.{room, total_room, journal_room, takes, TurnAt, HandAt, Drains, Drives, Posts, PostsAt, PostsStop, InOrder, Hands, DeliversAt, Turns, TurnsAt, TurnsStop}
 use Rattle.network_core.specs.Served.{WorldDrains}
 use Rattle.network_core.proofs.Places.{turn_world, keeps_map, waits_get}
-use Rattle.network_core.proofs.Placing.{set_length}
 use Rattle.network_core.proofs.Delivering.{post_world, hand_world}
 use Rattle.network_core.proofs.Draining.{Counts, drained, hands_all}
 use Rattle.network_core.proofs.Driving.{drives_map, drives_shown, turn_part, post_part, hand_part}
@@ -229,12 +229,6 @@ drained_world {E} m f old new r full is h = keeps_map m f old new (λ e w v. Dra
 
 pub short_world : {F E : Type 0} (m : Machine F) (f : Reads F) (old new : NetSeen) (r : Result Bool E) (x : E) → r ≡ Err x → KeepsWorld m f old new (λ e w v. Drains e w r v) → KeepsWorld m f old new (λ e w v. WorldDrains e w None v)
 short_world {E} m f old new r x is h = keeps_map m f old new (λ e w v. Drains e w r v) (λ e w v. WorldDrains e w None v) (λ e w v d. subst (λ (z : Result Bool E). Drains e w z v) is d) h
-
--- frames that are lost change no node
-pub lose_count : {E : Type 0} (p i : ℕ) (old new : NetSeen) (result : Result Outcome E) → LoseServes p i old result new → length new.nodes ≡ length old.nodes
-lose_count p i old new result (inl (past, is, same)) = ap (λ z. length z.nodes) same
-lose_count p i old new result (inr (frames, at, inl (none, is, same))) = ap (λ z. length z.nodes) same
-lose_count p i old new result (inr (frames, at, inr (bytes, there, is, same))) = ap (λ z. length z.nodes) same
 
 -- ---- posts of all nodes
 

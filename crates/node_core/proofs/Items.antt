@@ -7,22 +7,12 @@ use Rattle.net_base.specs.declared.names.Key.{Key}
 use Rattle.net_base.specs.declared.values.Party.{Party}
 use Rattle.net_base.specs.declared.causes.Event.TheVariants as event
 use Rattle.net_base.specs.Names.{IsKey}
+use Rattle.net_base.proofs.Options.{none_of}
+use Rattle.net_base.proofs.Lists.{all_find}
 use Rattle.session_wire.specs.declared.body.Body.{Body}
 use Rattle.session_wire.specs.Rules.{direction_in, is_init, is_lawful, is_no_peer}
 use Rattle.session_wire.specs.Sessions.{Session, session_of}
-use Rattle.session_frames.specs.Items.{BeginsSession, GoesOn, IsNextItem, IsOfSent}
-use Rattle.node_tables.proofs.Small.{all_find}
-use Rattle.node_core.specs.Takes.{accepting}
-
--- an acknowledgement is of items that were sent
-pub of_sent : (me : Party) (sessions : List Session) (key : Key) (direction upto : ℕ) (s : Session) → IsOfSent me sessions key direction upto → session_of key sessions ≡ Some s → upto ≤ length s.sent
-of_sent me sessions key direction upto s h is =
-    let same : h.session ≡ s = cc (h.stands, is) in
-    subst (λ (x : Session). upto ≤ length x.sent) same h.below
-
-none_of : {X : Type 0} (o : Option X) → is_none o ≡ true → o ≡ None
-none_of None h = refl
-none_of (Some x) h = cc
+use Rattle.session_frames.specs.Items.{BeginsSession, GoesOn, IsNextItem}
 
 module _ (id : Identity) (sessions : List Session) (from : Party) (key : Key) (direction number stamp : ℕ) (body : Body) (next : IsNextItem id sessions from key direction number stamp body) where
   -- its number has another one behind it
@@ -62,9 +52,3 @@ session_there sessions key peer is some = by (session_of key sessions) refl
         let lost : is_some nothing ≡ true = subst (λ (p : Option Party). is_some p ≡ true) gone some in
         absurd (cc lost)
     by (Some s) stands = (s, stands)
-
-pub accepting_there : (sessions : List Session) (key : Key) (direction number : ℕ) (s : Session) → session_of key sessions ≡ Some s → event.Arrive key direction number ≡ accepting sessions key direction number
-accepting_there sessions key direction number s is = rw is refl
-
-pub accepting_new : (sessions : List Session) (key : Key) (direction number : ℕ) → session_of key sessions ≡ None → event.Answer key ≡ accepting sessions key direction number
-accepting_new sessions key direction number is = rw is refl

@@ -4,4 +4,3 @@ pub mod Items
 pub mod Kept
 pub mod Logs
 pub mod Nodes
-pub mod Accepts

@@ -1,7 +1,8 @@
 -- What an append of a record makes of a journal.
 use Rattle.std.proofs.Common.{◌≡◌, ◌⊎◌, inr, ℕ, ◌+◌, ◌≤◌, List, [], ◌∷◌, ◌++◌, length, Some, Ok, Err, true, sym, ◌∙◌, ap, subst, arith, length-append}
-use Rattle.outside.specs.Disk.{DiskState, DiskView, EachImage, IfTold, SameRest}
+use Rattle.outside.specs.Disk.{DiskView, EachImage, IfTold, SameRest}
 use Rattle.outside.specs.Faults.{Rose}
+use Rattle.outside.proofs.Moments.{weaker}
 use Rattle.net_model.specs.State.{Record}
 use Rattle.disk_journal.specs.Journal.{JournalView, IsReady, IsSound, IsYoung, IsOldOrNew, journal_of}
 use Rattle.flow_records.specs.Records.{record_of}
@@ -29,9 +30,6 @@ pub record Stays (old new : JournalView) (body : List ℕ) : Type 0 where
   pub later : old.disk.faults ≤ new.disk.faults
   pub moments : IfTold old.disk new.disk (λ d e. EachImage d e (λ c. IsOldOrNew (journal_of d.kept) body c × IsSound old.of c))
   pub kept : IfTold old.disk new.disk (λ d e. IsOldOrNew (journal_of d.kept) body e.kept)
-
-weaker : (d e : DiskState) (P Q : List ℕ → Type 0) → ((c : List ℕ) → P c → Q c) → EachImage d e P → EachImage d e Q
-weaker d e P Q to l = record { since = l.since; past = l.past; each = λ c image. to c (l.each c image) }
 
 old_or_more : (list bodies : List (List ℕ)) (body c : List ℕ) → list ≡ bodies → IsOldOrNew list body c → (journal_of c ≡ bodies) ⊎ (journal_of c ≡ bodies ++ body ∷ [])
 old_or_more list bodies body c same h = subst (λ l. (journal_of c ≡ l) ⊎ (journal_of c ≡ l ++ body ∷ [])) same h

@@ -5,7 +5,6 @@ use Rattle.outside.specs.Disk.{DiskState, DiskView, IsImage, CutsPower, clean}
 use Rattle.outside.proofs.Moments.{started, after_cut as image_after_cut}
 use Rattle.net_base.specs.declared.names.Identity.{Identity}
 use Rattle.net_base.specs.declared.causes.Event.{Event}
-use Rattle.net_base.specs.declared.values.Moment.{Moment}
 use Rattle.session_wire.specs.Sessions.{Sent}
 use Rattle.node_core.specs.declared.faults.CommitFault.{CommitFault}
 use Rattle.node_core.specs.declared.faults.CommitFault.TheVariants as commit_fault
@@ -16,17 +15,15 @@ use Rattle.net_model.specs.Steps.{place}
 use Rattle.node_core.specs.declared.node.State.{State}
 use Rattle.node_core.specs.declared.node.State.TheVariants.{Down, Up, Moved}
 use Rattle.node_core.specs.declared.faults.StartFault.TheVariants as start_fault
-use Rattle.flow_machine.specs.declared.flow_set.MakeFault.{MakeFault}
 use Rattle.flow_machine.specs.declared.flow_set.MakeFault.TheVariants as make
-use Rattle.flow_steps.specs.Ready.{IsBegun}
-use Rattle.node_tables.specs.Journals.{Reads, state_of}
+use Rattle.node_tables.specs.Journals.{Reads}
 use Rattle.node_core.specs.declared.faults.Taken.{Taken}
 use Rattle.node_core.specs.declared.faults.TakeFault.{TakeFault}
 use Rattle.node_core.specs.declared.faults.TakeFault.TheVariants as take_fault
 use Rattle.node_core.specs.Journals.{is_full}
 use Rattle.node_core.specs.Disks.{roomless, OneOf, CutsNow}
 use Rattle.node_core.specs.States.{disk_in, journal_in, acked_in, IsDown, seen_up, seen_down, seen_after, is_fault}
-use Rattle.node_core.specs.Seen.{UpSeen, Tied, flow_count, after_cut, acks_after_cut, start_of, CommitsAs, CutsDisk, CutAnswers, StartAnswers}
+use Rattle.node_core.specs.Seen.{UpSeen, Tied, flow_count, after_cut, acks_after_cut, CommitsAs, CutsDisk, CutAnswers, StartAnswers}
 use Rattle.node_core.proofs.Boots.{kept_image}
 
 pub where_ok : {T E : Type 0} (P : Type 0) (r : Result T E) → is_err r ≡ false → OnOk r P → P
@@ -133,12 +130,6 @@ pub no_fault : (answer : Result Taken TakeFault) → is_fault answer ≡ false �
 no_fault (Err take_fault.Fault) h is = cc
 no_fault (Ok x) h is = cc
 no_fault (Err other) h is = cc
-
--- a start of which no flow is made
-pub start_none : {F : Type 0} (m : Machine F) (f : Reads F) (within : F → Type 0) (stamp : ℕ) (now : Moment) (class : ℕ) (args : List ℕ) (id : Identity) (up : UpSeen) (why : MakeFault) → IsBegun (environment m f id) id.party.0 stamp now within (state_of f up.bodies) class args (Err why) → StartAnswers (environment m f id) now.0 class args (seen_up id up) (Err (start_of why)) (seen_up id up)
-start_none m f within stamp now class args id up make.UnknownClass said = (said, refl)
-start_none m f within stamp now class args id up make.BadArgs said = (said, refl)
-start_none m f within stamp now class args id up make.Memory said = refl
 
 -- a start at a node that is full
 pub start_full : {F : Type 0} (m : Machine F) (f : Reads F) (now class : ℕ) (args : List ℕ) (id : Identity) (up : UpSeen) → IsOk (m.made class args (place (environment m f id) id.party.0 (flow_count (environment m f id) up.bodies) 0 now)) → is_full f 0 up.bodies ≡ true

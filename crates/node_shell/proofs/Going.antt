@@ -1,8 +1,9 @@
 -- How a script goes on over the worlds that a network shows.
-use Rattle.std.proofs.Common.{◌≡◌, ℕ, ◌+◌, ◌<◌, ◌≤◌, List, [], ◌∷◌, ◌++◌, length, Option, Bool, true, false, Result, Ok, Err, refl, sym, ap, subst, ◌∙◌, arith, append-nil}
+use Rattle.std.proofs.Common.{◌≡◌, ℕ, ◌+◌, ◌<◌, ◌≤◌, List, [], ◌∷◌, ◌++◌, length, Option, Bool, true, false, Result, Ok, Err, sym, ap, subst, ◌∙◌, append-nil}
 use Rattle.std.specs.Io.KnownBytes.{Consumes, IsAtEnd}
 use Rattle.outside.proofs.Pieces.{Keeps-same}
 use Rattle.net_base.specs.declared.names.Identity.{Identity}
+use Rattle.net_base.proofs.Lists.{none_left}
 use Rattle.flow_machine.specs.Machine.{Machine}
 use Rattle.net_model.specs.Environment.{Environment, environment}
 use Rattle.node_tables.specs.Journals.{Reads}
@@ -25,16 +26,12 @@ done quit = Ok quit
 abbrev pub stopped_by : Stop → Result Bool Stop
 stopped_by why = Err why
 
-no_items : {X : Type 0} (xs : List X) → length xs ≡ 0 → xs ≡ []
-no_items [] none = refl
-no_items (x ∷ xs) none = absurd (omega (arith, none))
-
 module _ {F : Type 0} (m : Machine F) (frame_at : Reads F) {old : NetSeen} {line : List ℕ} {written1 : Option (List ℕ)} (id : Identity) {start : World} {left0 left1 written0 : Option (List ℕ)} {count : ℕ} where
   -- the input ended behind a whole line
   pub last_empty : length line ≡ 0 → count ≤ 16777216 → IsAtEnd left1 → InSome (environment m frame_at id) old (λ w. Progress (environment m frame_at id) start left0 left1 written0 written1 count w line)
       → InSome (environment m frame_at id) old (λ w. ScriptRun (environment m frame_at id) start left0 left1 written0 written1 count w status.Finished)
   last_empty none small end h =
-      let same : last_line line ≡ [] = ap last_line (no_items line none) in
+      let same : last_line line ≡ [] = ap last_line (none_left line none) in
       let all : whole_lines h.holds.lines ++ last_line line ≡ whole_lines h.holds.lines = ap (λ l. whole_lines h.holds.lines ++ l) same ∙ append-nil (whole_lines h.holds.lines) in
       record {
         world = h.world;

@@ -1,6 +1,6 @@
 -- A whole run: the nodes open and the script is played, or one does not open.
-use Rattle.std.proofs.Common.{◌≡◌, ◌⊎◌, inl, inr, ⊎_elim, ℕ, zero, suc, List, [], ◌∷◌, ◌++◌, length, map, Option, Some, refl, sym, ◌∙◌, ap, subst, arith, append_assoc}
-use Rattle.std.specs.Prelude.{codes, decimal, take, drop, None, ◌<◌, ◌≤◌}
+use Rattle.std.proofs.Common.{◌≡◌, ◌⊎◌, inl, inr, ⊎_elim, ℕ, List, [], ◌∷◌, ◌++◌, length, map, Option, Some, refl, sym, ◌∙◌, ap, subst, arith, append_assoc}
+use Rattle.std.specs.Prelude.{codes, decimal, None, ◌<◌, ◌≤◌}
 use Rattle.std.specs.List.{slice_get}
 use Rattle.std.proofs.lemmas.Option.{slice_get_within}
 use Rattle.outside.specs.Disk.{DiskView}
@@ -9,6 +9,7 @@ use Rattle.disk_journal.specs.declared.fault.OpenFault.{OpenFault}
 use Rattle.disk_journal.specs.declared.fault.OpenFault.TheVariants as open_fault
 use Rattle.net_base.specs.declared.names.Identity.{Identity}
 use Rattle.net_base.specs.declared.values.Party.{Party}
+use Rattle.net_base.proofs.Lists.{get_beside}
 use Rattle.flow_machine.specs.Machine.{Machine}
 use Rattle.net_model.specs.Environment.{Environment, environment}
 use Rattle.node_tables.specs.Journals.{Reads}
@@ -19,22 +20,19 @@ use Rattle.node_core.specs.declared.faults.BootFault.{BootFault}
 use Rattle.node_core.specs.declared.faults.BootFault.TheVariants as boot
 use Rattle.network_core.specs.Worlds.{World, NetSeen, Shows, Coherent}
 use Rattle.network_core.specs.Begins.{member, node_over, nodes_over, no_boot, BeginsWorld, IsRefused, BootsUpTo}
-use Rattle.network_core.proofs.Faithful.{get_beside}
 use Rattle.network_core.proofs.Reaching.{reaches_coherent, reaches_openable}
 use Rattle.network_core.proofs.Standing.{acknowledged_stands_once}
+use Rattle.network_core.proofs.Beginning.{first_at}
 use Rattle.node_shell.specs.declared.statuses.Status.{Status}
 use Rattle.node_shell.specs.declared.statuses.Status.TheVariants as status
 use Rattle.node_shell.specs.Story.{ScriptRun, IsScriptStatus, InSome}
-use Rattle.node_shell.specs.Runs.{over, number_of_status, Plays, Refuses, RunsAs, journal_line, PlaysOrRefuses, RefusedWith, IsOpeningStatus, Fails, OneFails, HasCause, MisfitsAt, IsUnready, IsToldWhy, KeepsOwn, KeepOwn, IsPlayedStatus, IsPlayedNumber, AllStay, IsRunStatus, MadeReady}
+use Rattle.node_shell.specs.Runs.{over, number_of_status, Plays, Refuses, RunsAs, journal_line, PlaysOrRefuses, RefusedWith, IsOpeningStatus, Fails, OneFails, HasCause, MisfitsAt, IsUnready, IsToldWhy, KeepsOwn, KeepOwn, IsPlayedStatus, IsPlayedNumber, AllStay, MadeReady}
 use Rattle.node_shell.proofs.Readying.{fails_since}
 use Rattle.node_shell.proofs.Reached.{script_reaches}
-use Rattle.node_shell.proofs.Resting.{over_at, counted, begun_openable, down_openable, made_openable, stay_openable, made_same, made_then, made_fewer, same_fewer, made_journals, same_journals, stands, rests, made_coherent, made_counted, counted_shows, refused_rests, down_fewer}
+use Rattle.node_shell.proofs.Resting.{counted, begun_openable, down_openable, made_openable, stay_openable, made_same, made_then, made_fewer, same_fewer, made_journals, same_journals, stands, rests, made_coherent, made_counted, counted_shows, refused_rests, down_fewer}
 
 no_memory : status.DiskFault ≡ status.NoMemory → ⊥
 no_memory same = cc
-
-pub some_same : {X : Type 0} (a b : X) → Some a ≡ Some b → a ≡ b
-some_same a b same = cc
 
 -- ---- why
 
@@ -67,7 +65,7 @@ own_since f id d k same own = λ tells.
 -- nodes that came up over disks opened their own journals
 pub boots_own : {F : Type 0} (f : Reads F) (nodes : ℕ) (notary : Party) (ds : List DiskView) (now : ℕ) (new : List NodeSeen) → length ds ≡ nodes → BootsUpTo f nodes now (nodes_over nodes notary 0 ds) new → KeepOwn f nodes notary ds
 boots_own f nodes notary ds now new count r p d at =
-    let n = over_at nodes notary ds p d at in
+    let n = first_at nodes notary ds p d at in
     let k = get_beside (nodes_over nodes notary 0 ds) new p (node_over nodes notary p d) (sym r.count) n in
     let within = slice_get_within ds p d at in
     let b = r.done p (node_over nodes notary p d) k.0 (omega (arith, within, count)) n k.1 in
@@ -113,16 +111,6 @@ is_bad_journal status.ReadFault is = cc
 is_bad_journal status.WriteFault is = cc
 is_bad_journal status.DiskFault is = cc
 is_bad_journal status.NoMemory is = cc
-
-pub is_refused_words : (s : Status) → IsRunStatus s → number_of_status s ≡ 2 → ⊥
-is_refused_words status.Finished is two = cc
-is_refused_words status.BadWords is two = is
-is_refused_words status.TooLong is two = cc
-is_refused_words status.ReadFault is two = cc
-is_refused_words status.WriteFault is two = cc
-is_refused_words status.DiskFault is two = cc
-is_refused_words status.NoMemory is two = cc
-is_refused_words status.BadJournal is two = cc
 
 -- a making ready before changes no cause
 cause_since : {F : Type 0} (f : Reads F) (id : Identity) (why : BootFault) (d k b : DiskView) → k ≡ record d { faults = k.faults } → d.faults ≤ k.faults → HasCause f id k why b → HasCause f id d why b
@@ -341,12 +329,3 @@ damaged_line node at why line is same =
     let t = decimal at in
     let l : List ℕ = 10 ∷ [] in
     same ∙ sym (append_assoc (a ++ n ++ b) t l ∙ append_assoc (a ++ n) b (t ++ l) ∙ append_assoc a n (b ++ (t ++ l))) ∙ ap (journal_line node) (sym is)
-
--- a vector whose items were written anew, as many as before
-pub written_back : {X : Type 0} (n : ℕ) (new old : List X) → n ≡ length old → length new ≡ length old → take n (new ++ drop (length new) old) ≡ new
-written_back zero [] [] here same = refl
-written_back (suc n) [] [] here same = refl
-written_back n (x ∷ xs) [] here same = absurd (omega (arith, same))
-written_back n [] (y ∷ ys) here same = absurd (omega (arith, same))
-written_back zero (x ∷ xs) (y ∷ ys) here same = absurd (omega (arith, here))
-written_back (suc n) (x ∷ xs) (y ∷ ys) here same = ap (λ l. x ∷ l) (written_back n xs ys (omega (arith, here)) (omega (arith, same)))

@@ -1,13 +1,13 @@
 -- Disks that are made ready, one after the other.
-use Rattle.std.proofs.Common.{◌≡◌, ⊎_elim, ℕ, zero, suc, ◌*◌, List, [], ◌∷◌, length, map, Some, refl, sym, ◌∙◌, ap, subst, arith, slice_set}
+use Rattle.std.proofs.Common.{◌≡◌, ⊎_elim, ℕ, ◌*◌, List, length, map, Some, refl, sym, ◌∙◌, ap, subst, arith, slice_set}
 use Rattle.std.specs.Prelude.{◌<◌, ◌≤◌}
 use Rattle.std.specs.List.{slice_get}
+use Rattle.net_base.proofs.Lists.{get_there, map_set, set_length, get_beside, get_map, get_set}
 use Rattle.outside.specs.Disk.{DiskView}
 use Rattle.outside.specs.Faults.{Rose}
-use Rattle.network_core.proofs.Faithful.{get_beside}
 use Rattle.node_shell.specs.Pairs.{first_disks}
 use Rattle.node_shell.specs.Runs.{Fails, OneFails, StaysBut, AllStay}
-use Rattle.node_shell.proofs.Weaving.{first_at, first_count, map_set, set_count, at_set, in_map}
+use Rattle.node_shell.proofs.Weaving.{first_at, first_count}
 
 -- ---- counts of faults
 
@@ -39,33 +39,28 @@ first_fails n ds ks es stay o =
 
 -- ---- one disk more
 
-set_here : {X : Type 0} (l : List X) (i : ℕ) (x y : X) → slice_get l i ≡ Some x → slice_get (slice_set l i y) i ≡ Some y
-set_here [] i x y at = cc
-set_here (z ∷ l) zero x y at = refl
-set_here (z ∷ l) (suc i) x y at = set_here l i x y at
-
 stays_then : (a b c : DiskView) → StaysBut a b → StaysBut b c → StaysBut a c
 stays_then a b c one two = (two.0 ∙ ap (λ (x : DiskView). record x { faults = c.faults }) one.0, omega (arith, one.1, two.1))
 
 -- one more disk was made ready
 pub stay_more : {X : Type 0} (f : X → DiskView) (all cur : List X) (i : ℕ) (x y : X) → AllStay (map f all) (map f cur) → slice_get cur i ≡ Some x → StaysBut (f x) (f y) → AllStay (map f all) (map f (slice_set cur i y))
 stay_more f all cur i x y stay at stays =
-    let here : slice_get (map f cur) i ≡ Some (f x) = in_map f cur i x at in
+    let here : slice_get (map f cur) i ≡ Some (f x) = get_map f cur i x at in
     record {
-      count = ap length (map_set f cur i y) ∙ set_count (map f cur) i (f y) ∙ stay.count;
+      count = ap length (map_set f cur i y) ∙ set_length (map f cur) i (f y) ∙ stay.count;
       each = λ p d e old new.
           ⊎_elim
           (λ (s : (p ≡ i) × (e ≡ f y)).
           let there : slice_get (map f cur) p ≡ Some (f x) = subst (λ q. slice_get (map f cur) q ≡ Some (f x)) (sym s.0) here in
           subst (StaysBut d) (sym s.1) (stays_then d (f x) (f y) (stay.each p d (f x) old there) stays))
           (λ (same : slice_get (map f cur) p ≡ Some e). stay.each p d e old same)
-          (at_set (map f cur) i (f y) p e (subst (λ l. slice_get l p ≡ Some e) (map_set f cur i y) new));
+          (get_set (map f cur) i (f y) p e (subst (λ l. slice_get l p ≡ Some e) (map_set f cur i y) new));
     }
 
 -- or it failed
 pub one_more_fails : {X : Type 0} (f : X → DiskView) (all cur : List X) (i n : ℕ) (x y : X) → AllStay (map f all) (map f cur) → slice_get cur i ≡ Some x → i < n → Fails (f x) (f y) → OneFails n (map f all) (map f (slice_set cur i y))
 one_more_fails f all cur i n x y stay at within fails =
-    let here : slice_get (map f cur) i ≡ Some (f x) = in_map f cur i x at in
+    let here : slice_get (map f cur) i ≡ Some (f x) = get_map f cur i x at in
     let old = get_beside (map f cur) (map f all) i (f x) stay.count here in
     let stays = stay.each i old.0 (f x) old.1 here in
-    record { place = i; own = within; before = old.0; after = f y; at = old.1; now = ap (λ l. slice_get l i) (map_set f cur i y) ∙ set_here (map f cur) i (f x) (f y) here; fails = fails_since old.0 (f x) (f y) stays.0 stays.1 fails }
+    record { place = i; own = within; before = old.0; after = f y; at = old.1; now = ap (λ l. slice_get l i) (map_set f cur i y) ∙ get_there (map f cur) i (f x) (f y) here; fails = fails_since old.0 (f x) (f y) stays.0 stays.1 fails }

@@ -1,10 +1,12 @@
 -- How the disks of a network rest, and what a making ready changes of a world.
-use Rattle.std.proofs.Common.{◌≡◌, ℕ, zero, suc, ◌+◌, List, [], ◌∷◌, length, map, Some, true, false, refl, sym, ◌∙◌, ap, subst, arith}
+use Rattle.std.proofs.Common.{◌≡◌, ℕ, zero, suc, List, [], ◌∷◌, length, map, Some, true, false, refl, sym, ◌∙◌, ap, subst, arith}
 use Rattle.std.specs.Prelude.{◌≤◌}
 use Rattle.std.specs.List.{slice_get, AllByRecursion}
+use Rattle.std.proofs.lemmas.List.{length-map}
 use Rattle.outside.specs.Disk.{DiskView, IsImage}
 use Rattle.net_base.specs.declared.names.Identity.{Identity}
 use Rattle.net_base.specs.declared.values.Party.{Party}
+use Rattle.net_base.proofs.Lists.{get_beside, map_twice, get_map, of_map}
 use Rattle.flow_machine.specs.Machine.{Machine}
 use Rattle.disk_journal.specs.Journal.{IsYoung, journal_of}
 use Rattle.net_model.specs.Environment.{Environment, environment}
@@ -14,22 +16,11 @@ use Rattle.node_core.specs.Seen.{NodeSeen}
 use Rattle.node_core.specs.declared.faults.BootFault.{BootFault}
 use Rattle.network_core.specs.Worlds.{World, NodeWorld, NetSeen, MaySpell, NodeShows, Shows, AreOpenable, Choice, states_of, WaitsAt, AreArrived, NodeCoherent, Coherent}
 use Rattle.network_core.specs.Begins.{member, node_over, nodes_over, net_over, Begun, StayDown}
-use Rattle.network_core.proofs.Beginning.{over_length}
-use Rattle.network_core.proofs.Faithful.{coherent_is_faithful, get_beside}
-use Rattle.node_shell.proofs.Weaving.{map_count, in_map}
+use Rattle.network_core.proofs.Beginning.{over_length, first_get, first_at}
+use Rattle.network_core.proofs.Faithful.{coherent_is_faithful}
 use Rattle.node_shell.specs.Runs.{over, all_down, Rests, LeavesFewer, KeepsJournals, MadeReady, AllStay}
 
 -- ---- mapped lists
-
--- what stands at a place of a mapped list
-pub of_map : {X Y : Type 0} (f : X → Y) (xs : List X) (p : ℕ) (y : Y) → slice_get (map f xs) p ≡ Some y → (x : X) × (slice_get xs p ≡ Some x) × (f x ≡ y)
-of_map f [] p y h = cc
-of_map f (x ∷ xs) zero y h = (x, refl, cc)
-of_map f (x ∷ xs) (suc p) y h = of_map f xs p y h
-
-map_again : {X Y Z : Type 0} (g : Y → Z) (f : X → Y) (h : X → Z) (xs : List X) → ((x : X) → g (f x) ≡ h x) → map g (map f xs) ≡ map h xs
-map_again g f h [] same = refl
-map_again g f h (x ∷ xs) same = rw (same x) (ap (λ l. h x ∷ l) (map_again g f h xs same))
 
 -- the same for each item of two lists of one length
 same_for_each : {X Y Z : Type 0} (z : Z) (xs : List X) (ys : List Y) → length xs ≡ length ys → map (λ (x : X). z) xs ≡ map (λ (y : Y). z) ys
@@ -39,30 +30,6 @@ same_for_each z (x ∷ xs) [] n = absurd (omega (arith, n))
 same_for_each z (x ∷ xs) (y ∷ ys) n = ap (λ l. z ∷ l) (same_for_each z xs ys (omega (arith, n)))
 
 -- ---- nodes over disks
-
-node_at : (nodes : ℕ) (notary : Party) (from : ℕ) (ds : List DiskView) (p : ℕ) (d : DiskView) → slice_get ds p ≡ Some d → slice_get (nodes_over nodes notary from ds) p ≡ Some (node_over nodes notary (from + p) d)
-node_at nodes notary from [] p d at = cc
-node_at nodes notary from (x ∷ ds) zero d at =
-    let same : x ≡ d = cc in
-    let place : from ≡ from + zero = omega arith in
-    ap (λ z. Some (node_over nodes notary from z)) same ∙ ap (λ q. Some (node_over nodes notary q d)) place
-node_at nodes notary from (x ∷ ds) (suc p) d at =
-    let place : from + 1 + p ≡ from + suc p = omega arith in
-    node_at nodes notary (from + 1) ds p d at ∙ ap (λ q. Some (node_over nodes notary q d)) place
-
--- the node over the disk at a place
-pub over_at : (nodes : ℕ) (notary : Party) (ds : List DiskView) (p : ℕ) (d : DiskView) → slice_get ds p ≡ Some d → slice_get (nodes_over nodes notary 0 ds) p ≡ Some (node_over nodes notary p d)
-over_at nodes notary ds p d at =
-    let place : 0 + p ≡ p = omega arith in
-    node_at nodes notary 0 ds p d at ∙ ap (λ q. Some (node_over nodes notary q d)) place
-
--- the disk under the node at a place
-over_from : (nodes : ℕ) (notary : Party) (ds : List DiskView) (p : ℕ) (n : NodeSeen) → slice_get (nodes_over nodes notary 0 ds) p ≡ Some n → (d : DiskView) × (slice_get ds p ≡ Some d) × (n ≡ node_over nodes notary p d)
-over_from nodes notary ds p n at =
-    let found = get_beside (nodes_over nodes notary 0 ds) ds p n (over_length nodes notary 0 ds) at in
-    let there = over_at nodes notary ds p found.0 found.1 in
-    let same : n ≡ node_over nodes notary p found.0 = cc in
-    (found.0, found.1, same)
 
 -- ---- down
 
@@ -74,7 +41,7 @@ never_up xs p x at up = let o = of_map down xs p x at in let no : false ≡ true
 
 -- a choice of the journals of nodes that were taken down is one of the nodes' before
 down_choice : (w : World) (lists : List (List (List ℕ))) → Choice (all_down w) lists → Choice w lists
-down_choice w lists choice = record { count = choice.count ∙ map_count down w.nodes; each = λ p x l at here. choice.each p (down x) l (in_map down w.nodes p x at) here }
+down_choice w lists choice = record { count = choice.count ∙ length-map w.nodes down; each = λ p x l at here. choice.each p (down x) l (get_map down w.nodes p x at) here }
 
 abbrev pub faulty : ℕ → NodeWorld → NodeWorld
 faulty n x = record x { faults = n }
@@ -195,14 +162,14 @@ module _ {F : Type 0} (m : Machine F) (f : Reads F) (nodes : ℕ) (notary : Part
       → ((p : ℕ) (n : NodeSeen) (x : NodeWorld) → slice_get ns p ≡ Some n → slice_get xs p ≡ Some x → NodeShows e p n x)
       → (p : ℕ) (n : NodeSeen) (x : NodeWorld) → slice_get (nodes_over nodes notary 0 ds) p ≡ Some n → slice_get (map down xs) p ≡ Some x → NodeShows e p n x
   each_rests ns xs ds same each p n x at there =
-      let under = over_from nodes notary ds p n at in
+      let under = first_get nodes notary ds p n at in
       let world = of_map down xs p x there in
-      let node = of_map (λ (k : NodeSeen). k.disk) ns p (roomless under.0) (ap (λ (l : List DiskView). slice_get l p) same ∙ in_map roomless ds p under.0 under.1) in
+      let node = of_map (λ (k : NodeSeen). k.disk) ns p (roomless under.0) (ap (λ (l : List DiskView). slice_get l p) same ∙ get_map roomless ds p under.0 under.1) in
       subst (NodeShows e p n) world.2 (subst (λ (z : NodeSeen). NodeShows e p z (down world.0)) (sym under.2) (node_rests p node.0 world.0 under.0 node.2 (each p node.0 world.0 node.1 world.1)))
 
   down_coherent : (w : World) → Coherent e w → Coherent e (all_down w)
   down_coherent w c = record {
-    count = map_count down w.nodes ∙ c.count;
+    count = length-map w.nodes down ∙ c.count;
     each = λ p x at.
         let o = of_map down w.nodes p x at in
         let before = c.each p o.0 o.1 in
@@ -222,12 +189,12 @@ module _ {F : Type 0} (m : Machine F) (f : Reads F) (nodes : ℕ) (notary : Part
   -- the disks that come out of a network rest in the world that the network showed
   pub rests : (net : NetSeen) (w : World) (ds : List DiskView) → Shows e net w → Coherent e w → map (λ (n : NodeSeen). n.disk) net.nodes ≡ map roomless ds → Rests e ds (all_down w)
   rests net w ds shows coherent disks =
-      let count : length w.nodes ≡ length ds = shows.count ∙ sym (map_count (λ (n : NodeSeen). n.disk) net.nodes) ∙ ap length disks ∙ map_count roomless ds in
+      let count : length w.nodes ≡ length ds = shows.count ∙ sym (length-map net.nodes (λ (n : NodeSeen). n.disk)) ∙ ap length disks ∙ length-map ds roomless in
       stands (all_down w) ds
       (record {
-        count = map_count down w.nodes ∙ count ∙ sym (over_length nodes notary 0 ds);
+        count = length-map w.nodes down ∙ count ∙ sym (over_length nodes notary 0 ds);
         each = each_rests net.nodes w.nodes ds disks shows.each;
-        waiting = map_again (λ (x : NodeWorld). x.waiting) down (λ (x : NodeWorld). []) w.nodes (λ x. refl) ∙ same_for_each [] w.nodes ds count;
+        waiting = map_twice (λ (x : NodeWorld). x.waiting) down (λ (x : NodeWorld). []) w.nodes (λ x. refl) ∙ same_for_each [] w.nodes ds count;
         clock = refl;
       })
       (down_coherent w coherent)
@@ -275,18 +242,18 @@ module _ {F : Type 0} (m : Machine F) (f : Reads F) (nodes : ℕ) (notary : Part
           let same : found.0 ≡ x = cc in
           let is : faulty new.0.faults x ≡ y = ap (faulty new.0.faults) (sym same) ∙ found.2 in
           let stays = stay.each p old.0 new.0 old.1 new.1 in
-          let shown = shows.each p (node_over nodes notary p old.0) x (over_at nodes notary ds p old.0 old.1) at in
+          let shown = shows.each p (node_over nodes notary p old.0) x (first_at nodes notary ds p old.0 old.1) at in
           subst (λ (z : NodeWorld). (z ≡ record x { faults = z.faults }) × (x.faults ≤ z.faults)) is (refl, omega (arith, shown.counts, stays.1));
       clock = refl;
     }
 
     each_counted : (p : ℕ) (k : NodeSeen) (x : NodeWorld) → slice_get (nodes_over nodes notary 0 es) p ≡ Some k → slice_get (with_counts es w.nodes) p ≡ Some x → NodeShows e p k x
     each_counted p k x at there =
-        let under = over_from nodes notary es p k at in
+        let under = first_get nodes notary es p k at in
         let found = counted_at es w.nodes p under.0 x under.1 there in
         let old = get_beside es ds p under.0 stay.count under.1 in
         let stays = stay.each p old.0 under.0 old.1 under.1 in
-        let s = shows.each p (node_over nodes notary p old.0) found.0 (over_at nodes notary ds p old.0 old.1) found.1 in
+        let s = shows.each p (node_over nodes notary p old.0) found.0 (first_at nodes notary ds p old.0 old.1) found.1 in
         let t : NodeShows e p (node_over nodes notary p (record old.0 { faults = under.0.faults })) (faulty under.0.faults found.0) = record { identity_is = refl; tells = s.tells; images = s.images; kept = s.kept; journal = s.journal; counts = refl; calm_is = s.calm_is; file_is = s.file_is; acked_is = s.acked_is; opens = s.opens } in
         subst (NodeShows e p k) found.2
         (subst (λ (z : NodeSeen). NodeShows e p z (faulty under.0.faults found.0)) (sym under.2)
@@ -302,6 +269,3 @@ module _ {F : Type 0} (m : Machine F) (f : Reads F) (nodes : ℕ) (notary : Part
 
 pub down_fewer : (why : BootFault) (w v : World) → StayDown why w v → LeavesFewer w v
 down_fewer why w v s p x y l at there may = (s.each p x y at there).lists l may
-
-pub map_seen : {X Y Z : Type 0} (g : Y → Z) (f : X → Y) (xs : List X) → map g (map f xs) ≡ map (λ x. g (f x)) xs
-map_seen g f xs = map_again g f (λ x. g (f x)) xs (λ x. refl)

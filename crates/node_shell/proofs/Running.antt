@@ -2,10 +2,11 @@
 use Rattle.std.proofs.Common.{◌≡◌, ℕ, ◌+◌, ◌*◌, List, length, map, drop, Some, sym, ◌∙◌, ap, subst, arith}
 use Rattle.std.specs.Prelude.{◌<◌, ◌≤◌}
 use Rattle.std.specs.List.{slice_get}
+use Rattle.std.proofs.lemmas.List.{length-map}
 use Rattle.outside.specs.Disk.{DiskView}
 use Rattle.node_shell.specs.Pairs.{first_disks, woven}
 use Rattle.node_shell.specs.Runs.{StaysBut, OneFails, AllStay}
-use Rattle.node_shell.proofs.Weaving.{map_count, woven_count, firsts, seconds, behind}
+use Rattle.node_shell.proofs.Weaving.{woven_count, firsts, seconds, behind}
 use Rattle.node_shell.proofs.Readying.{first_stay, first_fails}
 
 -- the disks were made ready, the first ones of the nodes were taken out, and others, as many, were put back
@@ -21,8 +22,8 @@ pub record Handed {X : Type 0} (seen : X → DiskView) (n : ℕ) (olds ready own
 module _ {X : Type 0} (seen : X → DiskView) (n : ℕ) (olds ready own rest back ends : List X) (h : Handed seen n olds ready own rest back ends) where
   both : length own + length rest ≡ 32
   both =
-      let old = map_count seen olds in
-      let new = map_count seen ready in
+      let old = length-map olds seen in
+      let new = length-map ready seen in
       let kept = h.stay.count in
       sym (woven_count own rest) ∙ ap length h.taken ∙ sym new ∙ kept ∙ old ∙ h.all
 

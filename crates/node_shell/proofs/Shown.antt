@@ -4,7 +4,9 @@ use Rattle.std.proofs.lemmas.Bool.Decides.{nat_tests}
 use Rattle.std.specs.Prelude.{IsTrue, IsSome, option_map, option_and_then, ◌<◌, nat_lt, slice_index_or}
 use Rattle.std.specs.List.{slice_get}
 use Rattle.std.proofs.lemmas.Option.{same_Some}
+use Rattle.std.proofs.lemmas.List.{length-map}
 use Rattle.net_base.specs.declared.causes.Cause.{Cause}
+use Rattle.net_base.proofs.Lists.{get_beside, get_map, map_both, drop_get}
 use Rattle.flow_machine.specs.declared.flows.FlowState.{FlowState}
 use Rattle.net_model.specs.Environment.{Environment}
 use Rattle.net_model.specs.Runs.{merged, network_of}
@@ -13,7 +15,7 @@ use Rattle.net_model.specs.Print.{printed, print_of, of_flows, of_flow, of_histo
 use Rattle.node_tables.specs.Journals.{Reads, causes_of, state_of}
 use Rattle.node_core.specs.Seen.{NodeSeen}
 use Rattle.network_core.specs.Worlds.{World, NodeWorld, NetSeen, NodeShows, Shows, ShowsJournal, Coherent, Choice}
-use Rattle.network_core.proofs.Faithful.{get_beside, coherent_is_faithful}
+use Rattle.network_core.proofs.Faithful.{coherent_is_faithful}
 use Rattle.node_shell.specs.declared.replies.Reply.{Reply}
 use Rattle.node_shell.specs.Serve.{AtNode, AsksFlow, IsRefused, causes_in, causes_up, reply_text}
 
@@ -25,24 +27,6 @@ none_beside [] (y ∷ ys) p n h = cc
 none_beside (x ∷ xs) [] p n h = cc
 none_beside (x ∷ xs) (y ∷ ys) zero n h = cc
 none_beside (x ∷ xs) (y ∷ ys) (suc p) n h = none_beside xs ys p (omega (arith, n)) h
-
-map_count : {X Y : Type 0} (g : X → Y) (xs : List X) → length (map g xs) ≡ length xs
-map_count g [] = refl
-map_count g (x ∷ xs) = ap suc (map_count g xs)
-
-map_get : {X Y : Type 0} (g : X → Y) (xs : List X) (p : ℕ) (x : X) → slice_get xs p ≡ Some x → slice_get (map g xs) p ≡ Some (g x)
-map_get g [] p x h = cc
-map_get g (x' ∷ xs) zero x h = ap (λ y. Some (g y)) (same_Some _ _ h)
-map_get g (x' ∷ xs) (suc p) x h = map_get g xs p x h
-
-map_both : {X Y Z : Type 0} (h : Y → Z) (g : X → Y) (xs : List X) → map h (map g xs) ≡ map (λ x. h (g x)) xs
-map_both h g [] = refl
-map_both h g (x ∷ xs) = ap (λ l. h (g x) ∷ l) (map_both h g xs)
-
-drop_get : {X : Type 0} (xs : List X) (i : ℕ) (x : X) → slice_get xs i ≡ Some x → drop i xs ≡ x ∷ drop (suc i) xs
-drop_get [] i x h = cc
-drop_get (y ∷ ys) zero x h = ap (λ z. z ∷ ys) (same_Some _ _ h)
-drop_get (y ∷ ys) (suc i) x h = drop_get ys i x h
 
 -- ---- a node and its place in the world
 
@@ -84,8 +68,8 @@ module _ {F : Type 0} (e : Environment F) (w : World) (coherent : Coherent e w) 
 
   kept : Choice w kept_lists
   kept = record {
-    count = map_count (λ (x : NodeWorld). x.journal) w.nodes;
-    each = λ p x l at here. inl (same_Some _ _ (sym here ∙ map_get (λ (x : NodeWorld). x.journal) w.nodes p x at));
+    count = length-map w.nodes (λ (x : NodeWorld). x.journal);
+    each = λ p x l at here. inl (same_Some _ _ (sym here ∙ get_map (λ (x : NodeWorld). x.journal) w.nodes p x at));
   }
 
   pub net_is : network_of e (causes_in e w) ≡ Some (map (λ x. state_of e.frame_at x.journal) w.nodes)
@@ -96,7 +80,7 @@ module _ {F : Type 0} (e : Environment F) (w : World) (coherent : Coherent e w) 
       subst (λ l. network_of e l ≡ Some (map (λ (x : NodeWorld). state_of e.frame_at x.journal) w.nodes)) causes (run ∙ ap Some states)
 
   state_at : (p : ℕ) (x : NodeWorld) → slice_get w.nodes p ≡ Some x → slice_get (map (λ (y : NodeWorld). state_of e.frame_at y.journal) w.nodes) p ≡ Some (state_of e.frame_at x.journal)
-  state_at p x at = map_get (λ (y : NodeWorld). state_of e.frame_at y.journal) w.nodes p x at
+  state_at p x at = get_map (λ (y : NodeWorld). state_of e.frame_at y.journal) w.nodes p x at
 
   pub flows_printed : (p : ℕ) (x : NodeWorld) → slice_get w.nodes p ≡ Some x → printed e (causes_in e w) (of_flows p) ≡ flows_text (state_of e.frame_at x.journal).flows
   unfolding printed

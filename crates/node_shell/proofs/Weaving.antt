@@ -1,17 +1,9 @@
 -- The first disks of the nodes among all disks.
-use Rattle.std.proofs.Common.{◌≡◌, ◌⊎◌, inl, inr, ⊎_elim, ℕ, zero, suc, ◌+◌, ◌*◌, ◌<◌, ◌≤◌, List, [], ◌∷◌, ◌++◌, length, map, take, drop, Some, refl, sym, ◌∙◌, ap, arith}
+use Rattle.std.proofs.Common.{◌≡◌, ℕ, zero, suc, ◌+◌, ◌*◌, ◌<◌, ◌≤◌, List, [], ◌∷◌, ◌++◌, length, map, take, drop, Some, refl, sym, ◌∙◌, ap, arith}
 use Rattle.std.specs.Prelude.{slice_index_or, slice_set}
 use Rattle.std.specs.List.{slice_get, insert, remove}
+use Rattle.std.proofs.lemmas.List.{length-map}
 use Rattle.node_shell.specs.Pairs.{every_other, first_disks, woven}
-
-pub map_count : {X Y : Type 0} (f : X → Y) (xs : List X) → length (map f xs) ≡ length xs
-map_count f [] = refl
-map_count f (x ∷ xs) = ap suc (map_count f xs)
-
-pub in_map : {X Y : Type 0} (f : X → Y) (xs : List X) (p : ℕ) (x : X) → slice_get xs p ≡ Some x → slice_get (map f xs) p ≡ Some (f x)
-in_map f [] p x h = cc
-in_map f (y ∷ xs) zero x h = cc
-in_map f (y ∷ xs) (suc p) x h = in_map f xs p x h
 
 -- ---- a list of pairs
 
@@ -137,24 +129,6 @@ one_put_back own less rest more x popped put few =
 
 -- ---- one place of a list
 
-pub map_set : {X Y : Type 0} (f : X → Y) (l : List X) (i : ℕ) (y : X) → map f (slice_set l i y) ≡ slice_set (map f l) i (f y)
-map_set f [] i y = refl
-map_set f (x ∷ l) zero y = refl
-map_set f (x ∷ l) (suc i) y = ap (λ r. f x ∷ r) (map_set f l i y)
-
-pub set_count : {X : Type 0} (l : List X) (i : ℕ) (y : X) → length (slice_set l i y) ≡ length l
-set_count [] i y = refl
-set_count (x ∷ l) zero y = refl
-set_count (x ∷ l) (suc i) y = ap suc (set_count l i y)
-
--- what stands at a place once one was set: that, or what stood there
-pub at_set : {X : Type 0} (l : List X) (i : ℕ) (y : X) (p : ℕ) (x : X) → slice_get (slice_set l i y) p ≡ Some x → ((p ≡ i) × (x ≡ y)) ⊎ (slice_get l p ≡ Some x)
-at_set [] i y p x h = cc
-at_set (z ∷ l) zero y zero x h = let e : x ≡ y = cc in inl (refl, e)
-at_set (z ∷ l) zero y (suc p) x h = inr h
-at_set (z ∷ l) (suc i) y zero x h = inr h
-at_set (z ∷ l) (suc i) y (suc p) x h = ⊎_elim (λ (s : (p ≡ i) × (x ≡ y)). inl (ap suc s.0, s.1)) (λ s. inr s) (at_set l i y p x h)
-
 pub behind_set : {X : Type 0} (l : List X) (i n : ℕ) (y : X) → i < n → drop n (slice_set l i y) ≡ drop n l
 behind_set [] i n y within = refl
 behind_set (x ∷ l) i zero y within = absurd (omega (arith, within))
@@ -166,14 +140,14 @@ behind_set (x ∷ l) (suc i) (suc n) y within = behind_set l i n y (omega (arith
 module _ {X Y : Type 0} (f : X → Y) (own rest all : List X) (n : ℕ) (whole : woven own rest ≡ all) (count : length own ≡ n) (few : n ≤ length rest) where
   pub firsts : first_disks n (map f all) ≡ map f own
   firsts =
-      let long : length (map f own) ≡ n = map_count f own ∙ count in
-      let short : length (map f own) ≤ length (map f rest) = let other = map_count f rest in omega (arith, long, other, few) in
+      let long : length (map f own) ≡ n = length-map own f ∙ count in
+      let short : length (map f own) ≤ length (map f rest) = let other = length-map rest f in omega (arith, long, other, few) in
       ap (λ l. first_disks n (map f l)) (sym whole) ∙ ap (first_disks n) (map_woven f own rest) ∙ ap (λ k. first_disks k (woven (map f own) (map f rest))) (sym long) ∙ first_woven (map f own) (map f rest) short
 
   pub seconds : (p : ℕ) → p < n → slice_get (map f all) (2 * p + 1) ≡ slice_get (map f rest) p
   seconds p within =
-      let long : length (map f own) ≡ n = map_count f own ∙ count in
-      let short : length (map f own) ≤ length (map f rest) = let other = map_count f rest in omega (arith, long, other, few) in
+      let long : length (map f own) ≡ n = length-map own f ∙ count in
+      let short : length (map f own) ≤ length (map f rest) = let other = length-map rest f in omega (arith, long, other, few) in
       ap (λ l. slice_get (map f l) (2 * p + 1)) (sym whole) ∙ ap (λ l. slice_get l (2 * p + 1)) (map_woven f own rest) ∙ second_woven (map f own) (map f rest) p (omega (arith, within, long)) short
 
   pub behind : drop (2 * n) all ≡ drop n rest

@@ -10,8 +10,8 @@ use Rattle.session_wire.specs.Sessions.{Session, key_eq, changed_at, new_session
 use Rattle.session_wire.specs.Rules.{is_init}
 use Rattle.session_table.specs.Changes.{answered_for, came_on, begun_on, changed_by, acks_of_came, acks_of_opened, acks_after}
 use Rattle.session_table.specs.Tables.{raised}
+use Rattle.session_table.proofs.Few.{sent_count, taken_count}
 use Rattle.node_tables.specs.Seen.{padded}
-use Rattle.node_tables.proofs.Small.{sent_count, taken_count}
 
 -- ---- numbers of new sessions
 

@@ -1,8 +1,7 @@
 -- That the tests of the tables decide whether a record fits.
-use Rattle.std.proofs.Common.{◌≡◌, ℕ, ◌+◌, ◌*◌, ◌<◌, ◌≤◌, ◌&&◌, ◌↔◌, List, [], ◌∷◌, ◌++◌, length, option_to_list, option_map, Option, Some, None, Bool, true, false, cond, refl, sym, ◌∙◌, ap, subst, arith, nat_lt, nat_le, length-append, IsTrue}
-use Rattle.std.specs.Bool.{◌==◌}
+use Rattle.std.proofs.Common.{◌≡◌, ℕ, ◌+◌, ◌*◌, ◌&&◌, ◌↔◌, List, [], ◌∷◌, ◌++◌, length, option_to_list, Option, Some, None, Bool, true, false, cond, refl, sym, ◌∙◌, ap, subst, arith, nat_lt, nat_le, length-append, IsTrue}
 use Rattle.std.specs.Option.{IfSome}
-use Rattle.std.proofs.lemmas.Bool.{and_parts, and_from, eq-eqb, ltb-true}
+use Rattle.std.proofs.lemmas.Bool.{and_parts, and_from, eq-eqb}
 use Rattle.std.proofs.lemmas.List.Elements.{filter-append}
 use Rattle.net_base.specs.declared.names.Key.{Key}
 use Rattle.net_base.specs.declared.values.Party.{Party}
@@ -12,7 +11,7 @@ use Rattle.net_base.specs.declared.causes.Event.TheVariants as event
 use Rattle.session_wire.specs.declared.body.Body.{Body}
 use Rattle.session_wire.specs.declared.change.SessionChange.{SessionChange}
 use Rattle.session_wire.specs.Sessions.{Session, key_eq, changed_at, new_session, with_came, opened_on}
-use Rattle.session_wire.specs.Rules.{is_owner, sessions_of, direction_in}
+use Rattle.session_wire.specs.Rules.{is_owner, sessions_of}
 use Rattle.session_table.specs.Changes.{FitsOpened as OpensIn, IsFitting}
 use Rattle.flow_machine.specs.declared.flows.FlowState.{FlowState}
 use Rattle.flow_machine.specs.declared.flows.FlowState.TheVariants.{Live, Ended, Failed}
@@ -23,7 +22,7 @@ use Rattle.flow_records.specs.declared.step.FlowAfter.{FlowAfter}
 use Rattle.flow_records.specs.declared.step.Step.{Step}
 use Rattle.flow_records.specs.Steps.{part_after, effect_by, step_record, IsStep}
 use Rattle.node_tables.specs.Journals.{Reads, state_of, lone}
-use Rattle.node_tables.specs.Fits.{rises, only_accepts, is_lawful_item, arrives_in, fits_event, opens_next, owns_few, may_open, made_by, fits_opened, begun_by, fits}
+use Rattle.node_tables.specs.Fits.{rises, fits_event, opens_next, owns_few, may_open, made_by, fits_opened, begun_by, fits}
 use Rattle.node_tables.specs.Seen.{Keeps}
 use Rattle.node_tables.proofs.Linking.{IsOwn, owner_is, change_fits, sent_there}
 use Rattle.node_tables.proofs.Ruled.{Parts, parts_of, fits_of, event_to, opened_to, opens_from, sent_from, sent_to, taken_from, taken_to}
@@ -86,27 +85,7 @@ owns_is {F} nodes cause (Some after) change ss opened b own is none some =
 
 -- ---- room
 
--- what it is that a change has room
-pub room_in : (a b c r n : ℕ) → n + 3 ≤ cond (nat_lt 0 a && (nat_lt 0 b && nat_lt 0 c)) r 0 → (0 < a) × (0 < b) × (0 < c) × (n + 3 ≤ r)
-room_in a b c r n h =
-    (elim (nat_lt 0 a && (nat_lt 0 b && nat_lt 0 c)) as (λ t. (nat_lt 0 a && (nat_lt 0 b && nat_lt 0 c)) ≡ t → n + 3 ≤ cond t r 0 → (0 < a) × (0 < b) × (0 < c) × (n + 3 ≤ r)) [
-      | true ↦ λ e k. let p = and_parts (nat_lt 0 a) (nat_lt 0 b && nat_lt 0 c) e in let q = and_parts (nat_lt 0 b) (nat_lt 0 c) p.1 in (ltb-true 0 a p.0, ltb-true 0 b q.0, ltb-true 0 c q.1, k)
-      | false ↦ λ e k. absurd (omega (arith, k))
-    ]) refl h
-
 -- ---- an item that arrives
-
-pub arrives_none : {F : Type 0} (me : Party) (key : Key) (direction number : ℕ) (e : Effect F) (o : Option Session) (b : Bool) → (direction == direction_in me key) ≡ b → cond b (option_map (λ s. length s.came) o) None ≡ None → arrives_in me key direction number e o ≡ false
-arrives_none me key direction number e None b is h = refl
-arrives_none me key direction number e (Some session) true is h = cc
-arrives_none me key direction number e (Some session) false is h = rw is refl
-
-pub arrives_some : {F : Type 0} (me : Party) (key : Key) (direction number next : ℕ) (e : Effect F) (o : Option Session) (b : Bool) → (direction == direction_in me key) ≡ b → cond b (option_map (λ s. length s.came) o) None ≡ Some next
-    → arrives_in me key direction number e o ≡ ((number == next) && (is_lawful_item direction number e.change.came && only_accepts e))
-arrives_some me key direction number next e None true is h = cc
-arrives_some me key direction number next e None false is h = cc
-arrives_some me key direction number next e (Some session) true is h = let same : length session.came ≡ next = cc in rw (is, same) refl
-arrives_some me key direction number next e (Some session) false is h = cc
 
 -- ---- the whole
 

@@ -7,6 +7,7 @@ use Rattle.net_base.specs.declared.values.Party.{Party}
 use Rattle.net_base.specs.declared.causes.Cause.{Cause}
 use Rattle.net_base.specs.declared.causes.Event.{Event}
 use Rattle.net_base.specs.declared.causes.Event.TheVariants as event
+use Rattle.net_base.proofs.Lists.{all_push}
 use Rattle.session_wire.specs.Bodies.{IsBody}
 use Rattle.session_wire.specs.declared.body.Body.{Body}
 use Rattle.session_wire.specs.declared.body.Body.TheVariants as body_of
@@ -14,7 +15,7 @@ use Rattle.session_wire.specs.declared.change.SentItem.{SentItem}
 use Rattle.session_wire.specs.Sessions.{Sent, Session, changed_at, new_session, with_came, with_sent, with_taken, ending_of, ending_at, opened_on, sent_on, taken_on}
 use Rattle.net_model.specs.State.{Effect, flow_of, came_on, sessions_on}
 use Rattle.session_wire.specs.Rules.{IsHeld}
-use Rattle.node_tables.proofs.Small.{all_push, all_changed}
+use Rattle.node_tables.proofs.Small.{all_changed}
 
 -- ---- items
 

@@ -8,6 +8,7 @@ use Rattle.net_base.specs.declared.values.Party.{Party}
 use Rattle.net_base.specs.declared.causes.Cause.{Cause}
 use Rattle.net_base.specs.declared.causes.Event.{Event}
 use Rattle.net_base.specs.declared.causes.Event.TheVariants as event
+use Rattle.net_base.proofs.Lists.{all_weaken, all_push}
 use Rattle.session_wire.specs.declared.body.Body.{Body}
 use Rattle.session_wire.specs.declared.change.SentItem.{SentItem}
 use Rattle.session_wire.specs.Sessions.{Session, key_eq, session_of, new_session, opened_on, sent_on}
@@ -21,7 +22,7 @@ use Rattle.net_model.specs.State.{NodeState, Effect, flow_of, came_on, sessions_
 use Rattle.net_model.specs.Fits.{Fits, FitsEvent, FitsOpened, IsSound, keys_differ}
 use Rattle.net_model.proofs.Sound.{Kept, came_kept, came_count, opened_kept}
 use Rattle.node_tables.specs.Fits.{begun_by}
-use Rattle.node_tables.proofs.Small.{all_push, all_weaken, init_there}
+use Rattle.node_tables.proofs.Small.{init_there}
 
 -- ---- sessions that are made
 

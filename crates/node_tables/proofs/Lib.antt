@@ -2,7 +2,6 @@ pub mod Keys
 pub mod Ruled
 pub mod Small
 pub mod Linking
-pub mod Lists
 pub mod Acked
 pub mod Owned
 pub mod Held

@@ -9,12 +9,15 @@ use Rattle.net_base.specs.declared.values.Party.{Party}
 use Rattle.net_base.specs.declared.causes.Cause.{Cause}
 use Rattle.net_base.specs.declared.causes.Event.{Event}
 use Rattle.net_base.specs.declared.causes.Event.TheVariants as event
+use Rattle.net_base.proofs.Options.{none_of, some_eq}
+use Rattle.net_base.proofs.Lists.{all_find}
 use Rattle.session_wire.specs.declared.body.Body.{Body}
 use Rattle.session_wire.specs.declared.body.Body.TheVariants as body_of
 use Rattle.session_wire.specs.declared.change.SentItem.{SentItem}
 use Rattle.session_wire.specs.declared.change.SessionChange.{SessionChange}
 use Rattle.session_wire.specs.Sessions.{Session, key_eq, session_of, changed_at, new_session, with_came, opened_on, sent_on, taken_on, is_confirm}
 use Rattle.session_wire.specs.Rules.{is_opened_by, direction_in, is_init, is_lawful, is_no_peer, is_new_key, FitsSent, FitsTaken}
+use Rattle.session_wire.proofs.Keys.{key_exact}
 use Rattle.session_table.specs.Changes.{AnswersFirst as Answered, FitsCame, answered_for, came_on as came_by, FitsOpened as OpensIn, begun_on, IsFitting, changed_by}
 use Rattle.transition_record.specs.Causes.{came_key_of}
 use Rattle.flow_machine.specs.declared.flows.FlowState.{FlowState}
@@ -28,8 +31,7 @@ use Rattle.flow_records.specs.declared.step.FlowAfter.{FlowAfter}
 use Rattle.flow_records.specs.Steps.{part_after, change_by, effect_by, owner_of}
 use Rattle.node_tables.specs.Fits.{begun_by}
 use Rattle.node_tables.specs.Seen.{IsSmall}
-use Rattle.node_tables.proofs.Keys.{key_true, none_is}
-use Rattle.node_tables.proofs.Small.{all_find, found_key}
+use Rattle.node_tables.proofs.Small.{found_key}
 
 -- ---- who owns what a step makes
 
@@ -37,13 +39,10 @@ use Rattle.node_tables.proofs.Small.{all_find, found_key}
 abbrev pub IsOwn : {F : Type 0} → FlowAfter F → Type 0
 IsOwn after = IsNumbered after.number after.state
 
-pub some_is : {X : Type 0} {a b : X} → Some a ≡ Some b → a ≡ b
-some_is e = cc
-
 part_number : {F : Type 0} (n f : ℕ) (state : FlowState F) → IsNumbered n state → flow_of (part_of n state) ≡ Some f → n ≡ f
-part_number n f (Live at) own is = sym own ∙ some_is is
-part_number n f (Ended step class value) own is = some_is is
-part_number n f (Failed step class code) own is = some_is is
+part_number n f (Live at) own is = sym own ∙ some_eq is
+part_number n f (Ended step class value) own is = some_eq is
+part_number n f (Failed step class code) own is = some_eq is
 
 -- the flow that a part names is the owner
 pub owner_is : {F : Type 0} (flow : Option (FlowAfter F)) (f : ℕ) → IfSome flow IsOwn → flow_of (part_after flow) ≡ Some f → owner_of flow ≡ f
@@ -102,7 +101,7 @@ arrived_no_init me a c s key direction number e h all init =
     let first = init_first direction number h.body init h.lawful in
     let other : is_opened_by (party me) key ≡ false = other_side (is_opened_by (party me) key) direction h.incoming first.0 in
     let small = all_find (IsSmall (party me) a c) (λ x. key_eq key x.key) s.sessions h.session all h.stands in
-    let same : key ≡ h.session.key = key_true key h.session.key (found_key key s.sessions h.session h.stands) in
+    let same : key ≡ h.session.key = key_exact key h.session.key (found_key key s.sessions h.session h.stands) in
     let begun = small.begun (subst (λ (k : Key). is_opened_by (party me) k ≡ false) same other) in
     let expected = h.expected in
     let none = first.1 in
@@ -134,7 +133,7 @@ module _ {F : Type 0} (w : Environment F) (me a c : ℕ) (s : NodeState F) (flow
   answer_came key (Some (body_of.Init class first)) new h =
       let p = and_parts (is_none (session_of key s.sessions)) (not (is_no_peer w.nodes (party me) key.initiator)) new in
       let q = or_parts (key.initiator.0 == me) (nat_le w.nodes key.initiator.0) (not-true _ p.1) in
-      record { begins = λ init. record { is_new = none_is (session_of key s.sessions) p.0; other = q.0; answered = first_answered (length s.flows) key class (part_after flow) change.sent h }; goes_on = λ no_init. cc }
+      record { begins = λ init. record { is_new = none_of (session_of key s.sessions) p.0; other = q.0; answered = first_answered (length s.flows) key class (part_after flow) change.sent h }; goes_on = λ no_init. cc }
   answer_came key (Some body_of.Confirm) new h = absurd h
   answer_came key (Some (body_of.Reject code)) new h = absurd h
   answer_came key (Some (body_of.Data value)) new h = absurd h

@@ -9,6 +9,8 @@ use Rattle.net_base.specs.declared.causes.Cause.{Cause}
 use Rattle.net_base.specs.declared.causes.Event.{Event}
 use Rattle.net_base.specs.declared.causes.Event.TheVariants as event
 use Rattle.net_base.specs.Names.{IsKey}
+use Rattle.net_base.proofs.Lists.{all_weaken, all_push}
+use Rattle.net_base.proofs.Options.{some_eq}
 use Rattle.session_wire.specs.declared.body.Body.{Body}
 use Rattle.session_wire.specs.declared.body.Body.TheVariants as body_of
 use Rattle.session_wire.specs.declared.change.SentItem.{SentItem}
@@ -21,8 +23,8 @@ use Rattle.net_model.specs.State.{NodeState, FlowPart, Effect, flow_of, came_on,
 use Rattle.net_model.specs.Fits.{Fits, FitsEvent, FitsOpened, AcceptsInit, AnswersFirst, AnswersBy}
 use Rattle.node_tables.specs.Fits.{begun_by}
 use Rattle.node_tables.specs.Seen.{AreOwned}
-use Rattle.node_tables.proofs.Small.{all_push, all_weaken, all_changed}
-use Rattle.node_tables.proofs.Linking.{some_is, new_flow_of}
+use Rattle.node_tables.proofs.Small.{all_changed}
+use Rattle.node_tables.proofs.Linking.{new_flow_of}
 
 -- ---- how many pass a test
 
@@ -105,7 +107,7 @@ taken_owned n (Some taken) ss h = owned_changed n taken.0 (with_taken taken.1) s
 -- ---- the flow that answers is new
 
 by_new : {F : Type 0} (f class n : ℕ) (flow : FlowPart F) (body : Body) → AnswersBy f class flow body → flow_of flow ≡ Some n → n ≡ f
-by_new f class n flow body_of.Confirm h is = some_is (sym is ∙ new_flow_of f class flow h)
+by_new f class n flow body_of.Confirm h is = some_eq (sym is ∙ new_flow_of f class flow h)
 by_new {F} f class n flow (body_of.Reject code) h is = let none = ap (λ (p : FlowPart F). flow_of p) h in cc
 by_new f class n flow (body_of.Init c first) h is = absurd h
 by_new f class n flow (body_of.Data value) h is = absurd h
@@ -152,7 +154,7 @@ opened_owned : {F : Type 0} (w : Environment F) (me : ℕ) (s : NodeState F) (ow
 opened_owned w me s owner sent None ss m limits h below all = all
 opened_owned w me s owner sent (Some opened) ss m limits h below all =
     owned_push m ss (new_session opened.0 opened.1 owner []) all limits.0 below
-    (λ f is. subst (λ k. length (sessions_of k (opened_on (Some opened) owner ss)) ≤ 64) (some_is (sym h.owned ∙ is)) h.few)
+    (λ f is. subst (λ k. length (sessions_of k (opened_on (Some opened) owner ss)) ≤ 64) (some_eq (sym h.owned ∙ is)) h.few)
 
 pub record_owned : {F : Type 0} (w : Environment F) (me : ℕ) (s : NodeState F) (cause : Cause) (e : Effect F) (m : ℕ) → IsEvent cause.event → IfSome e.change.opened IsOpened → Fits w me s cause e → length s.flows ≤ m → IfSome (flow_of e.flow) (λ f. f < m) → AreOwned (length s.flows) s.sessions
     → AreOwned m (sessions_on cause e s.sessions)

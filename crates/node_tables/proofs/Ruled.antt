@@ -8,11 +8,14 @@ use Rattle.net_base.specs.declared.values.Party.{Party}
 use Rattle.net_base.specs.declared.causes.Cause.{Cause}
 use Rattle.net_base.specs.declared.causes.Event.{Event}
 use Rattle.net_base.specs.declared.causes.Event.TheVariants as event
+use Rattle.net_base.proofs.Lists.{no_items}
+use Rattle.net_base.proofs.Options.{none_of}
 use Rattle.session_wire.specs.declared.body.Body.{Body}
 use Rattle.session_wire.specs.declared.body.Body.TheVariants as body_of
 use Rattle.session_wire.specs.declared.change.SentItem.{SentItem}
 use Rattle.session_wire.specs.Sessions.{Session, key_eq, session_of, changed_at, with_sent, opened_on}
 use Rattle.session_wire.specs.Rules.{direction_in, direction_out, next_key, is_new_key, is_lawful, is_init_of, sessions_of, OpensNext, Continues, FitsSent, TakesUpTo, FitsTaken}
+use Rattle.session_wire.proofs.Keys.{key_exact, key_same}
 use Rattle.flow_machine.specs.declared.flows.Checkpoint.{Checkpoint}
 use Rattle.net_model.specs.Environment.{Environment, party}
 use Rattle.net_model.specs.State.{NodeState, FlowPart, no_flow, now_live, now_ended, now_failed, Change, Effect, nothing, flow_of, came_on}
@@ -20,7 +23,7 @@ use Rattle.net_model.specs.Steps.{live_at}
 use Rattle.net_model.specs.Fits.{Fits, FitsEvent, FitsChange, FitsOpened, IsNewFlow, IsNextOf, GoesOn, AnswersBy, AnswersFirst, AcceptsInit, ArrivesAt}
 use Rattle.flow_records.specs.Alone.{leaves_ledger}
 use Rattle.node_tables.specs.Fits.{rises, is_no_flow, is_new_flow, is_next_of, goes_on, answers_by, answers_first, accepts_init, is_lawful_item, only_accepts, arrives_in, fits_event, opens_next, owns_few, fits_opened, continues_in, fits_sent, takes_up_to, fits_taken, fits_sessions, begun_by, fits, FitsAsRuled}
-use Rattle.node_tables.proofs.Keys.{key_true, key_same, none_is, none_from, no_items}
+use Rattle.node_tables.proofs.Keys.{none_from}
 
 -- ---- flows
 
@@ -97,7 +100,7 @@ first_to f key class flow (item ∷ items) h =
     let p = and_parts (key_eq item.key key) ((item.direction == 1) && ((item.seq == 0) && answers_by f class flow item.body)) h in
     let q = and_parts (item.direction == 1) ((item.seq == 0) && answers_by f class flow item.body) p.1 in
     let r = and_parts (item.seq == 0) (answers_by f class flow item.body) q.1 in
-    (key_true item.key key p.0, eqb-true item.direction 1 q.0, eqb-true item.seq 0 r.0, by_to f class flow item.body r.1)
+    (key_exact item.key key p.0, eqb-true item.direction 1 q.0, eqb-true item.seq 0 r.0, by_to f class flow item.body r.1)
 
 init_from : {F : Type 0} (f : ℕ) (key : Key) (e : Effect F) (came : Option Body) → AcceptsInit f key e came → accepts_init f key e.flow e.change.sent came ≡ true
 init_from f key e None h = absurd h
@@ -124,9 +127,9 @@ pub unledgered : (c : Change) → leaves_ledger c ≡ true → c ≡ record { op
 unledgered c h =
     let p = and_parts (is_none c.recorded) ((length c.locked == 0) && is_none c.booked) h in
     let q = and_parts (length c.locked == 0) (is_none c.booked) p.1 in
-    let recorded = none_is c.recorded p.0 in
+    let recorded = none_of c.recorded p.0 in
     let locked = no_items c.locked q.0 in
-    let booked = none_is c.booked q.1 in
+    let booked = none_of c.booked q.1 in
     λ i. record { opened = c.opened; sent = c.sent; came = c.came; taken = c.taken; recorded = recorded i; locked = locked i; booked = booked i }
 
 -- what an effect is that accepts an item alone
@@ -139,12 +142,12 @@ accepted_alone e body still only came =
     let q = and_parts (is_none c.opened) ((length c.sent == 0) && is_none c.taken) p.1 in
     let r = and_parts (length c.sent == 0) (is_none c.taken) q.1 in
     let flow = no_flow_to e.flow p.0 in
-    let opened = none_is c.opened q.0 in
+    let opened = none_of c.opened q.0 in
     let sent = no_items c.sent r.0 in
-    let taken = none_is c.taken r.1 in
-    let recorded = none_is c.recorded l.0 in
+    let taken = none_of c.taken r.1 in
+    let recorded = none_of c.recorded l.0 in
     let locked = no_items c.locked m.0 in
-    let booked = none_is c.booked m.1 in
+    let booked = none_of c.booked m.1 in
     λ i. record { flow = flow i; change = record { opened = opened i; sent = sent i; came = came i; taken = taken i; recorded = recorded i; locked = locked i; booked = booked i } }
 
 arrives_from : {F : Type 0} (me : ℕ) (s : NodeState F) (key : Key) (direction number : ℕ) (e : Effect F) → ArrivesAt me s key direction number e → arrives_in (party me) key direction number e (session_of key s.sessions) ≡ true
@@ -177,7 +180,7 @@ goes_to : {F : Type 0} (s : NodeState F) (f : ℕ) (e : Effect F) (o : Option (C
 goes_to s f e None is h = cc
 goes_to s f e (Some at) is h =
     let p = and_parts (is_next_of f at.step at.class e.flow) (is_none e.change.came) h in
-    record { at = at; live = is; next = next_to f at.step at.class e.flow p.0; alone = none_is e.change.came p.1 }
+    record { at = at; live = is; next = next_to f at.step at.class e.flow p.0; alone = none_of e.change.came p.1 }
 
 event_from : {F : Type 0} (w : Environment F) (me : ℕ) (s : NodeState F) (event : Event) (e : Effect F) → FitsEvent w me s event e → fits_event w.nodes (party me) s event e ≡ true
 event_from w me s (event.Start f class args) e h = and_from _ _ (eq-eqb f (length s.flows) h.0) (and_from _ _ (new_from f class e.flow h.1) (none_from e.change.came h.2))
@@ -190,7 +193,7 @@ pub event_to : {F : Type 0} (w : Environment F) (me : ℕ) (s : NodeState F) (ev
 event_to w me s (event.Start f class args) e still h =
     let p = and_parts (f == length s.flows) (is_new_flow f class e.flow && is_none e.change.came) h in
     let q = and_parts (is_new_flow f class e.flow) (is_none e.change.came) p.1 in
-    (eqb-true f (length s.flows) p.0, new_to f class e.flow q.0, none_is e.change.came q.1)
+    (eqb-true f (length s.flows) p.0, new_to f class e.flow q.0, none_of e.change.came q.1)
 event_to w me s (event.Answer key) e still h =
     let p = and_parts (is_new_key w.nodes (party me) s.sessions key) (accepts_init (length s.flows) key e.flow e.change.sent e.change.came) h in
     (p.0, init_to (length s.flows) key e e.change.came p.1)
@@ -205,7 +208,7 @@ pub opens_to : (me : Party) (sessions : List Session) (sent : List SentItem) (ke
 opens_to me sessions sent key peer h =
     let q = and_parts (key_eq key (next_key me sessions)) (not (peer.0 == me.0) && list_any (is_init_of key) sent) h in
     let r = and_parts (not (peer.0 == me.0)) (list_any (is_init_of key) sent) q.1 in
-    record { next = key_true key (next_key me sessions) q.0; other = not-true _ r.0; init = r.1 }
+    record { next = key_exact key (next_key me sessions) q.0; other = not-true _ r.0; init = r.1 }
 
 pub opens_from : (me : Party) (sessions : List Session) (sent : List SentItem) (key : Key) (peer : Party) → OpensNext me sessions sent key peer → opens_next me sessions sent key peer ≡ true
 opens_from me sessions sent key peer h =

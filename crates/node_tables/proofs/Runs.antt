@@ -9,6 +9,7 @@ use Rattle.net_base.specs.declared.names.Key.{Key}
 use Rattle.net_base.specs.declared.causes.Cause.{Cause}
 use Rattle.net_base.specs.declared.causes.Event.{Event}
 use Rattle.net_base.specs.declared.causes.Event.TheVariants as event
+use Rattle.net_base.proofs.Lists.{all_get, get_less, all_weaken, all_put}
 use Rattle.session_wire.specs.Rules.{IsHeld}
 use Rattle.session_wire.specs.declared.body.Body.{Body}
 use Rattle.session_wire.specs.declared.body.Body.TheVariants as body_of
@@ -41,8 +42,7 @@ use Rattle.flow_records.specs.Steps.{part_after, effect_by, step_record, IsAfter
 use Rattle.node_tables.specs.Journals.{Reads, records_of, state_of, causes_of, lone}
 use Rattle.node_tables.specs.Fits.{fits, apply_read, begun_by}
 use Rattle.node_tables.specs.Seen.{Keeps, IsSmall, AreOwned, flows_after, padded}
-use Rattle.node_tables.proofs.Lists.{all_put, all_get, get_within}
-use Rattle.node_tables.proofs.Small.{all_weaken, begun_small, record_small, record_count, few_numbers, few_arrived}
+use Rattle.node_tables.proofs.Small.{begun_small, record_small, record_count, few_numbers, few_arrived}
 use Rattle.node_tables.proofs.Linking.{IsOwn, owner_is, sessions_same, change_fits}
 use Rattle.node_tables.proofs.Ruled.{fits_to}
 use Rattle.node_tables.proofs.Acked.{acks_padded}
@@ -52,7 +52,7 @@ use Rattle.node_tables.proofs.Lawful.{record_lawful}
 
 -- ---- one body more
 
-records_push : {F : Type 0} (f : Reads F) (bs : List (List ℕ)) (b : List ℕ) → records_of f (bs ++ b ∷ []) ≡ records_of f bs ++ option_to_list (record_of f b)
+pub records_push : {F : Type 0} (f : Reads F) (bs : List (List ℕ)) (b : List ℕ) → records_of f (bs ++ b ∷ []) ≡ records_of f bs ++ option_to_list (record_of f b)
 records_push f [] b = append-nil (option_to_list (record_of f b))
 records_push f (x ∷ xs) b = ap (λ l. option_to_list (record_of f x) ++ l) (records_push f xs b) ∙ sym (append_assoc (option_to_list (record_of f x)) (records_of f xs) (option_to_list (record_of f b)))
 
@@ -124,7 +124,7 @@ live_get flows f m None at is h all = cc
 live_get flows f m (Some (Live x)) at is h all =
     let same : x ≡ at = cc in
     let old = all_get (λ flow. steps_of flow ≤ m) flows f (Live x) all is in
-    (get_within flows f (Live x) is, subst (λ c. c.step ≤ m) same old)
+    (get_less flows f (Live x) is, subst (λ c. c.step ≤ m) same old)
 live_get flows f m (Some (Ended step class value)) at is h all = cc
 live_get flows f m (Some (Failed step class code)) at is h all = cc
 

@@ -1,5 +1,5 @@
 -- How many items the sessions of a node have, after so many records.
-use Rattle.std.proofs.Common.{◌≡◌, ℕ, ◌+◌, ◌-◌, ◌<◌, ◌≤◌, ◌^◌, List, [], ◌∷◌, ◌++◌, length, find, option_to_list, Option, Some, None, Bool, true, false, cond, refl, ◌∙◌, ap, subst, arith, nat_lt, length-append}
+use Rattle.std.proofs.Common.{◌≡◌, ℕ, ◌+◌, ◌-◌, ◌<◌, ◌≤◌, ◌^◌, List, [], ◌∷◌, length, find, option_to_list, Option, Some, None, true, false, cond, refl, ap, subst, arith, nat_lt, length-append}
 use Rattle.std.specs.List.{AllByRecursion, list_all}
 use Rattle.std.specs.Option.{option_map_or}
 use Rattle.std.proofs.lemmas.Bool.{lt-ltb, and_from, eq-eqb}
@@ -9,11 +9,13 @@ use Rattle.net_base.specs.declared.values.Party.{Party}
 use Rattle.net_base.specs.declared.causes.Cause.{Cause}
 use Rattle.net_base.specs.declared.causes.Event.{Event}
 use Rattle.net_base.specs.declared.causes.Event.TheVariants as event
+use Rattle.net_base.proofs.Lists.{all_find, all_weaken, all_push}
 use Rattle.session_wire.specs.declared.body.Body.{Body}
 use Rattle.session_wire.specs.declared.change.SentItem.{SentItem}
 use Rattle.session_wire.specs.Sessions.{Sent, Session, key_eq, session_of, changed_at, new_session, with_came, with_sent, with_taken, opened_on, sent_on, taken_on}
 use Rattle.session_wire.specs.Rules.{is_opened_by, FitsSent}
 use Rattle.session_table.specs.Changes.{arrived_in}
+use Rattle.session_table.proofs.Few.{opened_count, sent_count, taken_count}
 use Rattle.net_model.specs.Environment.{Environment, party}
 use Rattle.net_model.specs.State.{NodeState, Effect, flow_of, came_on, sessions_on}
 use Rattle.net_model.specs.Fits.{Fits, FitsEvent, FitsOpened, AcceptsInit}
@@ -21,22 +23,6 @@ use Rattle.node_tables.specs.Fits.{begun_by}
 use Rattle.node_tables.specs.Seen.{IsSmall}
 
 -- ---- lists
-
-pub all_push : {X : Type 0} (P : X → Type 0) (xs : List X) (x : X) → AllByRecursion P xs → P x → AllByRecursion P (xs ++ x ∷ [])
-all_push P [] x h p = (p, tt)
-all_push P (y ∷ ys) x h p = (h.0, all_push P ys x h.1 p)
-
-pub all_find : {X : Type 0} (P : X → Type 0) (test : X → Bool) (xs : List X) (x : X) → AllByRecursion P xs → find test xs ≡ Some x → P x
-all_find P test [] x h is = cc
-all_find {X} P test (y ∷ ys) x h is =
-    (elim (test y) as (λ b. cond b (Some y) (find test ys) ≡ Some x → P x) [
-      | true ↦ λ e. let same : y ≡ x = cc in subst P same h.0
-      | false ↦ λ e. all_find P test ys x h.1 e
-    ]) is
-
-pub all_weaken : {X : Type 0} (P Q : X → Type 0) (xs : List X) → ((x : X) → P x → Q x) → AllByRecursion P xs → AllByRecursion Q xs
-all_weaken P Q [] f h = tt
-all_weaken P Q (x ∷ xs) f h = (f x h.0, all_weaken P Q xs f h.1)
 
 -- of the sessions with one changed
 pub all_changed : (P Q : Session → Type 0) (key : Key) (change : Session → Session) (ss : List Session) → ((s : Session) → P s → Q (change s)) → ((s : Session) → P s → Q s) → AllByRecursion P ss → AllByRecursion Q (changed_at key change ss)
@@ -128,20 +114,6 @@ came_count (event.Move f) bodies owner ss = omega arith
 came_count (event.Lapse f) bodies owner ss = omega arith
 came_count (event.Answer key) bodies owner ss = let longer = length-append ss (new_session key key.initiator owner bodies ∷ []) in omega (arith, longer)
 came_count (event.Arrive key direction number) bodies owner ss = let same = length-map ss (λ s. cond (key_eq key s.key) (with_came bodies s) s) in omega (arith, same)
-
-opened_count : (opened : Option (Key × Party)) (owner : Option ℕ) (ss : List Session) → length (opened_on opened owner ss) ≤ length ss + 1
-opened_count None owner ss = omega arith
-opened_count (Some opened) owner ss = let longer = length-append ss (new_session opened.0 opened.1 owner [] ∷ []) in omega (arith, longer)
-
-pub sent_count : (stamp : ℕ) (items : List SentItem) (ss : List Session) → length (sent_on stamp items ss) ≡ length ss
-sent_count stamp [] ss = refl
-sent_count stamp (item ∷ items) ss =
-    let y : Sent = record { body = item.body; stamp = stamp } in
-    sent_count stamp items (changed_at item.key (with_sent y) ss) ∙ length-map ss (λ s. cond (key_eq item.key s.key) (with_sent y s) s)
-
-pub taken_count : (taken : Option (Key × ℕ)) (ss : List Session) → length (taken_on taken ss) ≡ length ss
-taken_count None ss = refl
-taken_count (Some taken) ss = length-map ss (λ s. cond (key_eq taken.0 s.key) (with_taken taken.1 s) s)
 
 pub record_count : {F : Type 0} (cause : Cause) (e : Effect F) (ss : List Session) → length (sessions_on cause e ss) ≤ length ss + 2
 record_count cause e ss =

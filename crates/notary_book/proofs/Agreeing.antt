@@ -2,6 +2,7 @@
 use Rattle.std.proofs.Common.{◌≡◌, ℕ, List, [], ◌∷◌, ◌++◌, Option, Some, None, is_some, true, refl}
 use Rattle.std.specs.List.{AllByRecursion}
 use Rattle.net_base.specs.declared.values.Party.{Party}
+use Rattle.net_base.proofs.Lists.{all_push}
 use Rattle.ledger_types.specs.declared.notary.Request.{Request}
 use Rattle.ledger_types.specs.declared.notary.Entry.{Entry}
 use Rattle.ledger_types.specs.Names.{is_party}
@@ -21,10 +22,6 @@ agree hashed me p q apart one other same v w sees_one sees_other mine_one mine_o
 pub agrees_with : (hashed : List (List ℕ)) (me : Party) (q : Request) (entries : List Entry) → AreApart hashed → IsHashedAmong hashed q → AllByRecursion (λ e. IsHashedAmong hashed e.request) entries → AgreesWith me q entries
 agrees_with hashed me q [] apart one all = tt
 agrees_with hashed me q (e ∷ entries) apart one all = (agree hashed me q e.request apart one all.0, agrees_with hashed me q entries apart one all.1)
-
-all_push : {X : Type 0} (P : X → Type 0) (xs : List X) (x : X) → AllByRecursion P xs → P x → AllByRecursion P (xs ++ x ∷ [])
-all_push P [] x h one = (one, tt)
-all_push P (y ∷ xs) x h one = (h.0, all_push P xs x h.1 one)
 
 agree_after : (hashed : List (List ℕ)) (me : Party) (before es : List Entry) → AreApart hashed → AllByRecursion (λ e. IsHashedAmong hashed e.request) before → AllByRecursion (λ e. IsHashedAmong hashed e.request) es → AgreeAfter me before es
 agree_after hashed me before [] apart there all = tt

@@ -6,6 +6,7 @@ use Rattle.net_base.specs.declared.values.Party.{Party}
 use Rattle.net_base.specs.declared.values.Moment.{Moment}
 use Rattle.net_base.specs.declared.names.StateRef.{StateRef}
 use Rattle.net_base.specs.declared.names.Identity.{Identity}
+use Rattle.net_base.proofs.Options.{some_eq}
 use Rattle.ledger_types.specs.declared.notary.ConflictItem.{ConflictItem}
 use Rattle.ledger_types.specs.declared.notary.Entry.{Entry}
 use Rattle.ledger_types.specs.declared.notary.NotaryAnswer.{NotaryAnswer}
@@ -21,9 +22,6 @@ use Rattle.ledger_types.specs.Notary.{signs, consumes, consumer_hash_of, conflic
 use Rattle.notary_book.specs.Causes.{is_conflict, IsCaused, AnswerIsCaused, AreCausedAfter, AreCaused}
 use Rattle.notary_book.proofs.Once.{added}
 
-some_is : {X : Type 0} (x y : X) → Some x ≡ Some y → x ≡ y
-some_is x y e = cc
-
 module _ (mark : Party → Hash32 → Hash32) (me : Party) (before : List Entry) (id : Hash32) where
   abbrev All : List ConflictItem → Type 0
   All list = AllByRecursion (IsCaused before id) list
@@ -31,7 +29,7 @@ module _ (mark : Party → Hash32 → Hash32) (me : Party) (before : List Entry)
   caused_at : (k : RefKind) (r : StateRef) (o : Option Entry) (item : ConflictItem) → find (consumes id r) before ≡ o → option_map (λ e. record { reference = r; consumer_hash = consumer_hash_of e; kind = k }) o ≡ Some item → IsCaused before id item
   caused_at k r None item f h = cc
   caused_at k r (Some d) item f h =
-      let e : record { reference = r; consumer_hash = consumer_hash_of d; kind = k } ≡ item = some_is _ _ h in
+      let e : record { reference = r; consumer_hash = consumer_hash_of d; kind = k } ≡ item = some_eq h in
       (d, (ap (λ (x : ConflictItem). find (consumes id x.reference) before) (sym e) ∙ f, sym (ap (λ (x : ConflictItem). x.consumer_hash) e)))
 
   caused_cons : (o : Option ConflictItem) (list : List ConflictItem) → ((item : ConflictItem) → o ≡ Some item → IsCaused before id item) → All list → All (cons_option o list)

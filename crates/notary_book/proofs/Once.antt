@@ -1,13 +1,13 @@
 -- No reference has two consumers in a book whose entries were added for fresh answers.
-use Rattle.std.proofs.Common.{◌≡◌, ℕ, ◌≤◌, ◌⊎◌, inl, inr, ⊎_elim, List, [], ◌∷◌, ◌++◌, Option, Some, None, Bool, true, false, true≢false, cond, ◌&&◌, ◌||◌, not, find, filter_map, option_map, is_some, bytes_eq, length, refl, sym, ap, subst, ◌∙◌, arith}
+use Rattle.std.proofs.Common.{◌≡◌, ◌≤◌, ◌⊎◌, inl, inr, ⊎_elim, List, [], ◌∷◌, ◌++◌, Option, Some, None, Bool, true, false, true≢false, cond, ◌&&◌, not, find, filter_map, option_map, is_some, length, refl, sym, ap, subst, ◌∙◌, arith}
 use Rattle.std.specs.List.{list_any, cons_option}
-use Rattle.std.proofs.lemmas.Bool.{and_parts, and_from, and_cases, or_cases, or_parts, not-true, eqb-true, both_ways, not_from_false}
-use Rattle.std.proofs.lemmas.Slice.Eq.{bytes_eq-Decides}
+use Rattle.std.proofs.lemmas.Bool.{and_parts, and_from, and_cases, or_cases, or_parts, not-true, both_ways, not_from_false}
 use Rattle.net_base.specs.declared.values.Hash32.{Hash32}
 use Rattle.net_base.specs.declared.values.Party.{Party}
 use Rattle.net_base.specs.declared.values.Moment.{Moment}
 use Rattle.net_base.specs.declared.names.StateRef.{StateRef}
 use Rattle.net_base.specs.declared.names.Identity.{Identity}
+use Rattle.net_base.proofs.Lists.{any_append, any_push}
 use Rattle.ledger_types.specs.declared.notary.ConflictItem.{ConflictItem}
 use Rattle.ledger_types.specs.declared.notary.Entry.{Entry}
 use Rattle.ledger_types.specs.declared.notary.NotaryAnswer.{NotaryAnswer}
@@ -19,18 +19,9 @@ use Rattle.ledger_types.specs.declared.torn.Visible.{Visible}
 use Rattle.ledger_types.specs.Names.{ref_eq, has_ref, hash_eq, is_party}
 use Rattle.ledger_types.specs.Tears.{visible_of}
 use Rattle.ledger_types.specs.Notary.{is_signature, signs, repeats, consumes, conflict_over, conflicts, tag_by, has_good_tag, answer_unsigned, answer_shown, answer_torn, answer_new, is_notary, inputs_of, entry_of, reply_over, reply, consumers_after, consumers, IsBooked, IsBookAfter, IsBook}
+use Rattle.ledger_types.proofs.Names.{ref_exact}
 
 -- ---- tests over lists
-
-bytes_true : (xs ys : List ℕ) → bytes_eq xs ys ≡ true → xs ≡ ys
-bytes_true xs ys h = (bytes_eq-Decides xs ys).0 h
-
-pub ref_true : (r q : StateRef) → ref_eq r q ≡ true → r ≡ q
-ref_true r q h =
-    let k = and_parts _ _ h in
-    let e : r.id.0 ≡ q.id.0 = bytes_true _ _ k.0 in
-    let f : r.index ≡ q.index = eqb-true r.index q.index k.1 in
-    ap (λ (i : List ℕ). record { id = record { 0 = i }; index = r.index }) e ∙ ap (λ (n : ℕ). record { id = q.id; index = n }) f
 
 -- an element that passes P and not R passes Q, and so one is found
 found_by : {X : Type 0} (P R Q : X → Bool) (xs : List X) → ((x : X) → P x ≡ true → R x ≡ false → Q x ≡ true) → list_any P xs ≡ true → list_any R xs ≡ false → is_some (find Q xs) ≡ true
@@ -60,14 +51,6 @@ pub some_map : {X Y : Type 0} (f : X → Y) (o : Option X) → is_some o ≡ tru
 some_map f None h = cc
 some_map f (Some x) h = refl
 
-pub any_append : {X : Type 0} (P : X → Bool) (xs ys : List X) → list_any P xs ≡ true → list_any P (xs ++ ys) ≡ true
-any_append P [] ys h = cc
-any_append P (x ∷ xs) ys h = (elim (P x) as (λ b. b || list_any P xs ≡ true → b || list_any P (xs ++ ys) ≡ true) [ true ↦ λ k. refl | false ↦ λ k. any_append P xs ys k ]) h
-
-pub any_last : {X : Type 0} (P : X → Bool) (xs : List X) (x : X) → P x ≡ true → list_any P (xs ++ x ∷ []) ≡ true
-any_last P [] x h = rw h
-any_last P (y ∷ ys) x h = (elim (P y) as (λ b. b || list_any P (ys ++ x ∷ []) ≡ true) [ true ↦ refl | false ↦ any_last P ys x h ])
-
 -- ---- one entry after another that consumes the reference
 
 -- a signed entry that has the reference among its inputs
@@ -88,7 +71,7 @@ first_append xs ys h = record { first = h.first; rest = h.rest ++ ys; is = ap (�
 conflicts_there : (before : List Entry) (id : Hash32) (r : StateRef) (v : Visible) → list_any (takes r) before ≡ true → list_any (signs id) before ≡ false → has_ref r v.inputs ≡ true → HasFirst (conflicts before id v)
 conflicts_there before id r v h k has =
     first_append _ _ (pictured (λ s. ref_eq s r) (conflict_over before id kind.Input) v.inputs
-    (λ q e. subst (λ (x : StateRef). is_some (conflict_over before id kind.Input x) ≡ true) (sym (ref_true q r e)) (conflict_there before id r h k)) has)
+    (λ q e. subst (λ (x : StateRef). is_some (conflict_over before id kind.Input x) ≡ true) (sym (ref_exact q r e)) (conflict_there before id r h k)) has)
 
 -- with conflicts nothing is signed
 pub unsigned_no : (mark : Party → Hash32 → Hash32) (me : Party) (id : Hash32) (now : Moment) (window : Option Window) (list : List ConflictItem) → HasFirst list → is_signature (answer_unsigned mark me id now window list) ≡ false
@@ -157,7 +140,7 @@ one_after mark me before (e ∷ es) r book =
       | true ↦ λ f.
           let k = and_parts (is_signature e.answer && not (list_any (signs e.request.torn.id) before)) (has_ref r e.inputs) f in
           let l = and_parts (is_signature e.answer) (not (list_any (signs e.request.torn.id) before)) k.0 in
-          let none : consumers_after (before ++ e ∷ []) es r ≡ [] = none_after mark me (before ++ e ∷ []) es r book.1 (any_last (takes r) before e (and_from _ _ l.0 k.1)) in rw none (omega arith)
+          let none : consumers_after (before ++ e ∷ []) es r ≡ [] = none_after mark me (before ++ e ∷ []) es r book.1 (any_push (takes r) before e (and_from _ _ l.0 k.1)) in rw none (omega arith)
       | false ↦ λ f. one_after mark me (before ++ e ∷ []) es r book.1
     ]) refl
 

@@ -104,17 +104,6 @@ consumer_is id r (e ∷ es) h =
 
 -- ---- noting places
 
--- one key more
-pub first_more : (o : Option ℕ) (a b : Bool) (place : ℕ) → first_of (first_of o a place) b place ≡ first_of o (a || b) place
-first_more (Some there) a b place = refl
-first_more None true b place = refl
-first_more None false b place = refl
-
--- no key
-pub first_same : (o : Option ℕ) (place : ℕ) → o ≡ first_of o false place
-first_same (Some there) place = refl
-first_same None place = refl
-
 -- one entry more
 pub indexed_push : (entries : List Entry) (e : Entry) (place : ℕ) (requests requests' : List (RequestKey × ℕ)) (ids ids' : List (Hash32 × ℕ)) (references references' : List (StateRef × ℕ))
     → IsIndexed entries requests ids references → IsNotaryAnswer e.answer → place ≡ length entries

@@ -1,14 +1,14 @@
 -- An id that was answered a conflict is never signed.
-use Rattle.std.proofs.Common.{◌≡◌, ℕ, ◌⊎◌, inl, inr, ⊎_elim, List, [], ◌∷◌, ◌++◌, Option, Some, None, Bool, true, false, true≢false, cond, ◌&&◌, ◌||◌, not, find, filter_map, option_map, is_some, refl, sym, ap, subst, ◌∙◌, append_assoc, append-nil}
+use Rattle.std.proofs.Common.{◌≡◌, ◌⊎◌, inl, inr, ⊎_elim, List, [], ◌∷◌, ◌++◌, Option, Some, None, Bool, true, false, true≢false, cond, ◌&&◌, ◌||◌, not, find, filter_map, option_map, is_some, refl, sym, ap, subst, ◌∙◌, append_assoc, append-nil}
 use Rattle.std.specs.List.{AllByRecursion, list_any, cons_option}
-use Rattle.std.proofs.lemmas.Bool.{and_parts, and_from, and_cases, or_cases, or_parts, both_ways}
-use Rattle.std.proofs.lemmas.Bool.Decides.{Decides-eqb}
-use Rattle.std.proofs.lemmas.Slice.Eq.{bytes_eq-Decides}
+use Rattle.std.proofs.lemmas.Bool.{and_parts, and_from, and_cases, or_cases, or_parts, both_ways, false_from_ne_true, and_left, and_right}
 use Rattle.net_base.specs.declared.values.Hash32.{Hash32}
 use Rattle.net_base.specs.declared.values.Party.{Party}
 use Rattle.net_base.specs.declared.values.Moment.{Moment}
 use Rattle.net_base.specs.declared.names.StateRef.{StateRef}
 use Rattle.net_base.specs.declared.names.Identity.{Identity}
+use Rattle.net_base.proofs.Lists.{any_append, none_push, all_front}
+use Rattle.net_base.proofs.Options.{some_eq}
 use Rattle.ledger_types.specs.declared.notary.ConflictItem.{ConflictItem}
 use Rattle.ledger_types.specs.declared.notary.Entry.{Entry}
 use Rattle.ledger_types.specs.declared.notary.NotaryAnswer.{NotaryAnswer}
@@ -21,26 +21,13 @@ use Rattle.ledger_types.specs.declared.torn.Visible.{Visible}
 use Rattle.ledger_types.specs.Names.{ref_eq, has_ref, hash_eq, is_party}
 use Rattle.ledger_types.specs.Tears.{visible_of}
 use Rattle.ledger_types.specs.Notary.{is_signature, signs, repeats, consumes, conflict_over, conflicts, is_inside, tag_by, has_good_tag, answer_unsigned, answer_shown, answer_torn, answer_new, is_notary, reply_over, reply, IsBooked, IsBookAfter, IsBook}
+use Rattle.ledger_types.proofs.Names.{hash_exact, ref_same, ref_exact}
 use Rattle.notary_book.specs.Causes.{is_conflict}
 use Rattle.notary_book.specs.Agreement.{refuses, Agree, AgreesWith, AgreeAfter, AllAgree}
-use Rattle.notary_book.proofs.Once.{HasFirst, pictured, some_map, any_append, first_append, ref_true, unsigned_no, if_no, added}
+use Rattle.notary_book.proofs.Once.{HasFirst, pictured, some_map, first_append, unsigned_no, if_no, added}
 use Rattle.notary_book.proofs.Caused.{no_if, no_torn}
 
 -- ---- tests
-
-no_and : (a b : Bool) → a ≡ false → (a && b) ≡ false
-no_and true b h = absurd (true≢false h)
-no_and false b h = refl
-
-no_and_right : (a b : Bool) → b ≡ false → (a && b) ≡ false
-no_and_right true b h = h
-no_and_right false b h = refl
-
-hash_true : (x y : Hash32) → hash_eq x y ≡ true → x ≡ y
-hash_true x y h = ap (λ (bytes : List ℕ). record { 0 = bytes }) ((bytes_eq-Decides x.0 y.0).0 h)
-
-ref_same : (r : StateRef) → ref_eq r r ≡ true
-ref_same r = and_from _ _ ((bytes_eq-Decides r.id.0 r.id.0).1 refl) ((Decides-eqb r.index r.index).1 refl)
 
 find_any : {X : Type 0} (P : X → Bool) (xs : List X) → list_any P xs ≡ true → is_some (find P xs) ≡ true
 find_any P [] h = absurd (true≢false (sym h))
@@ -65,14 +52,6 @@ any_behind P (x ∷ xs) ys h = (elim (P x) as (λ b. (b || list_any P (xs ++ ys)
 any_here : {X : Type 0} (P : X → Bool) (x : X) (xs : List X) → P x ≡ true → list_any P (x ∷ xs) ≡ true
 any_here P x xs h = ap (λ (b : Bool). b || list_any P xs) h
 
-none_more : {X : Type 0} (P : X → Bool) (xs : List X) (x : X) → list_any P xs ≡ false → P x ≡ false → list_any P (xs ++ x ∷ []) ≡ false
-none_more P [] x h k = ap (λ (b : Bool). b || false) k
-none_more P (y ∷ ys) x h k = let p = or_parts _ _ h in ap (λ (b : Bool). b || list_any P (ys ++ x ∷ [])) p.0 ∙ none_more P ys x p.1 k
-
-all_front : {X : Type 0} (P : X → Type 0) (xs ys : List X) → AllByRecursion P (xs ++ ys) → AllByRecursion P xs
-all_front P [] ys h = tt
-all_front P (x ∷ xs) ys h = (h.0, all_front P xs ys h.1)
-
 all_last : {X : Type 0} (P : X → Type 0) (xs : List X) (x : X) → AllByRecursion P (xs ++ x ∷ []) → P x
 all_last P [] x h = h.0
 all_last P (y ∷ ys) x h = all_last P ys x h.1
@@ -93,7 +72,7 @@ conflict_some before id k r h = some_map _ _ (find_any (consumes id r) before h)
 first_named : (before : List Entry) (id : Hash32) (k : RefKind) (r : StateRef) (refs : List StateRef) → list_any (consumes id r) before ≡ true → has_ref r refs ≡ true → HasFirst (filter_map (conflict_over before id k) refs)
 first_named before id k r refs taken has =
     pictured (λ s. ref_eq s r) (conflict_over before id k) refs
-    (λ q e. subst (λ (x : StateRef). is_some (conflict_over before id k x) ≡ true) (sym (ref_true q r e)) (conflict_some before id k r taken)) has
+    (λ q e. subst (λ (x : StateRef). is_some (conflict_over before id k x) ≡ true) (sym (ref_exact q r e)) (conflict_some before id k r taken)) has
 
 -- a reference among these that an entry of another id consumes
 record Named (before : List Entry) (id : Hash32) (inputs references : List StateRef) : Type 0 where
@@ -165,18 +144,18 @@ blocked_booked : (mark : Party → Hash32 → Hash32) (me : Identity) (before : 
 blocked_booked mark me before e id booked agrees b =
     (elim (hash_eq id e.request.torn.id) as (λ t. hash_eq id e.request.torn.id ≡ t → (is_signature e.answer && t) ≡ false) [
       | true ↦ λ h.
-          let here : Blocked me.party e.request.torn.id before = subst (λ (x : Hash32). Blocked me.party x before) (hash_true id e.request.torn.id h) b in
+          let here : Blocked me.party e.request.torn.id before = subst (λ (x : Hash32). Blocked me.party x before) (hash_exact id e.request.torn.id h) b in
           let a = (added mark me before e.request booked.0 e booked.1 booked.2).is in
           let given : answer_new mark me before e.request booked.0 ≡ e.answer = ap (λ (x : Entry). x.answer) a in
-          no_and (is_signature e.answer) true (sym (ap is_signature given) ∙ blocked_new mark me before e.request booked.0 here agrees)
-      | false ↦ λ h. no_and_right (is_signature e.answer) false refl
+          and_left (is_signature e.answer) true (sym (ap is_signature given) ∙ blocked_new mark me before e.request booked.0 here agrees)
+      | false ↦ λ h. and_right (is_signature e.answer) false refl
     ]) refl
 
 blocked_more : (mark : Party → Hash32 → Hash32) (me : Identity) (before : List Entry) (e : Entry) (id : Hash32) → IsBooked mark me before e → AgreesWith me.party e.request before → Blocked me.party id before → Blocked me.party id (before ++ e ∷ [])
 blocked_more mark me before e id booked agrees b = record {
   seen = b.seen;
   named = record { ref = b.named.ref; has = b.named.has; taken = any_append (consumes id b.named.ref) before (e ∷ []) b.named.taken };
-  unsigned = none_more (signs id) before e b.unsigned (blocked_booked mark me before e id booked agrees b);
+  unsigned = none_push (signs id) before e b.unsigned (blocked_booked mark me before e id booked agrees b);
   shown = λ q is all v h named. b.shown q is (all_front (λ d. Agree me.party q d.request) before (e ∷ []) all) v h named;
 }
 
@@ -235,7 +214,7 @@ refusal_blocks mark me before e booked h =
     record {
       seen = r.seen;
       named = record { ref = r.named.ref; has = r.named.has; taken = any_append (consumes q.torn.id r.named.ref) before (e ∷ []) r.named.taken };
-      unsigned = none_more (signs q.torn.id) before e r.unsigned (no_and (is_signature e.answer) (hash_eq q.torn.id e.request.torn.id) (conflict_unsigned e.answer h));
+      unsigned = none_push (signs q.torn.id) before e r.unsigned (and_left (is_signature e.answer) (hash_eq q.torn.id e.request.torn.id) (conflict_unsigned e.answer h));
       shown = λ p is all v good named. all_last (λ d. Agree me.party p d.request) before e all (sym is) v r.seen good r.good named r.mine;
     }
 
@@ -249,7 +228,7 @@ blocked_after mark me before (e ∷ es) id book agree h =
     ⊎_elim
     (λ b. inl (blocked_more mark me before e id book.0 agree.0 b))
     (λ k. ⊎_elim
-    (λ p. let both = and_parts (is_conflict e.answer) (hash_eq id e.request.torn.id) p in inl (subst (λ (x : Hash32). Blocked me.party x (before ++ e ∷ [])) (sym (hash_true id e.request.torn.id both.1)) (refusal_blocks mark me before e book.0 both.0)))
+    (λ p. let both = and_parts (is_conflict e.answer) (hash_eq id e.request.torn.id) p in inl (subst (λ (x : Hash32). Blocked me.party x (before ++ e ∷ [])) (sym (hash_exact id e.request.torn.id both.1)) (refusal_blocks mark me before e book.0 both.0)))
     (λ p. inr p) (or_cases _ _ k)) h in
     subst (λ (l : List Entry). Blocked me.party id l) (append_assoc before (e ∷ []) es) (blocked_after mark me (before ++ e ∷ []) es id book.1 agree.1 next)
 
@@ -262,15 +241,12 @@ blocked_by mark me book id h agree refused = blocked_after mark me [] book id h 
 same_id : (q : Request) (e : Entry) → repeats q e ≡ true → hash_eq q.torn.id e.request.torn.id ≡ true
 same_id q e h = (and_parts _ _ (and_parts _ _ h).1).1
 
-is_some_of : {X : Type 0} (x y : X) → Some x ≡ Some y → x ≡ y
-is_some_of x y e = cc
-
 repeated_unsigned : (q : Request) (xs : List Entry) (e : Entry) → find (repeats q) xs ≡ Some e → list_any (signs q.torn.id) xs ≡ false → is_signature e.answer ≡ false
 repeated_unsigned q [] e h k = cc
 repeated_unsigned q (x ∷ xs) e h k =
     let none = or_parts (signs q.torn.id x) (list_any (signs q.torn.id) xs) k in
     (elim (repeats q x) as (λ b. repeats q x ≡ b → cond b (Some x) (find (repeats q) xs) ≡ Some e → is_signature e.answer ≡ false) [
-      | true ↦ λ t f. sym (ap (λ (d : Entry). is_signature d.answer) (is_some_of x e f)) ∙ ⊎_elim (λ z. z) (λ z. absurd (both_ways _ z (same_id q x t))) (and_cases (is_signature x.answer) (hash_eq q.torn.id x.request.torn.id) none.0)
+      | true ↦ λ t f. sym (ap (λ (d : Entry). is_signature d.answer) (some_eq f)) ∙ ⊎_elim (λ z. z) (λ z. absurd (both_ways _ z (same_id q x t))) (and_cases (is_signature x.answer) (hash_eq q.torn.id x.request.torn.id) none.0)
       | false ↦ λ t f. repeated_unsigned q xs e f none.1
     ]) refl h
 
@@ -278,7 +254,7 @@ repeated_refuses : (q : Request) (xs : List Entry) (e : Entry) → find (repeats
 repeated_refuses q [] e h k = cc
 repeated_refuses q (x ∷ xs) e h k =
     (elim (repeats q x) as (λ b. repeats q x ≡ b → cond b (Some x) (find (repeats q) xs) ≡ Some e → list_any (refuses q.torn.id) (x ∷ xs) ≡ true) [
-      | true ↦ λ t f. any_here (refuses q.torn.id) x xs (and_from (is_conflict x.answer) (hash_eq q.torn.id x.request.torn.id) (ap (λ (d : Entry). is_conflict d.answer) (is_some_of x e f) ∙ k) (same_id q x t))
+      | true ↦ λ t f. any_here (refuses q.torn.id) x xs (and_from (is_conflict x.answer) (hash_eq q.torn.id x.request.torn.id) (ap (λ (d : Entry). is_conflict d.answer) (some_eq f) ∙ k) (same_id q x t))
       | false ↦ λ t f. any_behind (refuses q.torn.id) (x ∷ []) xs (repeated_refuses q xs e f k)
     ]) refl h
 
@@ -294,15 +270,11 @@ refused_unsigned mark me book q now h agree agrees refused = by (find (repeats q
     by (Some e) f = repeated_unsigned q book e f b.unsigned
     by None f = blocked_new mark me book q now b agrees
 
-not_refused : (t : Bool) → (t ≡ true → ⊥) → t ≡ false
-not_refused true h = absurd (h refl)
-not_refused false h = refl
-
 -- an id that was signed is never answered a conflict
 pub signed_unrefused : (mark : Party → Hash32 → Hash32) (me : Identity) (book : List Entry) (q : Request) (now : Moment) → IsBook mark me book → AllAgree me.party book → list_any (signs q.torn.id) book ≡ true → is_conflict (reply mark book q me now).answer ≡ false
 unfolding reply
 signed_unrefused mark me book q now h agree signed = by (find (repeats q) book) refl
   where
     by : (o : Option Entry) → find (repeats q) book ≡ o → is_conflict (reply_over mark me book q now o).answer ≡ false
-    by (Some e) f = not_refused (is_conflict e.answer) (λ k. both_ways _ (blocked_by mark me book q.torn.id h agree (repeated_refuses q book e f k)).unsigned signed)
+    by (Some e) f = false_from_ne_true (is_conflict e.answer) (λ k. both_ways _ (blocked_by mark me book q.torn.id h agree (repeated_refuses q book e f k)).unsigned signed)
     by None f = no_if (is_notary me) (answer_torn mark me.party book q now (visible_of q.torn)) answer.WrongNotary (no_torn mark me.party book q now (visible_of q.torn) signed) refl

@@ -4,7 +4,7 @@ use Rattle.std.proofs.lemmas.List.{drop_at, append-nil}
 use Rattle.std.proofs.lemmas.List.Elements.{Contains-push_cases, Contains-append_cases, Contains-append_left, Contains-push}
 use Rattle.std.proofs.lemmas.Grind.{same_number_lists}
 use Rattle.std.specs.List.{Contains}
-use Rattle.outside.specs.Disk.{DiskState, DiskView, Durable, IsImage, EachImage, Images, IfTold, Syncs, LosesPower, CutsPower, FailsSyncing, FailsWriting, moment, moment_of, clean, overwritten, with_range, written, flushed}
+use Rattle.outside.specs.Disk.{DiskState, Durable, IsImage, EachImage, Syncs, LosesPower, CutsPower, FailsSyncing, FailsWriting, moment, clean, overwritten, with_range, written, flushed}
 
 none : {X : Type 0} (x : X) → Contains [] x → ⊥
 none x c = absurd (omega (arith, c.1))
@@ -122,11 +122,6 @@ Either d at bytes c = IsImage d.now c ⊎ (IsImage (with_range d.now at (length 
 pub failed_write : (d e : DiskState) (at : ℕ) (bytes : List ℕ) → FailsWriting d at (length bytes) e → EachImage d e (Either d at bytes)
 failed_write d e at bytes failed = after_failed_write d e at (length bytes) (Either d at bytes) (λ c i. inl i) (λ c i. inr (inl i)) failed
 
-pub failed_kept : (d e : DiskState) (at : ℕ) (bytes : List ℕ) → FailsWriting d at (length bytes) e → (e.kept ≡ d.kept) ⊎ IsImage (with_range d.now at (length bytes)) e.kept
-failed_kept d e at bytes (inl same) = inl (ap (λ x. x.kept) same)
-failed_kept d e at bytes (inr (inl pending)) = inr pending.left
-failed_kept d e at bytes (inr (inr lost)) = inr lost.left
-
 to_written : (d : DiskState) (at : ℕ) (bytes : List ℕ) → EachImage d (written d at bytes) (Either d at bytes)
 to_written d at bytes = after_write d (written d at bytes) at bytes (Either d at bytes) refl (λ c i. inl i) (λ c i. inr (inl i))
 
@@ -143,20 +138,6 @@ sync_kept d at bytes image e (inl same) = inr (subst (λ (x : DiskState). IsImag
 sync_kept d at bytes image e (inr (inl stays)) = inr stays.left
 sync_kept d at bytes image e (inr (inr lost)) = inr lost.left
 
--- what is kept after a sync that failed was an image
-pub failed_sync_kept : (d e : DiskState) → IsImage d.now d.kept → FailsSyncing d e → IsImage d.now e.kept
-failed_sync_kept d e image (inl same) = subst (λ (x : DiskState). IsImage d.now x.kept) (sym same) image
-failed_sync_kept d e image (inr (inl stays)) = stays.left
-failed_sync_kept d e image (inr (inr lost)) = lost.left
-
--- the words of a disk's view: each image since a moment has what each has by states
-pub images_have : (old new : DiskView) (P : List ℕ → Type 0) → new.tells ≡ old.tells → IfTold old new (λ d e. EachImage d e P) → (c : List ℕ) → Images new (moment_of old) c → P c
-images_have old new P same told c image = (told (sym same ∙ image.tells)).each c image.image
-
 pub on_ok : {T E : Type 0} (r : Result T E) (P Q : Type 0) → (P → Q) → OnOk r P → OnOk r Q
 on_ok (Ok u) P Q to p = to p
 on_ok (Err u) P Q to p = tt
-
-pub on_err : {T E : Type 0} (r : Result T E) (P Q : Type 0) → (P → Q) → OnErr r P → OnErr r Q
-on_err (Ok u) P Q to p = tt
-on_err (Err u) P Q to p = to p

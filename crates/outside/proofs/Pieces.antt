@@ -17,12 +17,6 @@ Appends-trans (Some x) None c bs cs p q = absurd p
 Appends-trans (Some x) (Some y) None bs cs p q = absurd q
 Appends-trans (Some x) (Some y) (Some z) bs cs p q = q ∙ ap (λ l. l ++ cs) p ∙ append_assoc x bs cs
 
-pub Appends-kept : (a b c : Option (List ℕ)) (bs : List ℕ) → Appends a b bs → Keeps b c → Appends a c bs
-Appends-kept None b c bs p q = tt
-Appends-kept (Some x) None c bs p q = absurd p
-Appends-kept (Some x) (Some y) None bs p q = absurd q
-Appends-kept (Some x) (Some y) (Some z) bs p q = q ∙ p
-
 -- a write of a front of what is left
 pub Appends-more : (a b c : Option (List ℕ)) (i n : ℕ) (bs : List ℕ) → Appends a b (take i bs) → Appends b c (take n (drop i bs)) → Appends a c (take (i + n) bs)
 Appends-more a b c i n bs p q = rw (take-add i n bs) (Appends-trans a b c _ _ p q)

@@ -1,33 +1,27 @@
 -- What is sent, accepted and taken fits the sessions.
-use Rattle.std.proofs.Common.{◌≡◌, ℕ, suc, ◌+◌, ⊎_elim, Bool, true, false, ◌==◌, not, nat_lt, List, [], ◌∷◌, ◌++◌, Option, Some, None, refl, sym, ◌∙◌, ap, subst, cond, map, filter, find, length, slice_get, option_map, arith, eq-eqb, is_none}
+use Rattle.std.proofs.Common.{◌≡◌, ℕ, suc, ◌+◌, ⊎_elim, Bool, true, false, ◌==◌, not, nat_lt, List, [], ◌∷◌, Option, Some, None, refl, sym, ◌∙◌, ap, subst, cond, map, filter, length, slice_get, option_map, arith, eq-eqb, is_none}
 use Rattle.std.specs.Prelude.{⊤, is_some}
 use Rattle.std.specs.List.{list_all, list_any}
 use Rattle.std.specs.Option.{option_and_then}
-use Rattle.std.proofs.lemmas.Bool.{and_parts, and_from, or_cases, or_parts, or_left, eqb-true, eqb-false, ltb-true, not-true, not_from_false, both_ways, false_from_ne_true}
+use Rattle.std.proofs.lemmas.Bool.{and_parts, and_from, or_cases, or_parts, or_left, eqb-true, eqb-false, ltb-true, not-true, not_from_false, false_from_ne_true}
 use Rattle.net_base.specs.declared.names.Key.{Key}
 use Rattle.net_base.specs.declared.values.Party.{Party}
+use Rattle.net_base.proofs.Options.{none_of}
+use Rattle.net_base.proofs.Lists.{find_map, find_push, found_passes, none_filter}
 use Rattle.ledger_types.specs.declared.value.Value.{Value}
 use Rattle.session_wire.specs.declared.body.Body.{Body}
 use Rattle.session_wire.specs.declared.body.Body.TheVariants as body_of
 use Rattle.session_wire.specs.declared.change.SentItem.{SentItem}
 use Rattle.session_wire.specs.Sessions.{Sent, Session, key_eq, session_of, changed_at, new_session, next_item, with_sent}
-use Rattle.session_wire.specs.Rules.{is_opened_by, is_no_peer, next_key, direction_out, direction_in, is_owner, sessions_of, owned_by, owned, item_on, is_next, is_new_key, is_init, is_lawful, FitsSent, FitsTaken, Continues}
+use Rattle.session_wire.specs.Rules.{is_opened_by, is_no_peer, next_key, direction_out, is_owner, sessions_of, owned_by, owned, item_on, is_new_key, is_init, is_lawful, FitsSent, FitsTaken, Continues}
+use Rattle.session_wire.proofs.Keys.{key_same}
 use Rattle.session_table.specs.Changes.{IsFitting}
 use Rattle.session_table.specs.Tables.{item_there}
 use Rattle.net_model.specs.Fits.{is_counted, keys_differ}
-use Rattle.session_acts.specs.Parts.{unchanged, is_last, AreSound}
-use Rattle.session_acts.proofs.Owning.{key_same, key_found, found_own, place_between}
-
--- no change fits
-pub unchanged_fits : (me : Party) (stamp : ℕ) (list : List Session) (f : ℕ) → IsFitting me stamp list (unchanged f)
-unchanged_fits me stamp list f = record { came = tt; opened = tt; sent = tt; taken = tt }
+use Rattle.session_acts.specs.Parts.{is_last, AreSound}
+use Rattle.session_acts.proofs.Owning.{key_found, found_own, place_between}
 
 -- ---- a session that is opened
-
--- what is found behind a list where nothing before it is
-find_behind : {X : Type 0} (P : X → Bool) (xs : List X) (y : X) → find P xs ≡ None → P y ≡ true → find P (xs ++ y ∷ []) ≡ Some y
-find_behind P [] y h k = rw k refl
-find_behind {X} P (x ∷ xs) y h k = (elim (P x) as (λ b. cond b (Some x) (find P xs) ≡ None → cond b (Some x) (find P (xs ++ y ∷ [])) ≡ Some y) [ true ↦ λ l. cc | false ↦ λ l. find_behind P xs y l k ]) h
 
 -- the node's next session is new
 not_counted : (me : Party) (next : ℕ) (ss : List Session) → list_all (is_counted me.0 next) ss ≡ true → session_of (record { initiator = me; number = next }) ss ≡ None
@@ -50,7 +44,7 @@ opening_fits me stamp nodes list f to class first counted other =
     record {
       came = tt;
       opened = record { next = refl; other = (or_parts (to.0 == me.0) _ other).0; init = or_left _ _ (and_from _ _ (key_same key) refl) };
-      sent = (record { session = new_session key to (Some f) []; stands = find_behind (λ s. key_eq key s.key) list (new_session key to (Some f) []) (not_counted me key.number list counted) (key_same key); outgoing = outgoing; next = refl; lawful = refl }, tt);
+      sent = (record { session = new_session key to (Some f) []; stands = find_push (λ s. key_eq key s.key) list (new_session key to (Some f) []) (not_counted me key.number list counted) (key_same key); outgoing = outgoing; next = refl; lawful = refl }, tt);
       taken = tt;
     }
 
@@ -65,16 +59,9 @@ opening_made me stamp nodes list f to class first number sent sound other e is =
 
 -- ---- items that are sent later
 
--- what all pass that is found passes
-all_found : {X : Type 0} (P test : X → Bool) (xs : List X) (x : X) → list_all P xs ≡ true → find test xs ≡ Some x → P x ≡ true
-all_found P test [] x h k = cc
-all_found {X} P test (y ∷ xs) x h k =
-    let both = and_parts (P y) (list_all P xs) h in
-    (elim (test y) as (λ b. cond b (Some y) (find test xs) ≡ Some x → P x ≡ true) [ true ↦ λ e. let one : y ≡ x = cc e in subst (λ (z : X). P z ≡ true) one both.0 | false ↦ λ e. all_found P test xs x both.1 e ]) k
-
 -- a session that is found has sent
 pub begun_at : (list : List Session) (key : Key) (s : Session) → list_all (λ session. not (length session.sent == 0)) list ≡ true → session_of key list ≡ Some s → (length s.sent == 0) ≡ false
-begun_at list key s begun h = not-true _ (all_found (λ session. not (length session.sent == 0)) (λ x. key_eq key x.key) list s begun h)
+begun_at list key s begun h = not-true _ (found_passes (λ session. not (length session.sent == 0)) (λ x. key_eq key x.key) list s begun h)
 
 -- a body that is lawful at each number but the first
 abbrev pub IsLate : Body → Type 0
@@ -125,13 +112,6 @@ stand_each : (list ss : List Session) → ((n : ℕ) (s : Session) → slice_get
 stand_each list [] h = tt
 stand_each list (s ∷ ss) h = (h 0 s refl, stand_each list ss (λ n t k. h (suc n) t k))
 
--- those of other keys stand where one was changed
-find_map : {X : Type 0} (test : X → Bool) (h : X → X) (xs : List X) → ((x : X) → test (h x) ≡ test x) → find test (map h xs) ≡ option_map h (find test xs)
-find_map test h [] same = refl
-find_map {X} test h (x ∷ xs) same =
-    rw (same x, find_map test h xs same)
-    (elim (test x) as (λ b. cond b (Some (h x)) (option_map h (find test xs)) ≡ option_map h (cond b (Some x) (find test xs))) [ true ↦ refl | false ↦ refl ])
-
 stands_apart : (list : List Session) (key : Key) (x : Sent) (s : Session) → key_eq key s.key ≡ false → session_of s.key list ≡ Some s → session_of s.key (changed_at key (with_sent x) list) ≡ Some s
 stands_apart list key x s apart h =
     let change : Session → Session = λ t. cond (key_eq key t.key) (with_sent x t) t in
@@ -154,16 +134,11 @@ lasts_fit me stamp list (s ∷ ss) body late differ h =
     let p = and_parts (not (list_any (λ other. key_eq s.key other.key) ss)) (keys_differ ss) differ in
     (continues me list s body late h.0.1 h.0.0, lasts_fit me stamp (changed_at s.key (with_sent (record { body = body; stamp = stamp })) list) ss body late p.1 (stand_apart list ss s.key (record { body = body; stamp = stamp }) (not-true _ p.0) h.1))
 
--- those that pass a test have different keys where all have
-any_less : {X : Type 0} (Q P : X → Bool) (xs : List X) → list_any Q xs ≡ false → list_any Q (filter P xs) ≡ false
-any_less Q P [] h = refl
-any_less Q P (x ∷ xs) h = let p = or_parts (Q x) (list_any Q xs) h in (elim (P x) as (λ b. list_any Q (cond b (x ∷ filter P xs) (filter P xs)) ≡ false) [ true ↦ rw p.0 (any_less Q P xs p.1) | false ↦ any_less Q P xs p.1 ])
-
 differ_less : (P : Session → Bool) (xs : List Session) → keys_differ xs ≡ true → keys_differ (filter P xs) ≡ true
 differ_less P [] h = refl
 differ_less P (x ∷ xs) h =
     let p = and_parts (not (list_any (λ other. key_eq x.key other.key) xs)) (keys_differ xs) h in
-    (elim (P x) as (λ b. keys_differ (cond b (x ∷ filter P xs) (filter P xs)) ≡ true) [ true ↦ and_from _ _ (not_from_false _ (any_less (λ other. key_eq x.key other.key) P xs (not-true _ p.0))) (differ_less P xs p.1) | false ↦ differ_less P xs p.1 ])
+    (elim (P x) as (λ b. keys_differ (cond b (x ∷ filter P xs) (filter P xs)) ≡ true) [ true ↦ and_from _ _ (not_from_false _ (none_filter (λ other. key_eq x.key other.key) P xs (not-true _ p.0))) (differ_less P xs p.1) | false ↦ differ_less P xs p.1 ])
 
 -- the last items of a flow fit
 pub ending_fits : (me : Party) (stamp : ℕ) (list : List Session) (f : ℕ) (body : Body) → AreSound me list → is_last body ≡ true
@@ -206,10 +181,6 @@ taking_made me stamp list f key sent taken h none t = by (session_of key list) r
 
 -- ---- items that are accepted
 
-none_of : {X : Type 0} (o : Option X) → is_none o ≡ true → o ≡ None
-none_of None h = refl
-none_of (Some x) h = cc
-
 -- an Init of a new session fits, with its answer
 pub answering_fits : (nodes stamp : ℕ) (me : Party) (list : List Session) (key : Key) (init answer : Body) (f : ℕ) → is_new_key nodes me list key ≡ true → is_init init ≡ true → is_lawful 1 0 answer ≡ true
     → IsFitting me stamp list (record { opened = None; owner = f; sent = record { key = key; direction = 1; seq = 0; body = answer } ∷ []; came = Some init; came_key = Some key; taken = None })
@@ -221,7 +192,7 @@ answering_fits nodes stamp me list key (body_of.Init class first) answer f new i
     record {
       came = record { begins = λ _. record { is_new = fresh; other = other; answered = (refl, refl, refl, lawful) }; goes_on = λ e. cc };
       opened = tt;
-      sent = (record { session = new_session key key.initiator _ (body_of.Init class first ∷ []); stands = find_behind (λ s. key_eq key s.key) list _ fresh (key_same key); outgoing = incoming; next = refl; lawful = lawful }, tt);
+      sent = (record { session = new_session key key.initiator _ (body_of.Init class first ∷ []); stands = find_push (λ s. key_eq key s.key) list _ fresh (key_same key); outgoing = incoming; next = refl; lawful = lawful }, tt);
       taken = tt;
     }
 answering_fits nodes stamp me list key other answer f new is lawful = cc
@@ -233,19 +204,3 @@ pub answering_made : (nodes stamp : ℕ) (me : Party) (list : List Session) (key
 answering_made nodes stamp me list key init f begins sent new is same =
     subst (λ (items : List SentItem). IsFitting me stamp list (record { opened = None; owner = f; sent = items; came = Some init; came_key = Some key; taken = None })) (sym same)
     (answering_fits nodes stamp me list key init (cond begins body_of.Confirm (body_of.Reject 5)) f new is (elim begins as (λ b. is_lawful 1 0 (cond b body_of.Confirm (body_of.Reject 5)) ≡ true) [ true ↦ refl | false ↦ refl ]))
-
--- the next item of a session fits
-pub arriving_fits : (me : Party) (stamp : ℕ) (list : List Session) (key : Key) (direction number : ℕ) (body : Body) (s : Session) → session_of key list ≡ Some s → is_next me key direction number body s ≡ true
-    → IsFitting me stamp list (record { opened = None; owner = 0; sent = []; came = Some body; came_key = Some key; taken = None })
-arriving_fits me stamp list key direction number body s stands h =
-    let p = and_parts (direction == direction_in me key) _ h in
-    let q = and_parts (number == length s.came) _ p.1 in
-    let r = and_parts (is_lawful direction number body) (not (is_init body)) q.1 in
-    let d : direction ≡ direction_in me key = eqb-true direction (direction_in me key) p.0 in
-    let n : number ≡ length s.came = eqb-true number (length s.came) q.0 in
-    record {
-      came = record { begins = λ e. absurd (both_ways (is_init body) (not-true _ r.1) e); goes_on = λ _. record { session = s; stands = stands; lawful = subst (λ (m : ℕ). is_lawful m (length s.came) body ≡ true) d (subst (λ (m : ℕ). is_lawful direction m body ≡ true) n r.0); opens_none = refl; sends_none = refl; takes_none = refl } };
-      opened = tt;
-      sent = tt;
-      taken = tt;
-    }

@@ -53,9 +53,6 @@ answer_within false = omega arith
 pub answering_within : (f : ℕ) (key : Key) (init : Body) (item : SentItem) (sent : List SentItem) → IsSentItem item → IsBody init → sent ≡ item ∷ [] → IsSession f (Some key) (record { opened = None; owner = f; sent = sent; came = Some init; came_key = Some key; taken = None })
 answering_within f key init item sent i b is = subst (λ (items : List SentItem). IsSession f (Some key) (record { opened = None; owner = f; sent = items; came = Some init; came_key = Some key; taken = None })) (sym is) (accepting_within f key init (item ∷ []) (omega arith) (i, tt) b)
 
-pub arriving_within : (f : ℕ) (key : Key) (body : Body) (sent : List SentItem) → IsBody body → sent ≡ [] → IsSession f (Some key) (record { opened = None; owner = f; sent = sent; came = Some body; came_key = Some key; taken = None })
-arriving_within f key body sent b is = subst (λ (items : List SentItem). IsSession f (Some key) (record { opened = None; owner = f; sent = items; came = Some body; came_key = Some key; taken = None })) (sym is) (accepting_within f key body [] (omega arith) tt b)
-
 -- one more item within the limits
 pub all_more : (items new : List SentItem) (item : SentItem) → new ≡ items ++ item ∷ [] → AllByRecursion IsSentItem items → IsSentItem item → AllByRecursion IsSentItem new
 all_more items new item e h i = subst (AllByRecursion IsSentItem) (sym e) (by items h)

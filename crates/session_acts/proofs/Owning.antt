@@ -1,42 +1,25 @@
 -- The sessions that a flow owns, and the items that are there.
-use Rattle.std.proofs.Common.{◌≡◌, ℕ, zero, suc, ◌+◌, ◌<◌, ◌≤◌, ◌⊎◌, ⊎_elim, inl, inr, Bool, true, false, not, List, [], ◌∷◌, ◌++◌, Option, Some, None, refl, sym, ◌∙◌, ap, subst, cond, map, filter, find, drop, length, slice_get, option_map, arith, nat_le, nat_eq, is_none, eq-eqb}
-use Rattle.std.specs.Prelude.{is_some, option_copied}
-use Rattle.std.specs.Borrow.{Bor}
+use Rattle.std.proofs.Common.{◌≡◌, ℕ, zero, suc, ◌+◌, ◌<◌, ◌≤◌, ◌⊎◌, ⊎_elim, inl, inr, Bool, true, false, not, List, [], ◌∷◌, ◌++◌, Option, Some, None, refl, sym, ◌∙◌, ap, subst, cond, map, filter, find, drop, length, slice_get, option_map, arith, nat_le}
+use Rattle.std.specs.Prelude.{is_some}
 use Rattle.std.specs.List.{list_any}
 use Rattle.std.specs.Option.{option_and_then}
-use Rattle.std.proofs.lemmas.Bool.{and_parts, and_from, eqb-true, le-leb, lt-leb, not-true, both_ways, or_left, or_right}
-use Rattle.std.proofs.lemmas.List.{append_assoc, append-nil}
+use Rattle.std.proofs.lemmas.Bool.{and_parts, le-leb, lt-leb, not-true, both_ways, or_left, or_right}
+use Rattle.std.proofs.lemmas.List.{append_assoc, append-nil, drop_all}
 use Rattle.std.proofs.lemmas.Option.{slice_get_cases}
 use Rattle.net_base.specs.declared.names.Key.{Key}
-use Rattle.net_base.specs.declared.values.Party.{Party}
+use Rattle.net_base.proofs.Lists.{find_test, drop_get}
 use Rattle.flow_machine.specs.declared.acts.Resumed.{Resumed}
 use Rattle.session_wire.specs.declared.body.Body.{Body}
 use Rattle.session_wire.specs.declared.change.SentItem.{SentItem}
 use Rattle.session_wire.specs.Sessions.{Session, key_eq, session_of, next_item, first_item, is_confirm}
-use Rattle.session_wire.specs.Rules.{is_opened_by, is_owner, sessions_of, owned_by, owned, waits_for}
-use Rattle.session_table.specs.Tables.{item_there, arrived_at, of_flow}
+use Rattle.session_wire.specs.Rules.{is_owner, sessions_of, owned_by, owned}
+use Rattle.session_wire.proofs.Keys.{key_exact, key_same}
+use Rattle.session_table.specs.Tables.{item_there, of_flow}
 use Rattle.net_model.specs.State.{nothing}
 use Rattle.net_model.specs.Steps.{Done, handed, takes, receives}
 use Rattle.net_model.specs.Fits.{keys_differ}
 
 -- ---- keys
-
--- equal keys are one key
-pub key_exact : (a b : Key) → key_eq a b ≡ true → a ≡ b
-key_exact a b e =
-    let both = and_parts (nat_eq a.initiator.0 b.initiator.0) (nat_eq a.number b.number) e in
-    λ i. record { initiator = record { 0 = eqb-true _ _ both.0 i }; number = eqb-true _ _ both.1 i }
-
--- a key is equal to itself
-pub key_same : (k : Key) → key_eq k k ≡ true
-key_same k = and_from _ _ (eq-eqb k.initiator.0 k.initiator.0 refl) (eq-eqb k.number k.number refl)
-
--- what is found passes the test
-pub find_test : {X : Type 0} (P : X → Bool) (xs : List X) (x : X) → find P xs ≡ Some x → P x ≡ true
-find_test P [] x h = cc
-find_test {X} P (y ∷ xs) x h =
-    (elim (P y) as (λ b. P y ≡ b → cond b (Some y) (find P xs) ≡ Some x → P x ≡ true)
-    [ true ↦ λ e k. let one : y ≡ x = cc k in subst (λ (z : X). P z ≡ true) one e | false ↦ λ e k. find_test P xs x k ]) refl h
 
 -- the session of a key has it
 pub key_found : (key : Key) (list : List Session) (s : Session) → session_of key list ≡ Some s → key ≡ s.key
@@ -44,28 +27,10 @@ key_found key list s h = key_exact key s.key (find_test (λ x. key_eq key x.key)
 
 -- ---- the session that a flow owns
 
--- whether a flow owns a session is told by the session's owner
-pub owned_test : (f : ℕ) (o : Option Session) → is_some (owned_by f o) ≡ is_owner f (option_and_then (λ s. s.owner) o)
-owned_test f None = refl
-owned_test f (Some s) = by (is_owner f s.owner)
-  where
-    by : (b : Bool) → is_some (cond b (Some s) None) ≡ b
-    by true = refl
-    by false = refl
-
 -- where the flow owns it, it is the session
 pub owned_whole : (f : ℕ) (o : Option Session) → is_some (owned_by f o) ≡ true → owned_by f o ≡ o
 owned_whole f None h = refl
 owned_whole f (Some s) h = (elim (is_owner f s.owner) as (λ b. is_some (cond b (Some s) None) ≡ true → cond b (Some s) None ≡ Some s) [ true ↦ λ k. refl | false ↦ λ k. cc ]) h
-
--- and so the session stands
-pub owned_stands : (f : ℕ) (o : Option Session) → is_some (owned_by f o) ≡ true → is_some o ≡ true
-owned_stands f o h = ap is_some (sym (owned_whole f o h)) ∙ h
-
--- else there is none
-pub owned_none : (o : Option Session) → is_some o ≡ false → o ≡ None
-owned_none None h = refl
-owned_none (Some s) h = cc
 
 -- ---- the places of a list
 
@@ -78,27 +43,6 @@ mapped_there f None = refl
 mapped_there f (Some x) = refl
 
 -- ---- what is received
-
--- an item is there exactly where the table finds one
-none_same : (r : Option (Bor Body)) (n : Option (Option ℕ × Body)) → option_copied r ≡ option_map (λ found. found.1) n → is_none r ≡ is_none n
-none_same None None e = refl
-none_same None (Some n) e = cc
-none_same (Some r) None e = cc
-none_same (Some r) (Some n) e = refl
-
--- a flow waits in a session of its own exactly where no item is there
-pub waits_exactly : (f : ℕ) (o : Option Session) (r : Option (Bor Body)) → option_copied r ≡ option_map (λ found. found.1) (option_and_then (λ s. next_item s s.ending) o) → is_some (owned_by f o) ≡ true → is_none r ≡ waits_for (owned_by f o)
-waits_exactly f None r e h = cc
-waits_exactly f (Some s) r e h = none_same r (next_item s s.ending) e ∙ ap waits_for (sym (owned_whole f (Some s) h))
-
--- how many items arrived, whichever the direction in which they come
-pub arrived_first : (me : Party) (key : Key) (list : List Session) (n : ℕ) → Some n ≡ arrived_at me key 0 list → Some n ≡ option_map (λ s. length s.came) (session_of key list)
-arrived_first me key list n h = (elim (is_opened_by me key) as (λ b. Some n ≡ cond (nat_eq 0 (cond b 1 0)) (option_map (λ s. length s.came) (session_of key list)) None → Some n ≡ option_map (λ s. length s.came) (session_of key list)) [ true ↦ λ k. cc | false ↦ λ k. k ]) h
-
-pub arrived_second : (me : Party) (key : Key) (list : List Session) (r : Option ℕ) → None ≡ arrived_at me key 0 list → r ≡ arrived_at me key 1 list → r ≡ option_map (λ s. length s.came) (session_of key list)
-arrived_second me key list r h i =
-    (elim (is_opened_by me key) as (λ b. None ≡ cond (nat_eq 0 (cond b 1 0)) (option_map (λ s. length s.came) (session_of key list)) None → r ≡ cond (nat_eq 1 (cond b 1 0)) (option_map (λ s. length s.came) (session_of key list)) None → r ≡ option_map (λ s. length s.came) (session_of key list))
-    [ true ↦ λ k l. l | false ↦ λ k l. l ∙ k ]) h i
 
 -- the number of a found item
 pub first_between : (n : ℕ) (bodies : List Body) (found : ℕ × Body) → first_item n bodies ≡ Some found → (n ≤ found.0) × (found.0 < n + length bodies)
@@ -143,26 +87,6 @@ place_below key list n count h k = by (session_of key list) h k
         let p = place_between s s.ending n (sym i) in
         let q = p.1 in
         omega arith
-
--- where no such session stands, no item is there
-pub place_stands : (key : Key) (list : List Session) → None ≡ option_map (λ s. length s.came) (session_of key list) → None ≡ option_and_then (λ (found : Option ℕ × Body). found.0) (item_there key list)
-place_stands key list k = by (session_of key list) k
-  where
-    by : (o : Option Session) → None ≡ option_map (λ s. length s.came) o → None ≡ option_and_then (λ (found : Option ℕ × Body). found.0) (option_and_then (λ s. next_item s s.ending) o)
-    by None j = refl
-    by (Some s) j = cc
-
--- nothing is received where no item is there
-pub receives_none : (f : ℕ) (key : Key) (list : List Session) → is_some (owned f key list) ≡ true → None ≡ option_map (λ found. found.1) (item_there key list) → None ≡ receives (owned f key list)
-receives_none f key list h k = by (session_of key list) h k
-  where
-    by : (o : Option Session) → is_some (owned_by f o) ≡ true → None ≡ option_map (λ found. found.1) (option_and_then (λ s. next_item s s.ending) o) → None ≡ receives (owned_by f o)
-    by None i j = cc
-    by (Some s) i j = subst (λ (o : Option Session). None ≡ receives o) (sym (owned_whole f (Some s) i)) (on (next_item s s.ending) j)
-      where
-        on : (next : Option (Option ℕ × Body)) → None ≡ option_map (λ found. found.1) next → None ≡ option_map (takes s) next
-        on None l = refl
-        on (Some found) l = cc
 
 -- what is received where an item is there
 pub receives_item : (f : ℕ) (key : Key) (list : List Session) (body : Body) → is_some (owned f key list) ≡ true → Some body ≡ option_map (λ found. found.1) (item_there key list)
@@ -237,19 +161,6 @@ found_nth f n list key h k = by (slice_get (sessions_of f list) n) refl k
 pub there_nth : (f n : ℕ) (list : List Session) → n < length (sessions_of f list) → is_some (of_flow f n list) ≡ true
 there_nth f n list below = mapped_there (λ (s : Session). s.key) (slice_get (sessions_of f list) n) ∙ get_exactly (sessions_of f list) n ∙ le-leb (suc n) (length (sessions_of f list)) (omega (arith, below))
 
--- what is left behind an element
-pub drop_get : {V : Type 0} (xs : List V) (n : ℕ) (x : V) → slice_get xs n ≡ Some x → drop n xs ≡ x ∷ drop (suc n) xs
-drop_get [] n x e = absurd (cc e)
-drop_get {V} (y ∷ ys) zero x e = let one : y ≡ x = cc e in ap (λ (z : V). z ∷ ys) one
-drop_get (y ∷ ys) (suc n) x e = drop_get ys n x e
-
--- behind the last nothing is left
-pub drop_all : {V : Type 0} (xs : List V) (n : ℕ) → length xs ≤ n → drop n xs ≡ []
-drop_all [] zero h = refl
-drop_all [] (suc n) h = refl
-drop_all (x ∷ xs) zero h = absurd (omega (arith, h))
-drop_all (x ∷ xs) (suc n) h = drop_all xs n (omega (arith, h))
-
 -- the items so far, with those that are left, are all
 pub told_more : (g : Session → SentItem) (ss : List Session) (n : ℕ) (s : Session) (old new : List SentItem) (item : SentItem) → new ≡ old ++ item ∷ [] → item ≡ g s → slice_get ss n ≡ Some s → old ++ map g (drop n ss) ≡ map g ss → new ++ map g (drop (n + 1) ss) ≡ map g ss
 told_more g ss n s old new item e same there h =
@@ -263,4 +174,4 @@ told_more g ss n s old new item e same there h =
 
 -- where none are left, they are all
 pub told_all : (g : Session → SentItem) (ss : List Session) (n : ℕ) (items : List SentItem) → length ss ≤ n → items ++ map g (drop n ss) ≡ map g ss → items ≡ map g ss
-told_all g ss n items past h = sym (append-nil items) ∙ ap (λ (l : List Session). items ++ map g l) (sym (drop_all ss n past)) ∙ h
+told_all g ss n items past h = sym (append-nil items) ∙ ap (λ (l : List Session). items ++ map g l) (sym (drop_all n ss past)) ∙ h

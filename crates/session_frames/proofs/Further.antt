@@ -12,12 +12,13 @@ use Rattle.session_wire.specs.Sessions.{Session, key_eq, session_of}
 use Rattle.session_wire.specs.declared.body.Body.{Body}
 use Rattle.session_wire.specs.declared.frame.Frame.{Frame}
 use Rattle.session_wire.specs.declared.frame.Frame.TheVariants.{Message, Ack}
+use Rattle.session_wire.proofs.Keys.{key_exact}
 use Rattle.session_frames.specs.declared.judged.Judged.{Judged}
 use Rattle.session_frames.specs.declared.judged.Judged.TheVariants.{NotMine, NoSession, Early, Acked, Again, Next}
 use Rattle.session_frames.specs.Judging.{is_other, is_no_node, is_with, arrived, sent, lacks_session, or_else, judge}
 use Rattle.session_frames.specs.Lawful.{IsAnswered, IsLawful, AreLawful}
 use Rattle.session_frames.specs.Items.{BeginsSession, GoesOn, IsOfSent, GoesFurther}
-use Rattle.session_frames.proofs.Routes.{IsRoute, side_of, differ_of, party_exact, key_exact, incoming, acknowledged, answer_route}
+use Rattle.session_frames.proofs.Routes.{IsRoute, side_of, differ_of, party_exact, incoming, acknowledged, answer_route}
 use Rattle.session_frames.proofs.Bodies.{lawful_at, no_init_at, init_first}
 
 -- what holds of both cases of a test

@@ -1,10 +1,10 @@
 -- The messages of items that are sent.
-use Rattle.std.proofs.Common.{◌≡◌, ◌⊎◌, inl, inr, ◌<◌, ◌+◌, ℕ, suc, Bool, true, false, cond, List, [], ◌∷◌, ◌++◌, Some, refl, ap, sym, subst, nat_le, arith, map, filter, slice_get, Result, Ok, Err}
+use Rattle.std.proofs.Common.{◌≡◌, ◌⊎◌, inl, inr, ◌<◌, ◌+◌, ℕ, suc, Bool, true, false, cond, List, [], ◌∷◌, Some, refl, ap, sym, subst, nat_le, arith, map, slice_get}
 use Rattle.std.proofs.lemmas.Option.{slice_get_within}
-use Rattle.std.specs.Prelude.{IfOk}
 use Rattle.std.specs.List.{AllByRecursion}
 use Rattle.std.proofs.lemmas.Bool.{eqb-true}
 use Rattle.net_base.specs.declared.values.Party.{Party}
+use Rattle.net_base.proofs.Lists.{all_append, all_kept}
 use Rattle.session_wire.specs.Frames.{IsFrame}
 use Rattle.session_wire.specs.Rules.{is_opened_by, direction_out}
 use Rattle.session_wire.specs.Sessions.{Session, Sent}
@@ -40,21 +40,8 @@ is_message me s n x node h there =
     let route = sent_route me s node h in
     (route.0, (route.1, (omega (arith, h.few, slice_get_within s.sent n x there), (at.stamped, at.lawful))))
 
--- a property of all items is one of those that pass a test, and of lists put together
-all_filter : {A : Type 0} (P : A → Type 0) (test : A → Bool) (xs : List A) → AllByRecursion P xs → AllByRecursion P (filter test xs)
-all_filter P test [] h = tt
-all_filter P test (x ∷ xs) h = by (test x) (all_filter P test xs h.1)
-  where
-    by : (b : Bool) → AllByRecursion P (filter test xs) → AllByRecursion P (cond b (x ∷ filter test xs) (filter test xs))
-    by true rest = (h.0, rest)
-    by false rest = rest
-
-all_append : {A : Type 0} (P : A → Type 0) (xs ys : List A) → AllByRecursion P xs → AllByRecursion P ys → AllByRecursion P (xs ++ ys)
-all_append P [] ys h k = k
-all_append P (x ∷ xs) ys h k = (h.0, all_append P xs ys h.1 k)
-
 -- the items of a session
-all_items : (P : Item → Type 0) (me : Party) (s : Session) (n : ℕ) (xs : List Sent) → ((k : ℕ) (x : Sent) → slice_get xs k ≡ Some x → P (item_of me s (n + k) x)) → AllByRecursion P (items_from me s n xs)
+pub all_items : (P : Item → Type 0) (me : Party) (s : Session) (n : ℕ) (xs : List Sent) → ((k : ℕ) (x : Sent) → slice_get xs k ≡ Some x → P (item_of me s (n + k) x)) → AllByRecursion P (items_from me s n xs)
 all_items P me s n [] h = tt
 all_items P me s n (x ∷ xs) h =
     let first : n + 0 ≡ n = omega arith in (
@@ -71,7 +58,7 @@ are_messages me (s ∷ ss) [] h = tt
 are_messages me (s ∷ ss) (n ∷ ns) h =
     let P : Item → Type 0 = λ item. IsFrame (message_of me item) in
     all_append P (unacked_in me (s, n)) (unacked me ss ns)
-    (all_filter P (λ item. nat_le n item.number) (items_from me s 0 s.sent) (all_items P me s 0 s.sent (λ k x there.
+    (all_kept P (λ item. nat_le n item.number) (items_from me s 0 s.sent) (all_items P me s 0 s.sent (λ k x there.
     let at : k ≡ 0 + k = omega arith in
     subst (λ (j : ℕ). P (item_of me s j x)) at (is_message me s k x h.node h.each.0 there))))
     (are_messages me ss ns (record { node = h.node; each = h.each.1 }))
@@ -80,8 +67,3 @@ are_messages me (s ∷ ss) (n ∷ ns) h =
 pub are_addressed : (me : Party) (items : List Item) → AreMessages me items → AllByRecursion IsAddressed (map (outgoing me) items)
 are_addressed me [] h = tt
 are_addressed me (item ∷ items) h = (record { carried = message_of me item; lawful = h.0; whole = refl; to = refl }, are_addressed me items h.1)
-
--- what follows of a value follows of a result
-pub if_ok : {A E : Type 0} (P Q : A → Type 0) → ((x : A) → P x → Q x) → (r : Result A E) → IfOk r P → IfOk r Q
-if_ok P Q f (Ok x) h = f x h
-if_ok P Q f (Err e) h = tt

@@ -1,24 +1,18 @@
 -- The directions of what comes to a node, and of what it answers.
 use Rattle.std.proofs.Common.{◌≡◌, ◌≢◌, ◌⊎◌, inl, inr, ◌<◌, ℕ, Bool, true, cond, List, Option, Some, None, refl, ap, sym, subst, ◌∙◌, nat_eq, eq-eqb, option_map, length}
-use Rattle.std.proofs.lemmas.Bool.{eqb-true, ne_eqb, and_parts}
+use Rattle.std.proofs.lemmas.Bool.{ne_eqb}
 use Rattle.std.specs.Option.{unwrap_or}
 use Rattle.net_base.specs.declared.names.Key.{Key}
 use Rattle.net_base.specs.declared.values.Party.{Party}
 use Rattle.session_wire.specs.Frames.{AreSides, GoesAt}
 use Rattle.session_wire.specs.Rules.{direction_in, direction_out}
-use Rattle.session_wire.specs.Sessions.{Session, key_eq, session_of}
+use Rattle.session_wire.specs.Sessions.{Session, session_of}
 use Rattle.session_table.specs.Tables.{arrived_at}
 use Rattle.session_frames.specs.Judging.{arrived}
 
 -- parties of one number are one
 pub party_exact : (a b : Party) → a.0 ≡ b.0 → a ≡ b
 party_exact a b e = λ i. record { 0 = e i }
-
--- equal keys are one
-pub key_exact : (a b : Key) → key_eq a b ≡ true → a ≡ b
-key_exact a b e =
-    let both = and_parts (nat_eq a.initiator.0 b.initiator.0) (nat_eq a.number b.number) e in
-    λ i. record { initiator = record { 0 = eqb-true _ _ both.0 i }; number = eqb-true _ _ both.1 i }
 
 -- the sides of a frame and its session, and the direction at which an item goes from the sender to the receiver
 abbrev pub IsRoute : Party → Party → Key → ℕ → Party → Party → Type 0

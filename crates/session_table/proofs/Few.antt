@@ -22,17 +22,17 @@ few_came (Some k) (Some body) owner list = by (is_init body)
     by true = let more = length-append list (new_session k k.initiator owner (body ∷ []) ∷ []) in omega (arith, more)
     by false = let same = length-map list (λ s. cond (key_eq k s.key) (with_came (body ∷ []) s) s) in omega (arith, same)
 
-few_opened : (o : Option (Key × Party)) (owner : Option ℕ) (list : List Session) → length (opened_on o owner list) ≤ length list + 1
-few_opened None owner list = omega arith
-few_opened (Some o) owner list = let more = length-append list (new_session o.0 o.1 owner [] ∷ []) in omega (arith, more)
+pub opened_count : (o : Option (Key × Party)) (owner : Option ℕ) (list : List Session) → length (opened_on o owner list) ≤ length list + 1
+opened_count None owner list = omega arith
+opened_count (Some o) owner list = let more = length-append list (new_session o.0 o.1 owner [] ∷ []) in omega (arith, more)
 
-same_sent : (stamp : ℕ) (items : List SentItem) (list : List Session) → length (sent_on stamp items list) ≡ length list
-same_sent stamp [] list = refl
-same_sent stamp (x ∷ xs) list = same_sent stamp xs (changed_at x.key (with_sent (record { body = x.body; stamp = stamp })) list) ∙ length-map list (λ s. cond (key_eq x.key s.key) (with_sent (record { body = x.body; stamp = stamp }) s) s)
+pub sent_count : (stamp : ℕ) (items : List SentItem) (list : List Session) → length (sent_on stamp items list) ≡ length list
+sent_count stamp [] list = refl
+sent_count stamp (x ∷ xs) list = sent_count stamp xs (changed_at x.key (with_sent (record { body = x.body; stamp = stamp })) list) ∙ length-map list (λ s. cond (key_eq x.key s.key) (with_sent (record { body = x.body; stamp = stamp }) s) s)
 
-same_taken : (o : Option (Key × ℕ)) (list : List Session) → length (taken_on o list) ≡ length list
-same_taken None list = refl
-same_taken (Some t) list = length-map list (λ s. cond (key_eq t.0 s.key) (with_taken t.1 s) s)
+pub taken_count : (o : Option (Key × ℕ)) (list : List Session) → length (taken_on o list) ≡ length list
+taken_count None list = refl
+taken_count (Some t) list = length-map list (λ s. cond (key_eq t.0 s.key) (with_taken t.1 s) s)
 
 -- a change makes two sessions at most
 pub few_after : (stamp : ℕ) (change : SessionChange) (list : List Session) → length (changed_by stamp change list) ≤ length list + 2
@@ -41,9 +41,9 @@ few_after stamp change list =
     let came = came_on change.came_key change.came owner list in
     let begun = opened_on change.opened (Some change.owner) came in
     let first = few_came change.came_key change.came owner list in
-    let second = few_opened change.opened (Some change.owner) came in
-    let third = same_sent stamp change.sent begun in
-    let fourth = same_taken change.taken (sent_on stamp change.sent begun) in
+    let second = opened_count change.opened (Some change.owner) came in
+    let third = sent_count stamp change.sent begun in
+    let fourth = taken_count change.taken (sent_on stamp change.sent begun) in
     omega (arith, first, second, third, fourth)
 
 -- numbers below a thousand have a next one

@@ -8,8 +8,8 @@ use Rattle.session_wire.specs.declared.change.SentItem.{SentItem}
 use Rattle.session_wire.specs.declared.change.SessionChange.{SessionChange}
 use Rattle.session_wire.specs.Sessions.{Session, Sent, key_eq, session_of, changed_at, new_session, with_came, with_sent, opened_on, sent_on}
 use Rattle.session_wire.specs.Rules.{is_init, is_lawful, direction_out, Continues, FitsSent, TakesUpTo}
+use Rattle.session_wire.proofs.Keys.{key_exact}
 use Rattle.session_table.specs.Changes.{came_on, begun_on, is_answered, is_opened, count_of, taken_and_came, answered_for}
-use Rattle.session_table.proofs.Found.{key_exact}
 use Rattle.session_table.proofs.Items.{or_none}
 
 -- what is asked of the session of a key, where one session more stands behind the others
@@ -233,14 +233,6 @@ takes_from list q n taken came counted above below = by (session_of q list) refl
         let first : s.taken ≡ taken = ap (λ p. p.0) pair in
         let second : length s.came ≡ came = ap (λ p. p.1) pair in
         record { session = s; stands = is; above = omega (arith, first, above); below = omega (arith, second, below) }
-
-pub takes_at : (list : List Session) (q : Key) (n taken came : ℕ) → option_map taken_and_came (session_of q list) ≡ Some (taken, came) → TakesUpTo list q n → (taken ≤ n) × (n ≤ came)
-takes_at list q n taken came counted takes =
-    let e : Some (taken_and_came takes.session) ≡ Some (taken, came) = ap (option_map taken_and_came) (sym takes.stands) ∙ counted in
-    let pair : taken_and_came takes.session ≡ (taken, came) = cc e in
-    let first : takes.session.taken ≡ taken = ap (λ p. p.0) pair in
-    let second : length takes.session.came ≡ came = ap (λ p. p.1) pair in
-    (omega (arith, first, takes.above), omega (arith, second, takes.below))
 
 pub takes_none : (list : List Session) (q : Key) (n : ℕ) → option_map taken_and_came (session_of q list) ≡ None → TakesUpTo list q n → ⊥
 takes_none list q n none takes = let e : Some (taken_and_came takes.session) ≡ None = ap (option_map taken_and_came) (sym takes.stands) ∙ none in cc e

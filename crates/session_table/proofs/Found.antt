@@ -1,6 +1,6 @@
 -- Finding a session.
-use Rattle.std.proofs.Common.{◌≡◌, ℕ, Bool, true, false, List, [], ◌∷◌, Some, None, refl, sym, ◌∙◌, ap, rules, cond, map, filter, length, option_map, nat_eq, nat_lt, not, ◌||◌, arith, subst, drop, Result, Ok, OnOk}
-use Rattle.std.proofs.lemmas.Bool.{eqb-true, and_parts, and_from}
+use Rattle.std.proofs.Common.{◌≡◌, ℕ, Bool, true, false, List, [], ◌∷◌, Some, None, refl, sym, ◌∙◌, ap, rules, cond, map, filter, length, option_map, nat_eq, nat_lt, not, ◌||◌, arith, subst, drop}
+use Rattle.std.proofs.lemmas.Bool.{and_parts}
 use Rattle.std.specs.List.{list_all}
 use Rattle.std.specs.Option.{option_map_or, option_and_then}
 use borrow.Author.Tests.{ltb-true}
@@ -10,6 +10,7 @@ use Rattle.net_base.specs.declared.values.Party.{Party}
 use Rattle.session_wire.specs.Sessions.{Session, key_eq, session_of, next_item, first_item}
 use Rattle.session_wire.specs.declared.body.Body.{Body}
 use Rattle.session_wire.specs.Rules.{is_opened_by, opened_by}
+use Rattle.session_wire.proofs.Keys.{key_exact}
 use Rattle.session_table.specs.Kept.{session_at, is_below, items_of, IsCounted}
 use Rattle.session_table.specs.Tables.{item_there}
 use Rattle.session_table.specs.declared.standing.Standing.{Standing}
@@ -18,16 +19,6 @@ use Rattle.session_table.specs.declared.standing.Posted.{Posted}
 
 pub nat_same : (n : ℕ) → nat_eq n n ≡ true
 nat_same n = search rules
-
--- equal keys are one key
-pub key_exact : (a b : Key) → key_eq a b ≡ true → a ≡ b
-key_exact a b e =
-    let both = and_parts (nat_eq a.initiator.0 b.initiator.0) (nat_eq a.number b.number) e in
-    λ i. record { initiator = record { 0 = eqb-true _ _ both.0 i }; number = eqb-true _ _ both.1 i }
-
--- a key is equal to itself
-pub key_same : (k : Key) → key_eq k k ≡ true
-key_same k = and_from _ _ (nat_same k.initiator.0) (nat_same k.number)
 
 -- the session of a key is found where the table finds it
 pub session_found : (sent : List (Place × Posted)) (came : List (Place × Body)) (k : Key) (lines : List (Key × Standing))
@@ -85,7 +76,3 @@ there_ended list k s e found ended = ap (option_and_then (λ s. next_item s s.en
 
 pub there_next : (list : List Session) (k : Key) (s : Session) → session_of k list ≡ Some s → s.ending ≡ None → item_there k list ≡ option_map (λ found. (Some found.0, found.1)) (first_item s.taken (drop s.taken s.came))
 there_next list k s found none = ap (option_and_then (λ s. next_item s s.ending)) found ∙ ap (next_item s) none
-
--- what holds where a call succeeds holds after it did
-pub on_ok : {T E : Type 0} {P : Type 0} (r : Result T E) (v : T) → r ≡ Ok v → OnOk r P → P
-on_ok {T} {E} {P} r v is h = let Q : Result T E → Type 0 = λ s. OnOk s P in subst Q is h

@@ -14,6 +14,7 @@ use Rattle.std.specs.Option.{option_map_or}
 use Rattle.std.specs.Ordering.{nat_cmp}
 use Rattle.net_base.specs.declared.names.Key.{Key}
 use Rattle.net_base.specs.declared.values.Party.{Party}
+use Rattle.net_base.proofs.Lists.{get_map}
 use Rattle.session_wire.specs.declared.body.Body.{Body}
 use Rattle.session_wire.specs.Sessions.{Session, key_eq}
 use Rattle.session_table.specs.Kept.{session_at, IsCounted}
@@ -24,7 +25,7 @@ use Rattle.session_table.specs.declared.standing.Place.{Place}
 use Rattle.session_table.specs.declared.standing.Posted.{Posted}
 use Rattle.session_table.proofs.Found.{nat_same, count_is}
 use Rattle.session_table.proofs.Keeping.{key_laws}
-use Rattle.session_table.proofs.Resending.{item_end, unacked_is, get_map, no_pair, pair_at, pairs_are}
+use Rattle.session_table.proofs.Resending.{item_end, unacked_is, no_pair, pair_at, pairs_are}
 
 -- a number that is below each of a list's is not among them
 below_all : (n : ℕ) (ps : List ℕ) → AllByRecursion (λ p. n < p) ps → list_any (nat_eq n) ps ≡ false

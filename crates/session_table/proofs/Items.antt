@@ -1,14 +1,14 @@
 -- The items of a session among those of all.
-use Rattle.std.proofs.Common.{◌≡◌, ℕ, zero, suc, ◌+◌, Bool, true, false, ◌&&◌, List, [], ◌∷◌, ◌++◌, Option, Some, None, refl, sym, ◌∙◌, ap, cond, length, slice_get, arith, nat_eq, eq-eqb, length-append, true≢false}
+use Rattle.std.proofs.Common.{◌≡◌, ℕ, zero, suc, ◌+◌, Bool, true, false, ◌&&◌, List, [], ◌∷◌, ◌++◌, Option, Some, None, refl, sym, ◌∙◌, ap, cond, length, slice_get, arith, nat_eq, eq-eqb, length-append, true≢false, append-nil}
 use Rattle.std.proofs.lemmas.Bool.{eqb-true, ne_eqb}
 use Rattle.std.specs.Map.{lookup, set_value}
 use Rattle.std.specs.Option.{option_map_or, option_or}
 use Rattle.net_base.specs.declared.names.Key.{Key}
 use Rattle.session_wire.specs.Sessions.{key_eq}
+use Rattle.session_wire.proofs.Keys.{key_exact}
 use Rattle.session_table.specs.Kept.{items_of, place_eq, place_of, IsNumbered, IsCounted}
 use Rattle.session_table.specs.declared.standing.Standing.{Standing}
 use Rattle.session_table.specs.declared.standing.Place.{Place}
-use Rattle.session_table.proofs.Found.{key_exact}
 
 -- one more item joins those of its session
 pub items_more : {V : Type 0} (k : Key) (es : List (Place × V)) (p : Place) (x : V) → items_of k (es ++ (p, x) ∷ []) ≡ items_of k es ++ cond (key_eq k p.key) (x ∷ []) []
@@ -52,10 +52,6 @@ past_end [] n e = refl
 past_end (x ∷ xs) zero e = absurd (omega (arith, e))
 past_end (x ∷ xs) (suc n) e = past_end xs n (omega (arith, e))
 
-pub append_nil : {V : Type 0} (xs : List V) → xs ++ [] ≡ xs
-append_nil [] = refl
-append_nil (x ∷ xs) = ap (λ l. x ∷ l) (append_nil xs)
-
 pub or_none : {V : Type 0} (o : Option V) → option_or o None ≡ o
 or_none None = refl
 or_none (Some x) = refl
@@ -72,7 +68,7 @@ numbered_more {V} items k n x numbered next = λ q m.
     by q m true is =
         let end : n ≡ length (items_of q items) = next ∙ ap (λ (r : Key). length (items_of r items)) (sym (key_exact q k is)) in
         rw is (rw end (at_end (items_of q items) x m))
-    by q m false is = rw is (or_none (slice_get (items_of q items) m) ∙ ap (λ (l : List V). slice_get l m) (sym (append_nil (items_of q items))))
+    by q m false is = rw is (or_none (slice_get (items_of q items) m) ∙ ap (λ (l : List V). slice_get l m) (sym (append-nil (items_of q items))))
 
 -- and that place is free before
 pub place_free : {V : Type 0} (items : List (Place × V)) (k : Key) (n : ℕ) → IsNumbered items → n ≡ length (items_of k items) → lookup (place_eq (place_of k n)) items ≡ None
@@ -107,7 +103,7 @@ counted_more {V} count lines items k n x v w there more counted = λ q. ap lengt
     by q true is =
         let here : length (items_of q items) ≡ count v = ap (λ (r : Key). length (items_of r items)) (key_exact q k is) ∙ counted k ∙ ap (λ (o : Option Standing). option_map_or count o 0) (sym there) in
         rw is (omega (arith, here, more, length-append (items_of q items) (x ∷ [])))
-    by q false is = rw is (ap length (append_nil (items_of q items)) ∙ counted q)
+    by q false is = rw is (ap length (append-nil (items_of q items)) ∙ counted q)
 
 -- no item more, and no count either
 pub counted_same : {V : Type 0} (count : Standing → ℕ) (lines : List (Key × Standing)) (items : List (Place × V)) (k : Key) (v w : Standing) → Some v ≡ lookup (key_eq k) lines → count w ≡ count v → IsCounted count lines items → IsCounted count (set_value (key_eq k) lines w) items

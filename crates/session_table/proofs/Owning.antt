@@ -1,5 +1,5 @@
 -- The sessions of a flow among those of all.
-use Rattle.std.proofs.Common.{◌≡◌, ℕ, ◌+◌, ◌≤◌, Bool, true, false, ◌&&◌, List, [], ◌∷◌, ◌++◌, Option, Some, None, refl, sym, ◌∙◌, ap, cond, map, length, slice_get, arith, nat_eq, eq-eqb, length-append, true≢false}
+use Rattle.std.proofs.Common.{◌≡◌, ℕ, ◌+◌, ◌≤◌, Bool, true, false, ◌&&◌, List, [], ◌∷◌, ◌++◌, Option, Some, None, refl, sym, ◌∙◌, ap, cond, map, length, slice_get, arith, nat_eq, eq-eqb, length-append, true≢false, append-nil}
 use Rattle.std.proofs.lemmas.Bool.{eqb-true, ne_eqb}
 use Rattle.std.proofs.lemmas.List.{append_assoc, map-append}
 use Rattle.std.specs.Map.{lookup}
@@ -14,7 +14,7 @@ use Rattle.session_table.specs.declared.owned.FlowPlace.{FlowPlace}
 use Rattle.session_table.specs.declared.standing.Standing.{Standing}
 use Rattle.session_table.specs.declared.standing.Place.{Place}
 use Rattle.session_table.specs.declared.standing.Posted.{Posted}
-use Rattle.session_table.proofs.Items.{lookup_more, at_end, past_end, append_nil, or_none}
+use Rattle.session_table.proofs.Items.{lookup_more, at_end, past_end, or_none}
 use Rattle.session_table.proofs.Written.{map_set}
 
 -- one more session joins those of its flow
@@ -64,7 +64,7 @@ index_more keys counts after f n key kept at steps = record { numbered = numbere
         by true is =
             let end : n ≡ length (keys_owned q ps) = at ∙ kept.counted f ∙ ap (λ (r : ℕ). length (keys_owned r ps)) (sym (eqb-true q f is)) in
             rw is (rw end (at_end (keys_owned q ps) key m))
-        by false is = rw is (or_none (slice_get (keys_owned q ps) m) ∙ ap (λ (l : List Key). slice_get l m) (sym (append_nil (keys_owned q ps))))
+        by false is = rw is (or_none (slice_get (keys_owned q ps) m) ∙ ap (λ (l : List Key). slice_get l m) (sym (append-nil (keys_owned q ps))))
 
     counted : (q : ℕ) → unwrap_or (lookup (nat_eq q) after) 0 ≡ length (keys_owned q (map pair_of (keys ++ (flow_place f n, key) ∷ [])))
     counted q = ap (λ (o : Option ℕ). unwrap_or o 0) (steps q) ∙ by (nat_eq f q) refl ∙ ap length (sym (more q))
@@ -76,7 +76,7 @@ index_more keys counts after f n key kept at steps = record { numbered = numbere
             rw is (rw same (omega (arith, here, length-append (keys_owned q ps) (key ∷ []))))
         by false is =
             let apart : nat_eq q f ≡ false = ne_eqb q f (λ e. true≢false (sym (eq-eqb f q (sym e)) ∙ is)) in
-            rw is (rw apart (kept.counted q ∙ ap length (sym (append_nil (keys_owned q ps)))))
+            rw is (rw apart (kept.counted q ∙ ap length (sym (append-nil (keys_owned q ps)))))
 
 -- the place of the next session of a flow is free
 pub flow_place_free : (keys : List (FlowPlace × Key)) (counts : List (ℕ × ℕ)) (f n : ℕ) → IsFlowIndex keys counts → n ≡ unwrap_or (lookup (nat_eq f) counts) 0 → lookup (flow_place_eq (flow_place f n)) keys ≡ None
@@ -84,7 +84,7 @@ flow_place_free keys counts f n kept at = kept.numbered f n ∙ past_end (keys_o
 
 -- the sessions that flows own, with one session more
 pub owners_push : (es : List (Key × Option ℕ)) (e : Key × Option ℕ) → owners (es ++ e ∷ []) ≡ owners es ++ owner_pair e.0 e.1
-owners_push [] e = append_nil (owner_pair e.0 e.1)
+owners_push [] e = append-nil (owner_pair e.0 e.1)
 owners_push (d ∷ ds) e = ap (λ (l : List (ℕ × Key)). owner_pair d.0 d.1 ++ l) (owners_push ds e) ∙ sym (append_assoc (owner_pair d.0 d.1) (owners ds) (owner_pair e.0 e.1))
 
 -- they are no more than all

@@ -7,12 +7,12 @@ use Rattle.net_base.specs.declared.values.Party.{Party}
 use Rattle.session_wire.specs.declared.body.Body.{Body}
 use Rattle.session_wire.specs.Sessions.{key_eq}
 use Rattle.session_wire.specs.Rules.{direction_out}
+use Rattle.session_wire.proofs.Keys.{key_exact}
 use Rattle.session_table.specs.Kept.{session_at, acked_to, Rewrites}
 use Rattle.session_table.specs.Tables.{raised}
 use Rattle.session_table.specs.declared.standing.Standing.{Standing}
 use Rattle.session_table.specs.declared.standing.Place.{Place}
 use Rattle.session_table.specs.declared.standing.Posted.{Posted}
-use Rattle.session_table.proofs.Found.{key_exact}
 use Rattle.session_table.proofs.Written.{map_set}
 
 module _ (sent : List (Place × Posted)) (came : List (Place × Body)) (me : Party) (k : Key) (direction upto : ℕ) where

@@ -2,24 +2,12 @@
 use Rattle.std.proofs.Common.{◌≡◌, ℕ, zero, suc, ◌+◌, ◌<◌, ◌≤◌, true, false, List, [], ◌∷◌, ◌++◌, Option, Some, None, Result, Ok, Err, OnOk, refl, sym, ◌∙◌, ap, map, filter, drop, length, slice_get, arith, nat_le, Bor}
 use Rattle.std.proofs.lemmas.Bool.{le-leb, lt-leb}
 use Rattle.std.specs.Prelude.{zip, flat_map, IsSome, option_copied}
-use Rattle.std.proofs.lemmas.List.{append_assoc, length-map}
+use Rattle.std.proofs.lemmas.List.{append_assoc, length-map, drop_all}
 use Rattle.net_base.specs.declared.values.Party.{Party}
+use Rattle.net_base.proofs.Lists.{get_below, get_map, drop_get}
 use Rattle.session_wire.specs.Sessions.{Session, Sent}
 use Rattle.session_table.specs.Tables.{item_of, items_from, unacked_in}
 use Rattle.session_table.specs.declared.resent.Item.{Item}
-
--- what is left behind an element
-pub drop_get : {V : Type 0} (xs : List V) (n : ℕ) (x : V) → slice_get xs n ≡ Some x → drop n xs ≡ x ∷ drop (suc n) xs
-drop_get [] n x e = absurd (cc e)
-drop_get {V} (y ∷ ys) zero x e = let one : Some y ≡ Some x = e in let same : y ≡ x = cc one in ap (λ (z : V). z ∷ ys) same
-drop_get (y ∷ ys) (suc n) x e = drop_get ys n x e
-
--- behind the last nothing is left
-pub drop_all : {V : Type 0} (xs : List V) (n : ℕ) → length xs ≤ n → drop n xs ≡ []
-drop_all [] zero h = refl
-drop_all [] (suc n) h = refl
-drop_all (x ∷ xs) zero h = absurd (omega (arith, h))
-drop_all (x ∷ xs) (suc n) h = drop_all xs n (omega (arith, h))
 
 -- the items from the n-th on are it and those behind it
 pub item_step : (me : Party) (s : Session) (n : ℕ) (x : Sent) → slice_get s.sent n ≡ Some x → items_from me s n (drop n s.sent) ≡ item_of me s n x ∷ items_from me s (n + 1) (drop (n + 1) s.sent)
@@ -29,7 +17,7 @@ item_step me s n x is =
 
 -- and behind the last there are none
 pub item_end : (me : Party) (s : Session) (n : ℕ) → length s.sent ≤ n → items_from me s n (drop n s.sent) ≡ []
-item_end me s n past = ap (items_from me s n) (drop_all s.sent n past)
+item_end me s n past = ap (items_from me s n) (drop_all n s.sent past)
 
 -- items whose numbers begin at n or past it are all at or past n
 all_past : (me : Party) (s : Session) (n m : ℕ) (xs : List Sent) → n ≤ m → filter (λ i. nat_le n i.number) (items_from me s m xs) ≡ items_from me s m xs
@@ -57,11 +45,6 @@ pub zip_maps : {X A B : Type 0} (f : X → A) (g : X → B) (xs : List X) → zi
 zip_maps f g [] = refl
 zip_maps f g (x ∷ xs) = ap (λ l. (f x, g x) ∷ l) (zip_maps f g xs)
 
-pub get_map : {X A : Type 0} (f : X → A) (xs : List X) (n : ℕ) (x : X) → slice_get xs n ≡ Some x → slice_get (map f xs) n ≡ Some (f x)
-get_map f [] n x e = absurd (cc e)
-get_map f (y ∷ ys) zero x e = let one : Some y ≡ Some x = e in let same : y ≡ x = cc one in ap (λ z. Some (f z)) same
-get_map f (y ∷ ys) (suc n) x e = get_map f ys n x e
-
 get_none : {X A : Type 0} (f : X → A) (xs : List X) (n : ℕ) → slice_get xs n ≡ None → slice_get (map f xs) n ≡ None
 get_none f [] n e = refl
 get_none f (y ∷ ys) zero e = absurd (cc e)
@@ -76,14 +59,8 @@ no_pair f g xs n none = ap (λ l. slice_get l n) (zip_maps f g xs) ∙ get_none 
 pub pairs_are : {X A B : Type 0} (f : X → A) (g : X → B) (xs : List X) → length (zip (map f xs) (map g xs)) ≡ length xs
 pairs_are f g xs = ap length (zip_maps f g xs) ∙ length-map xs (λ x. (f x, g x))
 
--- an element below the length is there
-pub get_within : {V : Type 0} (xs : List V) (n : ℕ) → n < length xs → (x : V) × (slice_get xs n ≡ Some x)
-get_within [] n h = absurd (omega (arith, h))
-get_within (x ∷ xs) zero h = (x, refl)
-get_within (x ∷ xs) (suc n) h = get_within xs n (omega (arith, h))
-
 pub is_there : {V : Type 0} (r : Option (Bor V)) (xs : List V) (n : ℕ) → option_copied r ≡ slice_get xs n → n < length xs → IsSome r
-is_there None xs n e h = let at = get_within xs n h in absurd (let none : None ≡ Some at.0 = e ∙ at.1 in cc none)
+is_there None xs n e h = let at = get_below xs n h in absurd (let none : None ≡ Some at.0 = e ∙ at.1 in cc none)
 is_there (Some b) xs n e h = refl
 
 -- what is done, one more, and what is left

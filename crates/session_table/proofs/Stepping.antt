@@ -12,11 +12,12 @@ use Rattle.session_wire.specs.Rules.{is_opened_by, opened_by, next_key, is_init}
 use Rattle.session_table.specs.Changes.{came_on, FitsCame, FitsOpened, acks_of_came, acks_of_opened}
 use Rattle.session_wire.specs.declared.change.SessionChange.{SessionChange}
 use Rattle.session_wire.specs.declared.change.SentItem.{SentItem}
+use Rattle.session_wire.proofs.Keys.{key_exact, key_same}
 use Rattle.session_table.specs.Kept.{is_below, items_of, place_of, sent_of, session_at, IsCounted, Rewrites, one_came, one_sent}
 use Rattle.session_table.specs.declared.standing.Standing.{Standing}
 use Rattle.session_table.specs.declared.standing.Place.{Place}
 use Rattle.session_table.specs.declared.standing.Posted.{Posted}
-use Rattle.session_table.proofs.Found.{nat_same, present, count_is, own_new, session_found, key_same, key_exact}
+use Rattle.session_table.proofs.Found.{nat_same, present, count_is, own_new, session_found}
 use Rattle.session_table.proofs.Written.{written, map_set}
 use Rattle.session_table.proofs.Items.{items_more}
 
@@ -162,15 +163,6 @@ new_line me n sent came lines list k same below other own = by (is_opened_by me 
     by true is = own_new me n k lines below is (own is)
     by false is = gone (lookup (key_eq k) lines) refl (other is)
 
--- no more were opened than there are
-pub filter_le : {X : Type 0} (test : X → Bool) (xs : List X) → length (filter test xs) ≤ length xs
-filter_le test [] = omega arith
-filter_le {X} test (x ∷ xs) = by (test x) (filter_le test xs)
-  where
-    by : (b : Bool) → length (filter test xs) ≤ length xs → length (cond b (x ∷ filter test xs) (filter test xs)) ≤ length (x ∷ xs)
-    by true rest = omega (arith, rest)
-    by false rest = omega (arith, rest)
-
 -- the ending among the first n items is the last of them
 pub ending_found : (came : List Body) (n : ℕ) → (n ≡ 0 → ⊥) → ending_at came n ≡ option_and_then ending_of (slice_get came (n - 1))
 ending_found came zero some = absurd (some refl)
@@ -239,10 +231,6 @@ own_key me list k next = ap (is_opened_by me) next ∙ nat_same me.0
 pub opens_next : (me : Party) (list after : List Session) (sent : List SentItem) (opened : Option (Key × Party)) → opened_by me after ≡ opened_by me list → FitsOpened me list sent opened → FitsOpened me after sent opened
 opens_next me list after sent None same fits = tt
 opens_next me list after sent (Some opened) same fits = record { next = fits.next ∙ ap (λ (n : ℕ). record { initiator = me; number = n }) (sym same); other = fits.other; init = fits.init }
-
-pub nil_end : {V : Type 0} (xs : List V) → xs ++ [] ≡ xs
-nil_end [] = refl
-nil_end (x ∷ xs) = ap (λ l. x ∷ l) (nil_end xs)
 
 -- a change of sessions that keeps their keys loses none
 stands_head : (q : Key) (s t : Session) (ss ts : List Session) → t.key ≡ s.key → is_some (session_of q ts) ≡ is_some (session_of q ss) → is_some (session_of q (t ∷ ts)) ≡ is_some (session_of q (s ∷ ss))

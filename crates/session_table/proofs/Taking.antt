@@ -1,21 +1,16 @@
 -- The first item that may be taken.
 use Rattle.std.proofs.Common.{◌≡◌, ℕ, zero, suc, ◌+◌, ◌<◌, ◌≤◌, true, false, List, [], ◌∷◌, Some, None, refl, ◌∙◌, ap, length, drop, slice_get, arith}
+use Rattle.net_base.proofs.Lists.{drop_get}
 use Rattle.session_wire.specs.declared.body.Body.{Body}
 use Rattle.session_wire.specs.Sessions.{first_item, is_confirm}
 
--- what is left behind an item
-drop_at : (came : List Body) (n : ℕ) (x : Body) → slice_get came n ≡ Some x → drop n came ≡ x ∷ drop (suc n) came
-drop_at [] n x e = absurd (cc e)
-drop_at (y ∷ ys) zero x e = let one : Some y ≡ Some x = e in let same : y ≡ x = cc one in ap (λ (z : Body). z ∷ ys) same
-drop_at (y ∷ ys) (suc n) x e = drop_at ys n x e
-
 -- an item that is no Confirm is the first
 pub at_item : (came : List Body) (n : ℕ) (x : Body) → slice_get came n ≡ Some x → is_confirm x ≡ false → first_item n (drop n came) ≡ Some (n, x)
-at_item came n x e other = ap (first_item n) (drop_at came n x e) ∙ rw other refl
+at_item came n x e other = ap (first_item n) (drop_get came n x e) ∙ rw other refl
 
 -- a Confirm is passed over
 pub at_confirm : (came : List Body) (n : ℕ) (x : Body) → slice_get came n ≡ Some x → is_confirm x ≡ true → first_item n (drop n came) ≡ first_item (n + 1) (drop (n + 1) came)
-at_confirm came n x e confirm = ap (first_item n) (drop_at came n x e) ∙ rw confirm (ap (λ (m : ℕ). first_item (n + 1) (drop m came)) (let up : suc n ≡ n + 1 = omega arith in up))
+at_confirm came n x e confirm = ap (first_item n) (drop_get came n x e) ∙ rw confirm (ap (λ (m : ℕ). first_item (n + 1) (drop m came)) (let up : suc n ≡ n + 1 = omega arith in up))
 
 -- behind the last there is none
 pub past_all : (came : List Body) (n : ℕ) → length came ≤ n → first_item n (drop n came) ≡ None

@@ -4,9 +4,9 @@ use Rattle.std.specs.List.{IsDistinct, AllByRecursion}
 use Rattle.std.specs.Map.{lookup, keys_of, set_value}
 use Rattle.net_base.specs.declared.names.Key.{Key}
 use Rattle.session_wire.specs.Sessions.{Session, key_eq, changed_at}
+use Rattle.session_wire.proofs.Keys.{key_exact}
 use Rattle.session_table.specs.Kept.{Rewrites}
 use Rattle.session_table.specs.declared.standing.Standing.{Standing}
-use Rattle.session_table.proofs.Found.{key_exact}
 
 abbrev Lines : Type 0
 Lines = List (Key × Standing)

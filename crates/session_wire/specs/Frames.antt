@@ -3,7 +3,7 @@ use Rattle.std.proofs.Common.{◌≡◌, ◌≢◌, ◌⊎◌, inl, inr, ◌<◌
 use Rattle.std.specs.Prelude.{nat_eq, ◌||◌}
 use Rattle.std.specs.List.{list_any}
 use Rattle.std.specs.Int.{w32, w64}
-use Rattle.std.proofs.lemmas.Bool.{eqb-true, ne_eqb}
+use Rattle.std.proofs.lemmas.Bool.{eqb-true, ne_eqb, or_right}
 use Rattle.net_base.specs.declared.values.Party.{Party}
 use Rattle.net_base.specs.Reading.{number}
 use Rattle.net_base.specs.Forms.{below_at, number_at}
@@ -134,10 +134,6 @@ route_laws first second =
 or_cases : (a b : Bool) → (a || b) ≡ true → (a ≡ true) ⊎ (b ≡ true)
 or_cases true b e = inl refl
 or_cases false b e = inr e
-
-or_right : (a b : Bool) → b ≡ true → (a || b) ≡ true
-or_right true b e = refl
-or_right false b e = e
 
 one_of_one : (n k : ℕ) → OneOf n (k ∷ []) → n ≡ k
 one_of_one n k h =

@@ -1,12 +1,8 @@
 -- The lines of flows, one more of them written.
 use Rattle.std.proofs.Common.{◌≡◌, ◌++◌, ◌∷◌, [], List, ℕ, zero, suc, ◌+◌, ◌<◌, length, Option, Some, None, MatchOption, slice_get, drop, ◌∙◌, ap, sym, append_assoc, arith}
+use Rattle.net_base.proofs.Lists.{drop_get}
 use Rattle.flow_machine.specs.declared.flows.FlowState.{FlowState}
 use Rattle.net_model.specs.Print.{flow_line, flow_lines}
-
-drop_get : {X : Type 0} (xs : List X) (i : ℕ) (x : X) → slice_get xs i ≡ Some x → drop i xs ≡ x ∷ drop (suc i) xs
-drop_get [] i x e = cc
-drop_get (y ∷ ys) zero x e = cc
-drop_get (y ∷ ys) (suc i) x e = drop_get ys i x e
 
 -- there is something at every place within a list
 got : {X : Type 0} (xs : List X) (i : ℕ) → i < length xs → slice_get xs i ≡ None → ⊥

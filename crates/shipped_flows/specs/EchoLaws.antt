@@ -17,11 +17,11 @@ use Rattle.flow_machine.specs.declared.acts.Resumed.{Resumed}
 use Rattle.flow_machine.specs.declared.acts.Resumed.TheVariants as resumed
 use Rattle.flow_machine.specs.Machine.{Machine}
 use Rattle.flow_machine.specs.Limits.{IsResumed}
+use Rattle.flow_machine.specs.CounterLaws.{code_small}
 use Rattle.shipped_flows.specs.declared.echo.Echo.{Echo}
 use Rattle.shipped_flows.specs.declared.echo.EchoPhase.{EchoPhase}
 use Rattle.shipped_flows.specs.declared.echo.EchoPhase.TheVariants.{Receiving, Sending, Returning, Failing}
 use Rattle.shipped_flows.specs.Lifting.{Weighs, SameOver, IsFair, HasFailed, AreLimited, IsBare}
-use Rattle.shipped_flows.specs.SharedLaws.{code_small}
 use Rattle.shipped_flows.specs.Echo.{begins, begun, one_more, answers, received, sent, next, next_at, weight, weight_at, over, over_at, place_of, phase_of, content, IsEcho, echo_of, echo_at}
 
 -- ---- bytes

@@ -7,6 +7,7 @@ use Rattle.net_base.specs.declared.names.Key.{Key}
 use Rattle.net_base.specs.declared.values.Party.{Party}
 use Rattle.net_base.specs.Reading.{number}
 use Rattle.net_base.specs.Fields.{wide32}
+use Rattle.net_base.proofs.Options.{some_eq}
 use Rattle.ledger_types.specs.declared.value.Value.TheVariants as value
 use Rattle.flow_machine.specs.declared.acts.Act.{Act}
 use Rattle.flow_machine.specs.declared.acts.Act.TheVariants as act
@@ -101,15 +102,11 @@ ping_made args p g e =
     let m = of_made (seen of_ping) (ping.made args p) g e in
     (m.0, (ping_law.made_begins args p m.0 m.1.0, m.1.1))
 
--- what is there is one
-some_is : {X : Type 0} (x y : X) → Some x ≡ Some y → x ≡ y
-some_is x y e = cc
-
 -- the arguments spell the count
 count_is : (to count a n : ℕ) → count < 2 ^ 32 → party_and 4 w32 (to ∷ number w32 count) ≡ Some (a, n) → count ≡ n
 unfolding number
 count_is to count a n small e =
-    let pair : (to, from_be_bytes w32 (to_be_bytes w32 count)) ≡ (a, n) = some_is _ _ e in
+    let pair : (to, from_be_bytes w32 (to_be_bytes w32 count)) ≡ (a, n) = some_eq e in
     sym (wide32.again count small) ∙ ap (λ (z : ℕ × ℕ). z.1) pair
 
 -- the act that opens a session with a number

@@ -21,13 +21,14 @@ use Rattle.ledger_types.specs.declared.value.Value.TheVariants as value
 use Rattle.flow_machine.specs.declared.flow_set.MakeFault.TheVariants as make
 use Rattle.flow_machine.specs.Machine.{Machine}
 use Rattle.flow_machine.specs.Limits.{IsResumed, IsPlace}
+use Rattle.flow_machine.specs.CounterLaws.{given_one, code_small}
 use Rattle.shipped_flows.specs.declared.ping.Ping.{Ping}
 use Rattle.shipped_flows.specs.declared.ping.PingPhase.{PingPhase}
 use Rattle.shipped_flows.specs.declared.ping.PingPhase.TheVariants.{Opening, Receiving, Sending, Returning, Failing}
 use Rattle.shipped_flows.specs.Shared.{word_below, party_and, is_peer, is_there, IsFlagged, flagged_laws}
 use Rattle.shipped_flows.specs.Lifting.{Weighs, SameOver, IsFair, HasFailed, AreLimited, IsBare}
-use Rattle.shipped_flows.specs.SharedLaws.{code_small, peer_small, party_long, given_one}
-use Rattle.shipped_flows.specs.Ping.{worded, spelt_args, begins, made, made_of, failed, receives, sends, counts, opened, received, sent, next, next_at, weight, weight_at, over, over_at, place_of, phase_of, content, size_at, size, IsPing, ping_of, ping_at}
+use Rattle.shipped_flows.specs.SharedLaws.{peer_small, party_long}
+use Rattle.shipped_flows.specs.Ping.{worded, spelt_args, begins, made, made_of, receives, sends, counts, opened, received, sent, next, next_at, weight, weight_at, over, over_at, place_of, phase_of, content, size_at, size, IsPing, ping_of, ping_at}
 
 -- ---- bytes
 
@@ -83,9 +84,6 @@ pub ping_long : (p : Ping) → length (content p) ≡ size p
 ping_long p = long_at p p.key
 
 -- ---- limits
-
-failed_within : {F : Type 0} (within : F → Type 0) (code : ℕ) (p : Ping) → IsPing p → code < 2 ^ 16 → AreLimited IsPing within (failed code p)
-failed_within within code p h small = (h, small)
 
 receives_within : {F : Type 0} (within : F → Type 0) (k : Option Key) (p : Ping) → IsPing p → IfSome k IsKey → AreLimited IsPing within (receives k p)
 receives_within within None p h hk = (h, omega arith)

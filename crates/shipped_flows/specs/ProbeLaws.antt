@@ -19,12 +19,13 @@ use Rattle.flow_machine.specs.declared.acts.Resumed.TheVariants as resumed
 use Rattle.flow_machine.specs.declared.flow_set.MakeFault.TheVariants as make
 use Rattle.flow_machine.specs.Machine.{Machine}
 use Rattle.flow_machine.specs.Limits.{IsResumed, IsPlace}
+use Rattle.flow_machine.specs.CounterLaws.{given_one, code_small}
 use Rattle.shipped_flows.specs.declared.probe.Probe.{Probe}
 use Rattle.shipped_flows.specs.declared.probe.ProbePhase.{ProbePhase}
 use Rattle.shipped_flows.specs.declared.probe.ProbePhase.TheVariants.{Opening, Receiving, Returning, Failing}
 use Rattle.shipped_flows.specs.Shared.{word_below, party_and, is_peer, is_there, IsFlagged, flagged_laws}
 use Rattle.shipped_flows.specs.Lifting.{Weighs, SameOver, IsFair, HasFailed, AreLimited, IsBare}
-use Rattle.shipped_flows.specs.SharedLaws.{code_small, peer_small, party_long, given_one, party_small}
+use Rattle.shipped_flows.specs.SharedLaws.{peer_small, party_long, party_small}
 use Rattle.shipped_flows.specs.Probe.{worded, spelt_args, begins, made, made_of, opened, received, next, next_at, weight, weight_at, over, over_at, place_of, phase_of, content, size_at, size, IsProbe, probe_of, probe_at}
 
 -- ---- bytes

@@ -1,40 +1,15 @@
 -- Lemmas that the laws of all machines share.
-use Rattle.std.specs.Prelude.{◌≡◌, ℕ, suc, ◌+◌, ◌<◌, ◌^◌, ◌==◌, not, nat_lt, List, [], ◌∷◌, length, Bool, true, false, refl, if◌then◌else◌, Some, None, Option, Result, Ok, Err}
+use Rattle.std.specs.Prelude.{◌≡◌, ℕ, suc, ◌+◌, ◌<◌, ◌^◌, ◌==◌, not, nat_lt, List, [], ◌∷◌, length, Bool, true, false, refl, if◌then◌else◌, Some, None, Option}
 use Rattle.std.proofs.Common.{arith, ap}
 use Rattle.std.proofs.lemmas.Bool.{eqb-true, and_parts, ltb-true}
 use Rattle.std.specs.Int.{Width, w16, from_be_bytes}
 use Rattle.net_base.specs.Reading.{IsBytes}
 use Rattle.net_base.specs.Fields.{wide16}
-use Rattle.ledger_types.specs.declared.verdict.Verdict.{Verdict}
 use Rattle.ledger_types.specs.declared.verdict.Verdict.TheVariants as verdict
 use Rattle.flow_machine.specs.declared.acts.Place.{Place}
-use Rattle.flow_machine.specs.declared.acts.Resumed.{Resumed}
 use Rattle.flow_machine.specs.declared.acts.Resumed.TheVariants as resumed
-use Rattle.flow_machine.specs.Limits.{IsResumed, IsPlace}
-use Rattle.flow_machine.specs.Unnamed.{unnamed_code, verdict_code}
+use Rattle.flow_machine.specs.Limits.{IsPlace}
 use Rattle.shipped_flows.specs.Shared.{sized, beside, party_and, is_peer}
-
--- what was given under a test was given because the test holds
-pub given : {X E : Type 0} (test : Bool) (r : Result X E) (fault : E) (x : X) → (if test then r else Err fault) ≡ Ok x → (test ≡ true) × (r ≡ Ok x)
-given true r fault x e = (refl, e)
-given false r fault x e = absurd cc
-
--- what was given is the one value that the test lets through
-pub given_one : {X E : Type 0} (test : Bool) (x y : X) (fault : E) → (if test then Ok x else Err fault) ≡ Ok y → (test ≡ true) × (x ≡ y)
-given_one true x y fault e = (refl, cc)
-given_one false x y fault e = absurd cc
-
-verdict_small : (v : Verdict) → verdict_code v < 2 ^ 16
-verdict_small verdict.Accepted = omega arith
-verdict_small (verdict.Broken rule) = omega arith
-verdict_small (verdict.Refused contract clause) = omega arith
-verdict_small (verdict.NoContract id) = omega arith
-
--- a code by which a frame fails has 16 bits
-pub code_small : (with : Resumed) → IsResumed with → unnamed_code with < 2 ^ 16
-code_small (resumed.Refused code) h = h
-code_small (resumed.Verdict v) h = verdict_small v
-code_small other h = omega arith
 
 -- another node is a party
 pub peer_small : (to : ℕ) (at : Place) → IsPlace at → is_peer to at ≡ true → to < 16

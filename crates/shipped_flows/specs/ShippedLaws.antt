@@ -9,6 +9,7 @@ use Rattle.net_base.specs.Reading.{number}
 use Rattle.net_base.specs.Laws.{Laws}
 use Rattle.net_base.specs.Combining.{mapped_at, mapped_laws, pair_laws}
 use Rattle.net_base.specs.Kinds.{between_laws, cases_laws, kinds_of}
+use Rattle.net_base.proofs.Options.{of_ok}
 use Rattle.flow_machine.specs.declared.acts.Act.{Act}
 use Rattle.flow_machine.specs.declared.acts.Place.{Place}
 use Rattle.flow_machine.specs.declared.acts.Resumed.{Resumed}
@@ -338,11 +339,6 @@ worded_short class args =
 if_made : {X E : Type 0} (Q : Type 0) (r : Result X E) → ((x : X) → r ≡ Ok x → Q) → IfOk r (λ x. Q)
 if_made Q (Ok x) h = h x refl
 if_made Q (Err e) h = tt
-
--- what holds of what is given holds, where it is given
-of_ok : {X E : Type 0} (Q : Type 0) (r : Result X E) (x : X) → r ≡ Ok x → IfOk r (λ y. Q) → Q
-of_ok Q (Ok y) x e h = h
-of_ok Q (Err fault) x e h = absurd cc
 
 made_short : (class : ℕ) (args : List ℕ) (at : Place) → IfOk (made class args at) (λ begun. length args ≤ 65535)
 made_short class args at =

@@ -1,11 +1,11 @@
 -- What is stored is within its limits, and so is what references name.
-use Rattle.std.proofs.Common.{◌≡◌, ℕ, zero, suc, Bool, true, false, List, [], ◌∷◌, ◌++◌, Option, Some, None, Bor, cond, find, option_map, option_and_then, slice_get, sym, subst}
+use Rattle.std.proofs.Common.{◌≡◌, Bool, true, false, List, [], ◌∷◌, ◌++◌, Option, Some, None, Bor, cond, find, option_map, option_and_then, slice_get, sym, subst}
 use Rattle.std.specs.Prelude.{IfSome}
 use Rattle.std.specs.List.{AllByRecursion}
 use Rattle.std.specs.Option.{option_copied}
-use Rattle.std.specs.Map.Iter.{deref_pair}
 use Rattle.net_base.specs.declared.values.Hash32.{Hash32}
 use Rattle.net_base.specs.declared.names.StateRef.{StateRef}
+use Rattle.net_base.proofs.Lists.{all_get}
 use Rattle.ledger_types.specs.declared.state.TxState.{TxState}
 use Rattle.ledger_types.specs.declared.tx.SignedTx.{SignedTx}
 use Rattle.ledger_types.specs.Names.{hash_eq}
@@ -37,24 +37,13 @@ pub lent_within : (o : Option (Bor SignedTx)) (x : Option SignedTx) → option_c
 lent_within None x e h = tt
 lent_within (Some b) x e h = subst (λ (y : Option SignedTx). IfSome y IsSignedTx) (sym e) h
 
--- what all of a list have, that at a place has
-all_at : {X : Type 0} (P : X → Type 0) (xs : List X) (i : ℕ) (x : X) → AllByRecursion P xs → slice_get xs i ≡ Some x → P x
-all_at P [] i x h e = cc
-all_at P (y ∷ xs) zero x h e = let same : y ≡ x = cc in subst P same h.0
-all_at P (y ∷ xs) (suc i) x h e = all_at P xs i x h.1 e
-
--- what is lent of a place is within its limits
-pub placed_within : (list : List Recorded) (i : ℕ) (o : Option (Bor Hash32 × Bor SignedTx)) → AreWithin list → option_map deref_pair o ≡ slice_get list i → IfSome o (λ p. IsSignedTx p.1.now)
-placed_within list i None h e = tt
-placed_within list i (Some p) h e = all_at (λ q. IsSignedTx q.1) list i (deref_pair p) h (sym e)
-
 -- a state that is had is within its limits
 state_within : (store : List Recorded) (r : StateRef) (state : TxState) → AreWithin store → state_of store r ≡ Some state → IsTxState state
 state_within store r state h e = by (stored_of store r.id) (stored_within store r.id h) e
   where
     by : (o : Option SignedTx) → IfSome o IsSignedTx → option_and_then (λ stx. slice_get stx.tx.outputs r.index) o ≡ Some state → IsTxState state
     by None k f = absurd cc
-    by (Some stx) k f = all_at IsTxState stx.tx.outputs r.index state k.0.1.1.0.1 f
+    by (Some stx) k f = all_get IsTxState stx.tx.outputs r.index state k.0.1.1.0.1 f
 
 -- so are all of a list
 pub states_within : (store : List Recorded) (refs : List StateRef) (states : List TxState) → AreWithin store → states_of store refs ≡ Some states → AllByRecursion IsTxState states

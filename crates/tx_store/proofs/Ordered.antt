@@ -1,6 +1,6 @@
 -- Look-ups in a store, and what recording in order gives.
-use Rattle.std.proofs.Common.{◌≡◌, Result, Ok, OnOk, ℕ, Bool, true, false, ◌&&◌, ◌||◌, not, List, [], ◌∷◌, ◌++◌, Option, Some, None, refl, sym, ◌∙◌, ap, subst, rules, cond, true≢false, is_some, option_map, find, append_assoc, nat_eq}
-use Rattle.std.proofs.lemmas.Bool.{eqb-true, and_parts, and_from}
+use Rattle.std.proofs.Common.{◌≡◌, ℕ, Bool, true, false, ◌&&◌, ◌||◌, not, List, [], ◌∷◌, ◌++◌, Option, Some, None, refl, sym, ◌∙◌, ap, subst, rules, cond, true≢false, is_some, option_map, find, append_assoc, nat_eq}
+use Rattle.std.proofs.lemmas.Bool.{and_parts, and_from}
 use Rattle.std.proofs.lemmas.List.Folds.{list_any-append}
 use Rattle.std.specs.List.{list_all}
 use Rattle.std.specs.Map.{lookup}
@@ -11,23 +11,11 @@ use Rattle.ledger_types.specs.declared.tx.SignedTx.{SignedTx}
 use Rattle.ledger_types.specs.Names.{hash_eq}
 use Rattle.ledger_types.specs.Signatures.{tx_id}
 use Rattle.ledger_types.specs.Stores.{stored_of, is_stored}
+use Rattle.ledger_types.proofs.Names.{hash_exact}
 use Rattle.tx_store.specs.Stored.{refs_of, all_stored, has_dependencies, may_follow, may_all_follow, is_in_order, is_named, leads_back}
 
 abbrev Recorded : Type 0
 Recorded = Hash32 × SignedTx
-
--- equal lists of numbers are one list
-list_exact : (xs ys : List ℕ) → pointwise nat_eq xs ys ≡ true → xs ≡ ys
-list_exact [] [] e = refl
-list_exact [] (y ∷ ys) e = absurd (true≢false (sym e))
-list_exact (x ∷ xs) [] e = absurd (true≢false (sym e))
-list_exact (x ∷ xs) (y ∷ ys) e =
-    let both = and_parts (nat_eq x y) (pointwise nat_eq xs ys) e in
-    λ i. eqb-true x y both.0 i ∷ list_exact xs ys both.1 i
-
--- equal ids are one id
-pub hash_exact : (a b : Hash32) → hash_eq a b ≡ true → a ≡ b
-hash_exact a b e = λ i. record { 0 = list_exact a.0 b.0 e i }
 
 -- an id is equal to itself
 pub hash_same : (xs : List ℕ) → pointwise nat_eq xs xs ≡ true
@@ -122,6 +110,3 @@ back_chain_stored store ordered (Some stx) id is (next ∷ ids) h =
 pub none_is : {X : Type 0} (o : Option X) → is_some o ≡ false → o ≡ None
 none_is None e = refl
 none_is (Some x) e = absurd (true≢false e)
-
-pub on_ok : {T E : Type 0} {P : Type 0} (r : Result T E) (v : T) → r ≡ Ok v → OnOk r P → P
-on_ok {T} {E} {P} r v is h = let Q : Result T E → Type 0 = λ s. OnOk s P in subst Q is h

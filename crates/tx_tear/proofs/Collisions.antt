@@ -5,19 +5,17 @@ use Rattle.std.specs.List.{AllByRecursion, Contains, flat_map}
 use Rattle.std.proofs.lemmas.Bool.{cases_lt}
 use Rattle.std.proofs.lemmas.Nat.{pow_pos}
 use Rattle.std.proofs.lemmas.List.{length-append, take_at, drop_at, take-append-drop, get_or-take}
+use Rattle.net_base.proofs.Lists.{all_drop, all_take, all_front}
 use Rattle.sha2.specs.Sha256.{sha256}
 use Rattle.component_merkle.specs.Merkle.{halves, padded, depth, root_of, group_of, zeros}
+use Rattle.component_merkle.proofs.Rooted.{length-padded}
 use Rattle.ledger_types.specs.declared.torn.TornPart.{TornPart}
 use Rattle.tx_tear.specs.Agreement.{Are32}
 use Rattle.ledger_types.specs.declared.torn.TornGroup.TheVariants.{Shown}
 use Rattle.tx_tear.specs.Hashed.{AreApart, Includes, hashed_by_halves, hashed_for_root, hashed_for_leaf, hashed_for_group, leaf}
-use Rattle.tx_tear.proofs.Lengths.{all_take, all_drop, fits, length_digest, length_left, length_right, length_padded, long_padded, long_halves, root_halves}
+use Rattle.tx_tear.proofs.Lengths.{fits, length_digest, length_left, length_right, long_padded, long_halves, root_halves}
 
 -- ---- lists
-
-pub all_left : {A : Type 0} (P : A → Type 0) (xs ys : List A) → AllByRecursion P (xs ++ ys) → AllByRecursion P xs
-all_left P [] ys h = tt
-all_left P (x ∷ xs) ys h = (h.0, all_left P xs ys h.1)
 
 pub all_right : {A : Type 0} (P : A → Type 0) (xs ys : List A) → AllByRecursion P (xs ++ ys) → AllByRecursion P ys
 all_right P [] ys h = h
@@ -93,7 +91,7 @@ module _ (hashed : List (List ℕ)) (h : AreApart hashed) where
 
   -- what is hashed for the halves
   pub in_left : (d : ℕ) (xs : List (List ℕ)) → Inside hashed (hashed_by_halves (suc d) xs) → Inside hashed (hashed_by_halves d (take (2 ^ d) xs))
-  in_left d xs i = all_left (Contains hashed) (hashed_by_halves d (take (2 ^ d) xs)) (hashed_by_halves d (drop (2 ^ d) xs)) i.1
+  in_left d xs i = all_front (Contains hashed) (hashed_by_halves d (take (2 ^ d) xs)) (hashed_by_halves d (drop (2 ^ d) xs)) i.1
 
   pub in_right : (d : ℕ) (xs : List (List ℕ)) → Inside hashed (hashed_by_halves (suc d) xs) → Inside hashed (hashed_by_halves d (drop (2 ^ d) xs))
   in_right d xs i = all_right (Contains hashed) (hashed_by_halves d (take (2 ^ d) xs)) (hashed_by_halves d (drop (2 ^ d) xs)) i.1
@@ -174,7 +172,7 @@ module _ (hashed : List (List ℕ)) (h : AreApart hashed) where
       let wide : length xs ≤ 2 ^ depth (length xs) = fits (length xs) in
       let at_one : (n : ℕ) → n ≡ e → length xs ≤ 2 ^ n → Inside hashed (hashed_by_halves n (padded n xs)) → halves n (padded n xs) ≡ halves e (padded e ys) → padded n xs ≡ padded e ys =
       λ n is. subst (λ (k : ℕ). length xs ≤ 2 ^ k → Inside hashed (hashed_by_halves k (padded k xs)) → halves k (padded k xs) ≡ halves e (padded e ys) → padded k xs ≡ padded e ys) (sym is)
-      (λ w i s. halves_same e (padded e xs) (padded e ys) (length_padded e xs w) (length_padded e ys (fits (length ys))) (long_padded e xs lx) (long_padded e ys ly) i iy s) in
+      (λ w i s. halves_same e (padded e xs) (padded e ys) (length-padded e xs w) (length-padded e ys (fits (length ys))) (long_padded e xs lx) (long_padded e ys ly) i iy s) in
       at_one (depth (length xs)) alike wide ix halves_are
 
   -- ---- leaves and groups
@@ -197,7 +195,7 @@ module _ (hashed : List (List ℕ)) (h : AreApart hashed) where
   leaves_not_zero (p ∷ ps) i = (λ e. h.not_zeros (sha256 (p.nonce.0 ++ p.bytes)) i.1.0 e, leaves_not_zero ps i.1.1)
 
   in_leaves : (ps : List TornPart) → Inside hashed (hashed_for_group (Shown ps)) → Inside hashed (flat_map hashed_for_leaf ps)
-  in_leaves ps i = all_left (Contains hashed) (flat_map hashed_for_leaf ps) (hashed_for_root (map leaf ps)) i
+  in_leaves ps i = all_front (Contains hashed) (flat_map hashed_for_leaf ps) (hashed_for_root (map leaf ps)) i
 
   -- the tree over the leaves of a group that has a part
   tree_over : (p : TornPart) (ps : List TornPart) → Inside hashed (hashed_for_group (Shown (p ∷ ps)))
@@ -206,7 +204,7 @@ module _ (hashed : List (List ℕ)) (h : AreApart hashed) where
       let xs = map leaf (p ∷ ps) in
       let leaves = in_leaves (p ∷ ps) i in
       record {
-        wide = length_padded (depth (length xs)) xs (fits (length xs));
+        wide = length-padded (depth (length xs)) xs (fits (length xs));
         long = long_padded (depth (length xs)) xs (long_leaves (p ∷ ps));
         all = all_right (Contains hashed) (flat_map hashed_for_leaf (p ∷ ps)) (hashed_for_root xs) i;
         has = leaves.1.0;

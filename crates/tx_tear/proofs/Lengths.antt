@@ -1,32 +1,19 @@
 -- Hashes have 32 bytes: digests, roots, values of groups.
-use Rattle.std.proofs.Common.{◌≡◌, inl, inr, ℕ, zero, suc, ◌+◌, ◌-◌, ◌*◌, ◌≤◌, ◌^◌, false, List, [], ◌∷◌, ◌++◌, length, take, drop, replicate, nat_le, refl, ◌∙◌, ap, arith}
+use Rattle.std.proofs.Common.{◌≡◌, inl, inr, ℕ, zero, suc, ◌+◌, ◌-◌, ◌*◌, ◌≤◌, ◌^◌, false, List, [], ◌∷◌, length, take, drop, replicate, nat_le, refl, ◌∙◌, ap, arith}
 use Rattle.std.specs.Prelude.{slice_index}
 use Rattle.std.specs.List.{AllByRecursion}
 use Rattle.std.specs.Int.{w32, to_be_bytes}
 use Rattle.std.proofs.lemmas.Bool.{cases_lt, le-leb}
 use Rattle.std.proofs.lemmas.Bool.Decides.{nat_tests}
-use Rattle.std.proofs.lemmas.Nat.{pow_pos}
-use Rattle.std.proofs.lemmas.List.{length-append, length-replicate, length-take-le, length-drop}
+use Rattle.std.proofs.lemmas.List.{length-append, length-take-le, length-drop}
+use Rattle.net_base.proofs.Lists.{all_append}
 use Rattle.sha2.specs.Sha256.{sha256, digest_bytes}
 use Rattle.component_merkle.specs.Merkle.{halves, padded, depth, depth_from, root_of, group_of, zeros}
+use Rattle.component_merkle.proofs.Rooted.{length-padded, below_pow}
 use Rattle.ledger_types.specs.Ids.{leaves_from, value_of, values_from}
 use Rattle.tx_tear.specs.Agreement.{Are32}
 
 -- ---- lists
-
-pub all_take : {A : Type 0} (P : A → Type 0) (n : ℕ) (xs : List A) → AllByRecursion P xs → AllByRecursion P (take n xs)
-all_take P zero xs h = tt
-all_take P (suc n) [] h = tt
-all_take P (suc n) (x ∷ xs) h = (h.0, all_take P n xs h.1)
-
-pub all_drop : {A : Type 0} (P : A → Type 0) (n : ℕ) (xs : List A) → AllByRecursion P xs → AllByRecursion P (drop n xs)
-all_drop P zero xs h = h
-all_drop P (suc n) [] h = tt
-all_drop P (suc n) (x ∷ xs) h = all_drop P n xs h.1
-
-pub all_append : {A : Type 0} (P : A → Type 0) (xs ys : List A) → AllByRecursion P xs → AllByRecursion P ys → AllByRecursion P (xs ++ ys)
-all_append P [] ys h k = k
-all_append P (x ∷ xs) ys h k = (h.0, all_append P xs ys h.1 k)
 
 pub all_replicate : {A : Type 0} (P : A → Type 0) (n : ℕ) (x : A) → P x → AllByRecursion P (replicate n x)
 all_replicate P zero x h = tt
@@ -51,10 +38,6 @@ length_digest m = length_words _ 8
 pow_double : (d : ℕ) → 2 ^ suc d ≡ 2 * 2 ^ d
 pow_double d = omega arith
 
-below_pow : (n : ℕ) → n ≤ 2 ^ n
-below_pow zero = omega arith
-below_pow (suc n) = omega (arith, below_pow n, pow_double n, pow_pos n)
-
 fits_from : (fuel d n : ℕ) → n ≤ 2 ^ (d + fuel) → n ≤ 2 ^ depth_from fuel d n
 fits_from zero d n le = let same : d + 0 ≡ d = omega arith in rw (← same) le
 fits_from (suc fuel) d n le =
@@ -69,9 +52,6 @@ fits_from (suc fuel) d n le =
 -- a list is no longer than a tree of its depth is wide
 pub fits : (n : ℕ) → n ≤ 2 ^ depth n
 fits n = let sum : 0 + n ≡ n = omega arith in fits_from n 0 n (rw sum (below_pow n))
-
-pub length_padded : (d : ℕ) (xs : List (List ℕ)) → length xs ≤ 2 ^ d → length (padded d xs) ≡ 2 ^ d
-length_padded d xs le = omega (arith, length-append xs (replicate (2 ^ d - length xs) zeros), length-replicate (2 ^ d - length xs) zeros)
 
 pub long_padded : (d : ℕ) (xs : List (List ℕ)) → Are32 xs → Are32 (padded d xs)
 long_padded d xs h = all_append _ xs (replicate (2 ^ d - length xs) zeros) h (all_replicate _ (2 ^ d - length xs) zeros refl)
@@ -99,7 +79,7 @@ root_halves (x ∷ xs) = refl
 pub long_root : (xs : List (List ℕ)) → Are32 xs → length (root_of xs) ≡ 32
 long_root xs h =
     let d = depth (length xs) in
-    ap length (root_halves xs) ∙ long_halves d (padded d xs) (length_padded d xs (fits (length xs))) (long_padded d xs h)
+    ap length (root_halves xs) ∙ long_halves d (padded d xs) (length-padded d xs (fits (length xs))) (long_padded d xs h)
 
 pub long_group : (xs : List (List ℕ)) → Are32 xs → length (group_of xs) ≡ 32
 unfolding group_of

@@ -2,7 +2,7 @@
 use Rattle.std.proofs.Common.{◌≡◌, ℕ, zero, suc, ◌+◌, ◌≤◌, List, [], ◌∷◌, length, take, map, Option, Some, None, option_to_list, refl, sym, ap, subst, ◌∙◌, arith}
 use Rattle.std.specs.Prelude.{IfSome}
 use Rattle.std.specs.List.{AllByRecursion}
-use Rattle.std.specs.Int.{w32, w64}
+use Rattle.std.specs.Int.{w32}
 use Rattle.std.proofs.lemmas.List.{length-append, length-map}
 use Rattle.net_base.specs.Reading.{number}
 use Rattle.net_base.specs.Forms.{ListWithin, option_of}
@@ -11,15 +11,17 @@ use Rattle.net_base.specs.declared.values.Moment.{Moment}
 use Rattle.net_base.specs.declared.values.Hash32.{Hash32}
 use Rattle.net_base.specs.Values.{moment, party}
 use Rattle.net_base.specs.Names.{IsStateRef, state_ref}
+use Rattle.net_base.proofs.Lists.{all_take}
 use Rattle.ledger_types.specs.declared.tx.Tx.{Tx}
 use Rattle.ledger_types.specs.declared.tx.Window.{Window}
 use Rattle.ledger_types.specs.declared.torn.TornGroup.{TornGroup}
 use Rattle.ledger_types.specs.Txs.{IsTx, window}
 use Rattle.ledger_types.specs.Ids.{groups, present, id_of, values_from, kept}
 use Rattle.ledger_types.specs.Torn.{IsTornPart, IsTornGroup, AreGroups, IsTornTx, shown_of, shown_in}
+use Rattle.ledger_types.proofs.Sizes.{length-number32, length-number64}
 use Rattle.tx_tear.specs.Tearing.{parts_from, shown_group, torn_from}
 use Rattle.tx_tear.proofs.Groups.{truncated}
-use Rattle.tx_tear.proofs.Lengths.{all_take, length_digest, long_root, long_value, long_values}
+use Rattle.tx_tear.proofs.Lengths.{length_digest, long_root, long_value, long_values}
 
 -- ---- sizes of components
 
@@ -27,20 +29,12 @@ use Rattle.tx_tear.proofs.Lengths.{all_take, length_digest, long_root, long_valu
 abbrev IsSmall : List ℕ → Type 0
 IsSmall bytes = length bytes ≤ 64
 
-length_number32 : (n : ℕ) → length (number w32 n) ≡ 4
-unfolding number
-length_number32 n = refl
-
-length_number64 : (n : ℕ) → length (number w64 n) ≡ 8
-unfolding number
-length_number64 n = refl
-
 small_ref : (r : StateRef) → IsStateRef r → IsSmall (state_ref r)
-small_ref r h = omega (arith, length-append r.id.0 (number w32 r.index), length_number32 r.index, h.0)
+small_ref r h = omega (arith, length-append r.id.0 (number w32 r.index), length-number32 r.index, h.0)
 
 length_moment : (o : Option Moment) → length (option_of moment o) ≤ 9
 length_moment None = omega arith
-length_moment (Some m) = omega (arith, length_number64 m.0)
+length_moment (Some m) = omega (arith, length-number64 m.0)
 
 small_window : (w : Window) → IsSmall (window w)
 small_window w = omega (arith, length-append (option_of moment w.from) (option_of moment w.until), length_moment w.from, length_moment w.until)

@@ -4,16 +4,18 @@ use Rattle.std.specs.Prelude.{slice_index_or, IfSome}
 use Rattle.std.specs.List.{AllByRecursion, Contains, flat_map, slice_get}
 use Rattle.std.proofs.lemmas.Bool.{cases_lt}
 use Rattle.std.proofs.lemmas.List.{length-map}
+use Rattle.net_base.proofs.Lists.{all_drop, all_take, all_front}
 use Rattle.sha2.specs.Sha256.{sha256}
 use Rattle.component_merkle.specs.Merkle.{halves, padded, depth, root_of, group_of, zeros}
+use Rattle.component_merkle.proofs.Rooted.{length-padded}
 use Rattle.ledger_types.specs.declared.torn.TornPart.{TornPart}
 use Rattle.ledger_types.specs.declared.torn.TornGroup.{TornGroup}
 use Rattle.ledger_types.specs.declared.torn.TornGroup.TheVariants.{Hidden, Shown}
 use Rattle.ledger_types.specs.Tears.{group_value, parts_of}
 use Rattle.tx_tear.specs.Agreement.{Are32}
 use Rattle.tx_tear.specs.Hashed.{AreApart, hashed_by_halves, hashed_for_root, hashed_for_group, leaf}
-use Rattle.tx_tear.proofs.Lengths.{all_take, all_drop, fits, length_digest, length_left, length_right, length_padded, long_padded, long_group, root_halves}
-use Rattle.tx_tear.proofs.Collisions.{Inside, Nonces32, bytes_of, all_left, all_right, long_leaves, in_left, in_right, long_left, long_right, node_same, not_node, one_root, parts_same, some_not_zeros, some_not_pads}
+use Rattle.tx_tear.proofs.Lengths.{fits, length_digest, length_left, length_right, long_padded, long_group, root_halves}
+use Rattle.tx_tear.proofs.Collisions.{Inside, Nonces32, bytes_of, all_right, long_leaves, in_left, in_right, long_left, long_right, node_same, not_node, one_root, parts_same, some_not_zeros, some_not_pads}
 
 -- ---- the group at a place
 
@@ -55,7 +57,7 @@ pub record IsSound (hashed : List (List ℕ)) (g : TornGroup) : Type 0 where
 pub sound : (hashed : List (List ℕ)) (gs : List TornGroup) → AllByRecursion IsSized gs → Inside hashed (flat_map hashed_for_group gs) → AllByRecursion (IsSound hashed) gs
 sound hashed [] sized all = tt
 sound hashed (g ∷ gs) sized all = (
-  record { sized = sized.0; all = all_left (Contains hashed) (hashed_for_group g) (flat_map hashed_for_group gs) all },
+  record { sized = sized.0; all = all_front (Contains hashed) (hashed_for_group g) (flat_map hashed_for_group gs) all },
   sound hashed gs sized.1 (all_right (Contains hashed) (hashed_for_group g) (flat_map hashed_for_group gs) all),
 )
 
@@ -153,7 +155,7 @@ module _ (hashed : List (List ℕ)) (h : AreApart hashed) where
   seventh_pads xs vs n m lx ly ix iy e =
       let pads = nine_padded vs m in
       let ys = padded 4 vs in
-      let wide : length ys ≡ 16 = length_padded 4 vs (omega arith) in
+      let wide : length ys ≡ 16 = length-padded 4 vs (omega arith) in
       let long = long_padded 4 vs ly in
       let inner = in_right hashed h 3 ys iy in
       let last : Inside hashed (hashed_by_halves 2 (drop 4 (drop 8 ys))) = in_right hashed h 2 (drop 8 ys) inner in
@@ -199,8 +201,8 @@ module _ (hashed : List (List ℕ)) (h : AreApart hashed) where
       let low' : length ws ≤ 2 ^ 4 = subst (λ (d : ℕ). length ws ≤ 2 ^ d) dh (fits (length ws)) in
       record {
         sound_gs = sg;
-        eight = length_padded 3 vs low;
-        sixteen = length_padded 4 ws low';
+        eight = length-padded 3 vs low;
+        sixteen = length-padded 4 ws low';
         long_gs = long_values gs (sizes hashed gs sg);
         long_hs = long_values hs (sizes hashed hs sh);
         in_gs = subst (λ (d : ℕ). Inside hashed (hashed_by_halves d (padded d vs))) dg ig;

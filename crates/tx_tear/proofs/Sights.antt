@@ -9,6 +9,7 @@ use Rattle.net_base.specs.declared.values.Hash32.{Hash32}
 use Rattle.net_base.specs.declared.values.Party.{Party}
 use Rattle.net_base.specs.Values.{party_at, party_laws}
 use Rattle.net_base.specs.Names.{state_ref_at, state_ref_laws}
+use Rattle.net_base.proofs.Lists.{all_front}
 use Rattle.component_merkle.specs.Merkle.{root_of}
 use Rattle.ledger_types.specs.declared.tx.Command.{Command}
 use Rattle.ledger_types.specs.declared.tx.Tx.{Tx}
@@ -29,7 +30,7 @@ use Rattle.tx_tear.proofs.Groups.{value_shown, components_of, present_at}
 use Rattle.tx_tear.proofs.Spelling.{spelt_of}
 use Rattle.tx_tear.proofs.Shows.{one_of, all_of, together, shown_together}
 use Rattle.tx_tear.proofs.Lengths.{length_digest}
-use Rattle.tx_tear.proofs.Collisions.{Inside, Nonces32, bytes_of, inside, all_left, all_right}
+use Rattle.tx_tear.proofs.Collisions.{Inside, Nonces32, bytes_of, inside, all_right}
 use Rattle.tx_tear.proofs.Places.{IsSized, IsSound, sound, same_bytes, same_bytes_named}
 
 -- ---- a transaction's groups, each shown
@@ -187,7 +188,7 @@ root_shown tx = ap root_of (values_shown tx.salt.0 0 (present (groups tx)))
 -- the groups of a tear-off are sound, and all that is hashed for their root is there
 sound_torn : (hashed : List (List ℕ)) (torn : TornTx) → Includes hashed (hashed_for_torn torn) → IsTornTx torn → AllByRecursion (IsSound hashed) torn.groups
 sound_torn hashed torn has within =
-    sound hashed torn.groups (sized_torn torn.groups within.1.0.1) (all_left (Contains hashed) (flat_map hashed_for_group torn.groups) (hashed_for_root (map group_value torn.groups)) (in_torn torn hashed has))
+    sound hashed torn.groups (sized_torn torn.groups within.1.0.1) (all_front (Contains hashed) (flat_map hashed_for_group torn.groups) (hashed_for_root (map group_value torn.groups)) (in_torn torn hashed has))
 
 root_torn : (hashed : List (List ℕ)) (torn : TornTx) → Includes hashed (hashed_for_torn torn) → Inside hashed (hashed_for_root (map group_value torn.groups))
 root_torn hashed torn has = all_right (Contains hashed) (flat_map hashed_for_group torn.groups) (hashed_for_root (map group_value torn.groups)) (in_torn torn hashed has)
@@ -201,7 +202,7 @@ components_same hashed tx torn seen apart has_tx has_torn command within same is
     let list : Listed (present (groups tx)) = listed_by _ _ _ _ _ _ _ _ tx.commands command in
     let in_gs = in_tx tx hashed has_tx in
     let values_gs = flat_map hashed_for_group gs in
-    let sound_gs = sound hashed gs (sized_shown salt 0 (present (groups tx))) (all_left (Contains hashed) values_gs (hashed_for_root (map group_value gs)) in_gs) in
+    let sound_gs = sound hashed gs (sized_shown salt 0 (present (groups tx))) (all_front (Contains hashed) values_gs (hashed_for_root (map group_value gs)) in_gs) in
     let count : length gs ≡ length (present (groups tx)) = length_shown salt 0 (present (groups tx)) in
     let seventh = shown_get salt 0 6 6 (present (groups tx)) (list.first ∷ list.more) (omega arith) list.seventh in
     let roots : root_of (map group_value gs) ≡ root_of (map group_value torn.groups) = root_shown tx ∙ ap (λ (id : Hash32). id.0) (sym same) ∙ sym is_good.root in

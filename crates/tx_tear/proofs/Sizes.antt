@@ -1,5 +1,5 @@
 -- How many values a group of a tear-off shows.
-use Rattle.std.proofs.Common.{◌≡◌, ◌≤◌, ◌<◌, ℕ, zero, suc, List, [], ◌∷◌, ◌++◌, length, Option, Some, None, Result, Ok, Err, IfOk, get_or, refl, sym, ap, subst, arith}
+use Rattle.std.proofs.Common.{◌≡◌, ◌≤◌, ◌<◌, ℕ, zero, suc, List, [], ◌∷◌, length, Option, Some, None, Result, Ok, Err, IfOk, get_or, refl, sym, ap, subst, arith}
 use Rattle.std.specs.List.{AllByRecursion}
 use Rattle.net_base.specs.Forms.{ListWithin}
 use Rattle.ledger_types.specs.declared.torn.TornPart.{TornPart}
@@ -10,11 +10,6 @@ use Rattle.ledger_types.specs.Torn.{IsTornGroup, IsTornTx}
 use Rattle.ledger_types.specs.Tears.{whole, joined, spelt_by}
 use Rattle.tx_tear.specs.declared.reading.TearFault.{TearFault}
 use Rattle.tx_tear.specs.Telling.{Tells}
-
--- with one more at the end
-pub all_push : {V : Type 0} (P : V → Type 0) (vs : List V) (v : V) → AllByRecursion P vs → P v → AllByRecursion P (vs ++ v ∷ [])
-all_push P [] v h one = (one, tt)
-all_push P (w ∷ vs) v h one = (h.0, all_push P vs v h.1 one)
 
 all_or : {X : Type 0} (P : X → Type 0) (xs : List X) (i : ℕ) (d x : X) → AllByRecursion P xs → i < length xs → x ≡ get_or xs i d → P x
 all_or P [] i d x h lt e = absurd (omega (arith, lt))

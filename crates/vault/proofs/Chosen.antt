@@ -1,22 +1,20 @@
 -- The coins that a reservation names are coins of the vault, each once.
-use Rattle.std.proofs.Common.{◌≡◌, ◌≤◌, ◌-◌, ◌==◌, ℕ, zero, suc, Bool, true, false, true≢false, cond, ◌&&◌, ◌||◌, List, [], ◌∷◌, Option, Some, None, Result, Ok, Err, IfOk, length, take, filter, option_map, refl, sym, ◌∙◌, ap, subst, arith, if◌then◌else◌}
+use Rattle.std.proofs.Common.{◌≡◌, ◌≤◌, ◌-◌, ◌==◌, ℕ, zero, suc, Bool, true, false, cond, ◌&&◌, ◌||◌, List, [], ◌∷◌, Option, Some, None, Result, Ok, Err, IfOk, length, take, filter, option_map, refl, sym, ◌∙◌, ap, subst, arith, if◌then◌else◌}
 use Rattle.std.specs.List.{list_all, AllByRecursion}
-use Rattle.std.proofs.lemmas.Bool.{and_parts, and_from}
+use Rattle.std.proofs.lemmas.Bool.{and_parts, and_from, or_right}
 use Rattle.std.proofs.lemmas.List.{length-take}
 use Rattle.std.proofs.lemmas.List.Folds.{list_all-map}
 use Rattle.net_base.specs.Forms.{ListWithin}
 use Rattle.net_base.specs.declared.values.Party.{Party}
 use Rattle.net_base.specs.declared.names.Token.{Token}
-use Rattle.ledger_types.specs.declared.state.StateData.{StateData}
-use Rattle.ledger_types.specs.declared.state.StateData.TheVariants.{Cash}
+use Rattle.net_base.proofs.Lists.{all_take, all_kept, passes_weaken}
 use Rattle.ledger_types.specs.declared.held.Held.{Held}
 use Rattle.ledger_types.specs.Names.{ref_eq, has_repeat}
-use Rattle.ledger_types.specs.Vaults.{is_cash, is_cash_of, is_free, is_coin, is_coin_of, cash_amount, coins_of, least_prefix, reserved, IsHeld}
+use Rattle.ledger_types.specs.Vaults.{is_coin, is_coin_of, cash_amount, coins_of, least_prefix, reserved, IsHeld}
+use Rattle.ledger_types.proofs.Names.{ref_same}
+use Rattle.ledger_types.proofs.Coins.{coin_of_token}
 use Rattle.vault.specs.declared.fault.ReserveFault.{ReserveFault}
 use Rattle.vault.specs.Holdings.{is_own, is_own_coin, references_of, has_coin}
-use Rattle.vault.proofs.Names.{ref_same}
-use Rattle.vault.proofs.Passing.{all_weaker}
-use Rattle.vault.proofs.Limits.{all_take, all_kept}
 use Rattle.vault.proofs.Distinct.{once_kept, once_front}
 
 -- some first ones of a list
@@ -59,21 +57,10 @@ test_front test (suc n) (h ∷ hs) all = let both = and_parts (test h) (list_all
 
 -- ---- coins of the vault
 
-cash_of_token : (token : Token) (s : StateData) → is_cash_of token s ≡ true → is_cash s ≡ true
-cash_of_token token (Cash other amount owner) e = refl
-cash_of_token token other e = absurd (true≢false (sym e))
-
-coin_of_token : (token : Token) (h : Held) → is_coin_of token h ≡ true → is_coin h ≡ true
-coin_of_token token h e = let both = and_parts (is_cash_of token h.state.body) (is_free h) e in and_from _ _ (cash_of_token token h.state.body both.0) both.1
-
-or_right : (a b : Bool) → b ≡ true → (a || b) ≡ true
-or_right true b e = refl
-or_right false b e = e
-
 coins_there : (token : Token) (states : List Held) → list_all (λ h. has_coin states h.reference) (coins_of token states) ≡ true
 coins_there token [] = refl
 coins_there token (x ∷ xs) =
-    by (is_coin_of token x) refl (all_weaker (λ h. has_coin xs h.reference) (λ h. has_coin (x ∷ xs) h.reference) (λ h t. or_right (ref_eq x.reference h.reference && is_coin x) (has_coin xs h.reference) t) (coins_of token xs) (coins_there token xs))
+    by (is_coin_of token x) refl (passes_weaken (λ h. has_coin xs h.reference) (λ h. has_coin (x ∷ xs) h.reference) (coins_of token xs) (λ h t. or_right (ref_eq x.reference h.reference && is_coin x) (has_coin xs h.reference) t) (coins_there token xs))
   where
     by : (b : Bool) → is_coin_of token x ≡ b → list_all (λ h. has_coin (x ∷ xs) h.reference) (coins_of token xs) ≡ true → list_all (λ h. has_coin (x ∷ xs) h.reference) (cond b (x ∷ coins_of token xs) (coins_of token xs)) ≡ true
     by true e more = and_from _ _ (ap (λ b. b || has_coin xs x.reference) (and_from _ _ (ref_same x.reference) (coin_of_token token x e))) more

@@ -1,5 +1,5 @@
 -- What a vault holds is within its limits and relevant to its party, whatever is recorded, locked and released.
-use Rattle.std.proofs.Common.{◌≡◌, ◌≤◌, ◌<◌, ◌+◌, ◌^◌, ℕ, zero, suc, Bool, true, false, cond, not, List, [], ◌∷◌, ◌++◌, Some, None, length, take, map, filter, refl, ◌∙◌, arith, if◌then◌else◌}
+use Rattle.std.proofs.Common.{◌≡◌, ◌≤◌, ◌<◌, ◌+◌, ◌^◌, ℕ, Bool, true, false, cond, not, List, [], ◌∷◌, Some, None, length, map, filter, refl, ◌∙◌, arith, if◌then◌else◌}
 use Rattle.std.specs.List.{list_all, AllByRecursion}
 use Rattle.std.proofs.lemmas.Bool.{and_parts, and_from}
 use Rattle.std.proofs.lemmas.List.Folds.{list_all-append}
@@ -8,6 +8,7 @@ use Rattle.net_base.specs.Values.{IsHash}
 use Rattle.net_base.specs.declared.values.Hash32.{Hash32}
 use Rattle.net_base.specs.declared.values.Party.{Party}
 use Rattle.net_base.specs.declared.names.StateRef.{StateRef}
+use Rattle.net_base.proofs.Lists.{all_append, all_kept}
 use Rattle.ledger_types.specs.declared.state.TxState.{TxState}
 use Rattle.ledger_types.specs.declared.tx.Tx.{Tx}
 use Rattle.ledger_types.specs.declared.held.Held.{Held}
@@ -19,23 +20,6 @@ use Rattle.vault.proofs.Passing.{all_filter}
 
 -- ---- properties of all of a list
 
-pub all_append : {X : Type 0} (P : X → Type 0) (xs ys : List X) → AllByRecursion P xs → AllByRecursion P ys → AllByRecursion P (xs ++ ys)
-all_append P [] ys g h = h
-all_append P (x ∷ xs) ys g h = (g.0, all_append P xs ys g.1 h)
-
-pub all_take : {X : Type 0} (P : X → Type 0) (n : ℕ) (xs : List X) → AllByRecursion P xs → AllByRecursion P (take n xs)
-all_take P zero xs h = tt
-all_take P (suc n) [] h = tt
-all_take P (suc n) (x ∷ xs) h = (h.0, all_take P n xs h.1)
-
-pub all_kept : {X : Type 0} (P : X → Type 0) (test : X → Bool) (xs : List X) → AllByRecursion P xs → AllByRecursion P (filter test xs)
-all_kept P test [] h = tt
-all_kept {X} P test (x ∷ xs) h = by (test x) (all_kept P test xs h.1)
-  where
-    by : (b : Bool) → AllByRecursion P (filter test xs) → AllByRecursion P (cond b (x ∷ filter test xs) (filter test xs))
-    by true more = (h.0, more)
-    by false more = more
-
 -- what a filter keeps passes its test
 pub filter_passes : {X : Type 0} (test : X → Bool) (xs : List X) → list_all test (filter test xs) ≡ true
 filter_passes test [] = refl
@@ -46,9 +30,6 @@ filter_passes {X} test (x ∷ xs) = by (test x) refl (filter_passes test xs)
     by false e more = more
 
 -- ---- recording
-
-pub held_none : (me : Party) → AreHeld me []
-held_none me = (tt, refl)
 
 outputs_held : (id : Hash32) (n : ℕ) (states : List TxState) → IsHash id → n + length states ≤ 64 → AllByRecursion IsTxState states → AllByRecursion IsHeld (outputs_from [] id n states)
 outputs_held id n [] hash few h = tt

@@ -1,6 +1,6 @@
 -- A list changed in place, item by item.
 use Rattle.std.proofs.Common.{◌≡◌, ◌≤◌, ◌<◌, ◌+◌, ℕ, List, [], ◌∷◌, ◌++◌, length, take, drop, map, set, get_or, refl, sym, ◌∙◌, ap, arith, length-set}
-use Rattle.std.proofs.lemmas.List.{take_all, take_more, take_more_set, drop_more, drop_all, drop-set-lt, map-append, append-nil}
+use Rattle.std.proofs.lemmas.List.{take_all, take_more, take_more_set, drop_more, drop-set-lt, map-append}
 
 -- ys is xs with what f makes of each of the first n items
 pub record Marked {X : Type 0} (f : X → X) (xs ys : List X) (n : ℕ) : Type 0 where
@@ -33,8 +33,3 @@ marked_set f xs ys n d y m short is =
       rest = drop-set-lt (n + 1) ys n y (omega arith) ∙ e.1;
       long = length-set ys n y ∙ m.long;
     }
-
--- a list written in place of another of its length
-pub written : {X : Type 0} (new old : List X) (n : ℕ) → length new ≡ length old → n ≡ length old → take n (new ++ drop (length new) old) ≡ new
-written {X} new old n same long =
-    ap (λ (l : List X). take n (new ++ l)) (drop_all (length new) old (omega (arith, same))) ∙ ap (take n) (append-nil new) ∙ take_all n new (omega (arith, same, long))

@@ -1,7 +1,7 @@
 -- Tests over lists.
-use Rattle.std.proofs.Common.{◌≡◌, Bool, true, false, cond, ◌&&◌, ◌||◌, List, [], ◌∷◌, map, filter, refl, sym, ◌∙◌, ap}
-use Rattle.std.specs.List.{list_any, list_all}
-use Rattle.std.proofs.lemmas.Bool.{and_parts, and_from, or_parts}
+use Rattle.std.proofs.Common.{◌≡◌, Bool, true, false, cond, ◌&&◌, List, [], ◌∷◌, map, filter, refl, sym, ◌∙◌, ap}
+use Rattle.std.specs.List.{list_all}
+use Rattle.std.proofs.lemmas.Bool.{and_parts, and_from}
 
 -- a filter of a filter is one filter by both tests
 pub filter_twice : {X : Type 0} (p s q : X → Bool) → ((x : X) → q x ≡ (p x && s x)) → (xs : List X) → filter q xs ≡ filter s (filter p xs)
@@ -26,15 +26,6 @@ pub map_same : {X Y : Type 0} (f g : X → Y) → ((x : X) → f x ≡ g x) → 
 map_same f g same [] = refl
 map_same f g same (x ∷ xs) = λ i. same x i ∷ map_same f g same xs i
 
--- what no item of a list passes, none of a part passes
-pub any_filter : {X : Type 0} (test p : X → Bool) (xs : List X) → list_any test xs ≡ false → list_any test (filter p xs) ≡ false
-any_filter test p [] none = refl
-any_filter test p (x ∷ xs) none = let both = or_parts (test x) (list_any test xs) none in by both.0 (any_filter test p xs both.1) (p x)
-  where
-    by : test x ≡ false → list_any test (filter p xs) ≡ false → (b : Bool) → list_any test (cond b (x ∷ filter p xs) (filter p xs)) ≡ false
-    by here more true = ap (λ c. c || list_any test (filter p xs)) here ∙ more
-    by here more false = more
-
 pub all_filter : {X : Type 0} (test p : X → Bool) (xs : List X) → list_all test xs ≡ true → list_all test (filter p xs) ≡ true
 all_filter test p [] all = refl
 all_filter test p (x ∷ xs) all = let both = and_parts (test x) (list_all test xs) all in by both.0 (all_filter test p xs both.1) (p x)
@@ -42,11 +33,6 @@ all_filter test p (x ∷ xs) all = let both = and_parts (test x) (list_all test 
     by : test x ≡ true → list_all test (filter p xs) ≡ true → (b : Bool) → list_all test (cond b (x ∷ filter p xs) (filter p xs)) ≡ true
     by here more true = and_from _ _ here more
     by here more false = more
-
--- what follows from a test, for all of a list
-pub all_weaker : {X : Type 0} (test weak : X → Bool) → ((x : X) → test x ≡ true → weak x ≡ true) → (xs : List X) → list_all test xs ≡ true → list_all weak xs ≡ true
-all_weaker test weak follows [] all = refl
-all_weaker test weak follows (x ∷ xs) all = let both = and_parts (test x) (list_all test xs) all in and_from _ _ (follows x both.0) (all_weaker test weak follows xs both.1)
 
 pub true_or_false : {P : Type 0} (b : Bool) → (b ≡ true → P) → (b ≡ false → P) → P
 true_or_false true holds fails = holds refl

@@ -10,14 +10,16 @@ use Rattle.std.proofs.lemmas.List.Folds.{list_any-append, list_all-append, list_
 use Rattle.net_base.specs.declared.values.Hash32.{Hash32}
 use Rattle.net_base.specs.declared.values.Party.{Party}
 use Rattle.net_base.specs.declared.names.StateRef.{StateRef}
+use Rattle.net_base.proofs.Lists.{none_filter, passes_weaken}
 use Rattle.ledger_types.specs.declared.state.TxState.{TxState}
 use Rattle.ledger_types.specs.declared.tx.Tx.{Tx}
 use Rattle.ledger_types.specs.declared.held.Held.{Held}
 use Rattle.ledger_types.specs.Names.{hash_eq, ref_eq, has_ref, has_repeat}
 use Rattle.ledger_types.specs.Vaults.{Lock, is_relevant, locked_by, held, outputs_from, is_consumed, all_outputs, vault_of, is_cash, is_free, is_coin, locks_of, released}
+use Rattle.ledger_types.proofs.Names.{ref_exact}
 use Rattle.vault.specs.Holdings.{held_after, has_coin, locked_in, is_flow, freed_of, is_noted, has_sources, may_note, are_apart, IsVault}
-use Rattle.vault.proofs.Names.{hash_swapped, ref_exact}
-use Rattle.vault.proofs.Passing.{filter_twice, filter_changed, map_same, any_filter, all_filter, all_weaker, true_or_false}
+use Rattle.vault.proofs.Names.{hash_swapped}
+use Rattle.vault.proofs.Passing.{filter_twice, filter_changed, map_same, all_filter, true_or_false}
 use Rattle.vault.proofs.Distinct.{once_more}
 use Rattle.vault.proofs.Locking.{absent_unlocked, locked_more, locked_less, apart_more, apart_less}
 
@@ -122,7 +124,7 @@ all_named locks r (t ∷ recorded) none =
 coin_noted : (me : Party) (recorded : List Noted) (locks : List Lock) (r : StateRef) → has_coin (vault_of me recorded locks) r ≡ true → is_noted recorded r.id ≡ true
 unfolding vault_of
 coin_noted me recorded locks r coin =
-    true_or_false (is_noted recorded r.id) (λ t. t) (λ none. absurd (true≢false (sym coin ∙ any_filter (λ h. ref_eq h.reference r && is_coin h) (λ h. is_relevant me h.state.body && not (is_consumed recorded h.reference)) (all_outputs locks recorded) (all_named locks r recorded none))))
+    true_or_false (is_noted recorded r.id) (λ t. t) (λ none. absurd (true≢false (sym coin ∙ none_filter (λ h. ref_eq h.reference r && is_coin h) (λ h. is_relevant me h.state.body && not (is_consumed recorded h.reference)) (all_outputs locks recorded) (all_named locks r recorded none))))
 
 -- what all references of a list pass, each of them passes
 each_of : (test : StateRef → Bool) (refs : List StateRef) (r : StateRef) → list_all test refs ≡ true → has_ref r refs ≡ true → test r ≡ true
@@ -142,7 +144,7 @@ lock_keeps me recorded locks states flow refs v coins once =
       states = ap (map (locked_in flow refs)) v.states ∙ sym (vault_changed me recorded locks (locks ++ locks_of flow refs) (locked_in flow refs) (λ h. changed h (free h.reference)));
       once = v.once;
       sources = v.sources;
-      known = list_all-append (λ l. is_noted recorded l.reference.id) locks (locks_of flow refs) ∙ and_from _ _ v.known (list_all-map (λ l. is_noted recorded l.reference.id) (λ r. record { reference = r; flow = flow }) refs ∙ all_weaker (has_coin vault) (λ r. is_noted recorded r.id) (λ r coin. coin_noted me recorded locks r coin) refs all);
+      known = list_all-append (λ l. is_noted recorded l.reference.id) locks (locks_of flow refs) ∙ and_from _ _ v.known (list_all-map (λ l. is_noted recorded l.reference.id) (λ r. record { reference = r; flow = flow }) refs ∙ passes_weaken (has_coin vault) (λ r. is_noted recorded r.id) refs (λ r coin. coin_noted me recorded locks r coin) all);
       apart = apart_more locks flow refs v.apart once free;
     }
   where
@@ -181,7 +183,7 @@ noted_more : (recorded : List Noted) (t : Noted) (id : Hash32) → is_noted reco
 noted_more recorded t id there = list_any-append (λ u. hash_eq id u.0) recorded (t ∷ []) ∙ ap (λ b. b || is_noted (t ∷ []) id) there
 
 sources_more : (recorded : List Noted) (t : Noted) (tx : Tx) → has_sources recorded tx ≡ true → has_sources (recorded ++ t ∷ []) tx ≡ true
-sources_more recorded t tx all = all_weaker (λ r. is_noted recorded r.id) (λ r. is_noted (recorded ++ t ∷ []) r.id) (λ r there. noted_more recorded t r.id there) tx.inputs all
+sources_more recorded t tx all = passes_weaken (λ r. is_noted recorded r.id) (λ r. is_noted (recorded ++ t ∷ []) r.id) tx.inputs (λ r there. noted_more recorded t r.id there) all
 
 -- a reference into a transaction that isn't recorded is none of those whose transactions are
 not_among : (recorded : List Noted) (r : StateRef) (refs : List StateRef) → is_noted recorded r.id ≡ false → list_all (λ s. is_noted recorded s.id) refs ≡ true → has_ref r refs ≡ false
@@ -245,7 +247,7 @@ note_keeps me recorded locks states id tx v may =
     record {
       states = ap (held_after me id tx) v.states ∙ sym (vault_noted me recorded locks id tx unspent free);
       once = not_from_false _ (once_more recorded (id, tx) (not-true _ v.once) none);
-      sources = list_all-append (λ (t : Noted). has_sources (recorded ++ (id, tx) ∷ []) t.1) recorded ((id, tx) ∷ []) ∙ and_from _ _ (all_weaker (λ (t : Noted). has_sources recorded t.1) (λ t. has_sources (recorded ++ (id, tx) ∷ []) t.1) (λ t h. sources_more recorded (id, tx) t.1 h) recorded v.sources) (and_from _ _ (sources_more recorded (id, tx) tx both.1) refl);
-      known = all_weaker (λ (l : Lock). is_noted recorded l.reference.id) (λ l. is_noted (recorded ++ (id, tx) ∷ []) l.reference.id) (λ l h. noted_more recorded (id, tx) l.reference.id h) locks v.known;
+      sources = list_all-append (λ (t : Noted). has_sources (recorded ++ (id, tx) ∷ []) t.1) recorded ((id, tx) ∷ []) ∙ and_from _ _ (passes_weaken (λ (t : Noted). has_sources recorded t.1) (λ t. has_sources (recorded ++ (id, tx) ∷ []) t.1) recorded (λ t h. sources_more recorded (id, tx) t.1 h) v.sources) (and_from _ _ (sources_more recorded (id, tx) tx both.1) refl);
+      known = passes_weaken (λ (l : Lock). is_noted recorded l.reference.id) (λ l. is_noted (recorded ++ (id, tx) ∷ []) l.reference.id) locks (λ l h. noted_more recorded (id, tx) l.reference.id h) v.known;
       apart = v.apart;
     }

@@ -1,11 +1,11 @@
 use Rattle.std.proofs.Common.{◌≡◌, List, sym, subst, arith, ◌+◌}
+use Rattle.net_base.proofs.Options.{if_ok}
 use Rattle.net_model.specs.State.{NodeState}
 use Rattle.net_model.specs.Steps.{fails}
 use Rattle.session_wire.specs.Sessions.{Session}
 use Rattle.session_wire.specs.declared.body.Body.TheVariants as body_of
 use Rattle.flow_machine.specs.declared.flows.FlowState.TheVariants as state
 use Rattle.flow_steps.specs.Going.{over, Becomes}
-use Rattle.flow_steps.proofs.Performs.{if_ok}
 use Rattle.flow_steps.proofs.acts.fail.Goals as goal
 
 pub returns-clause-becomes : goal.returns-clause-becomes

@@ -1,4 +1,5 @@
 use Rattle.std.proofs.Common.{◌≡◌, ◌<◌, length, sym, subst, arith}
+use Rattle.net_base.proofs.Options.{if_ok}
 use Rattle.net_model.specs.Environment.{environment}
 use Rattle.net_model.specs.Sound.{IsNumbered}
 use Rattle.net_model.specs.State.{NodeState}
@@ -6,7 +7,7 @@ use Rattle.net_model.specs.Steps.{returns as returns_of}
 use Rattle.session_wire.specs.declared.body.Body.TheVariants as body_of
 use Rattle.flow_records.specs.Records.{IsFlow}
 use Rattle.flow_steps.specs.Going.{over, Becomes}
-use Rattle.flow_steps.proofs.Performs.{returned_limits, returned_numbered, returned_becomes, ended_means, if_ok}
+use Rattle.flow_steps.proofs.Performs.{returned_limits, returned_numbered, returned_becomes, ended_means}
 use Rattle.flow_steps.proofs.acts.give_back.Goals as goal
 
 pub returns-clause-becomes : goal.returns-clause-becomes

@@ -1,11 +1,12 @@
 use Rattle.std.proofs.Common.{◌≡◌, refl}
+use Rattle.net_base.proofs.Options.{if_ok}
 use Rattle.flow_machine.specs.declared.acts.Resumed.TheVariants as resumed
 use Rattle.session_wire.specs.Rules.{owned}
 use Rattle.net_model.specs.Environment.{environment}
 use Rattle.net_model.specs.State.{NodeState, nothing}
 use Rattle.net_model.specs.Steps.{goes_on, pushes, returns, fails, opens, sends}
 use Rattle.flow_steps.specs.Going.{takes_or_lapses, Becomes}
-use Rattle.flow_steps.proofs.Performs.{standing, if_ok, all_perform, not_enabled, by_open, by_send, by_receive, by_receive_until, by_sleep, by_sub, by_return, by_fail}
+use Rattle.flow_steps.proofs.Performs.{standing, all_perform, not_enabled, by_open, by_send, by_receive, by_receive_until, by_sleep, by_sub, by_return, by_fail}
 use Rattle.flow_steps.proofs.acts.perform.Goals as goal
 
 pub returns-in-Open-clause-performs : goal.returns-in-Open-clause-performs

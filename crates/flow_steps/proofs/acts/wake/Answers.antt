@@ -1,7 +1,8 @@
 use Rattle.flow_machine.specs.declared.acts.Resumed.TheVariants as resumed
 use Rattle.session_acts.specs.Parts.{unchanged}
+use Rattle.session_acts.proofs.Limits.{unchanged_within}
 use Rattle.net_model.specs.Environment.{environment}
-use Rattle.flow_steps.proofs.Limits.{unchanged_within, unchanged_short}
+use Rattle.flow_steps.proofs.Limits.{unchanged_short}
 use Rattle.flow_steps.proofs.Performs.{gone_limits, gone_becomes}
 use Rattle.flow_steps.proofs.acts.wake.Goals as goal
 

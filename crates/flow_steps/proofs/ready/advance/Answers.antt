@@ -1,10 +1,10 @@
 use Rattle.std.proofs.Common.{◌≡◌, ◌<◌, ◌-◌, ◌^◌, None, refl}
+use Rattle.net_base.proofs.Lists.{all_get}
 use Rattle.net_model.specs.Environment.{environment}
 use Rattle.net_model.specs.Sound.{steps_of}
 use Rattle.net_model.specs.State.{NodeState}
 use Rattle.flow_records.specs.Records.{IsFlow}
 use Rattle.flow_machine.specs.declared.flows.FlowState.TheVariants.{Live}
-use Rattle.flow_steps.proofs.Lists.{all_get}
 use Rattle.flow_steps.proofs.Picks.{goes, goes_at, goes_not}
 use Rattle.flow_steps.specs.Going.{Performs}
 use Rattle.flow_steps.specs.Ready.{IsReady}

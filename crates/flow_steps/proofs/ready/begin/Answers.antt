@@ -2,9 +2,10 @@ use Rattle.std.proofs.Common.{◌≡◌, ◌≤◌, Ok, length, sym, ap, subst, 
 use Rattle.flow_machine.specs.Flows.{AreWithin}
 use Rattle.flow_machine.specs.Limits.{IsPlace}
 use Rattle.net_base.specs.declared.causes.Event.TheVariants as event
+use Rattle.net_base.proofs.Options.{of_ok}
 use Rattle.net_model.specs.Environment.{environment}
 use Rattle.flow_steps.proofs.Performs.{place_limits}
-use Rattle.flow_steps.proofs.Commits.{of_ok, begun_ready}
+use Rattle.flow_steps.proofs.Commits.{begun_ready}
 use Rattle.flow_steps.proofs.ready.begin.Goals as goal
 
 pub returns : goal.returns

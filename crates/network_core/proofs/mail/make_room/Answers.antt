@@ -1,9 +1,9 @@
 use Rattle.std.proofs.Common.{◌<◌, ◌≤◌, refl, ◌∙◌, arith, length}
 use Rattle.std.proofs.lemmas.Option.{slice_get_read}
+use Rattle.net_base.proofs.Lists.{get_less, all_from_get, set_length}
 use Rattle.waiting_frames.specs.Waiting.{WaitingSeen}
-use Rattle.net_model.proofs.Faithful.{get_less}
 use Rattle.network_core.proofs.Mailing.{map_set_same}
-use Rattle.network_core.proofs.Placing.{all_from, set_length, upto_more}
+use Rattle.network_core.proofs.Placing.{upto_more}
 use Rattle.network_core.proofs.mail.make_room.Goals as goal
 
 pub returns-in_err-make_room-clause-frames : goal.returns-in_err-make_room-clause-frames
@@ -26,5 +26,5 @@ nodes-preserved c =
 
 pub returns-clause-room : goal.returns-clause-room
 returns-clause-room c =
-    all_from (λ (w : WaitingSeen). c.args.more ≤ w.room) c.nodes.waiting.items
+    all_from_get (λ (w : WaitingSeen). c.args.more ≤ w.room) c.nodes.waiting.items
     (λ q w at. c.nodes.invariant.room q w (omega (arith, get_less c.nodes.waiting.items q w at, c.nodes-test.false, c.len-place-end.ensures, c.args.waiting.now.ok.0, c.nodes.invariant.count)) at)

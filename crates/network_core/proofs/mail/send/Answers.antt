@@ -1,8 +1,8 @@
 use Rattle.std.proofs.Common.{◌<◌, ◌≤◌, ◌+◌, refl, arith, length}
 use Rattle.std.proofs.lemmas.Option.{slice_get_read}
+use Rattle.net_base.proofs.Lists.{all_get, all_weaken, all_set}
 use Rattle.waiting_frames.specs.Waiting.{WaitingSeen}
 use Rattle.network_core.proofs.Mailing.{fresh_there, joins_at}
-use Rattle.network_core.proofs.Placing.{all_at, all_set, all_weaken}
 use Rattle.network_core.proofs.mail.send.Goals as goal
 
 pub returns-clause-mailed : goal.returns-clause-mailed
@@ -25,5 +25,5 @@ returns-clause-room c more all =
     let place = c.args.frame.to.0 in
     let inside : place < length items = omega (arith, c.if-place-len.false, c.len.ensures, c.args.waiting.now.ok.0) in
     let at = slice_get_read items (length items) place c.index_mut.result.now refl inside c.index_mut.ensures.value in
-    let here : more + 1 ≤ c.index_mut.result.now.room = all_at (λ (w : WaitingSeen). more + 1 ≤ w.room) items place c.index_mut.result.now all at in
+    let here : more + 1 ≤ c.index_mut.result.now.room = all_get (λ (w : WaitingSeen). more + 1 ≤ w.room) items place c.index_mut.result.now all at in
     all_set (λ (w : WaitingSeen). more ≤ w.room) items place c.join.new.self (all_weaken (λ (w : WaitingSeen). more + 1 ≤ w.room) (λ (w : WaitingSeen). more ≤ w.room) items (λ w h. omega (arith, h)) all) (omega (arith, c.join.ensures.room, here))

@@ -1,7 +1,7 @@
 use Rattle.std.proofs.Common.{◌<◌, ◌≤◌, ◌+◌, ◌∙◌, ap, arith, length, map}
+use Rattle.net_base.proofs.Lists.{all_weaken}
 use Rattle.waiting_frames.specs.Waiting.{WaitingSeen}
 use Rattle.network_core.proofs.Mailing.{fresh_more, fresh_same, mailed_more}
-use Rattle.network_core.proofs.Placing.{all_weaken}
 use Rattle.network_core.proofs.mail.send_all.Goals as goal
 
 pub send-requires : goal.send-requires

@@ -1,6 +1,6 @@
 use Rattle.std.proofs.Common.{◌<◌, ◌≤◌, arith}
+use Rattle.net_base.proofs.Lists.{all_weaken}
 use Rattle.waiting_frames.specs.Waiting.{WaitingSeen}
-use Rattle.network_core.proofs.Placing.{all_weaken}
 use Rattle.network_core.proofs.mail.settle.Goals as goal
 
 pub send-requires : goal.send-requires

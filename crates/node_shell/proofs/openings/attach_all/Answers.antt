@@ -1,7 +1,8 @@
 use Rattle.std.proofs.Common.{◌≡◌, ◌<◌, ◌*◌, length, Some, refl, arith, ◌∙◌}
 use Rattle.std.specs.List.{slice_get}
 use Rattle.std.proofs.lemmas.Option.{slice_get_read}
-use Rattle.node_shell.proofs.Weaving.{map_count, behind_set}
+use Rattle.std.proofs.lemmas.List.{length-map}
+use Rattle.node_shell.proofs.Weaving.{behind_set}
 use Rattle.node_shell.proofs.Readying.{stay_more, one_more_fails}
 use Rattle.node_shell.proofs.openings.attach_all.Goals as goal
 
@@ -10,7 +11,7 @@ returns-in-Err-clause-stay g c =
     let items = c.places.disks.items in
     let all = c.args.disks.now.items in
     let count = c.places.invariant.0.count in
-    let inside : c.places.place < length items = omega (arith, c.places-test.true, c.requires.disks, count, map_count g.B.Disk.seen items, map_count g.B.Disk.seen all) in
+    let inside : c.places.place < length items = omega (arith, c.places-test.true, c.requires.disks, count, length-map items g.B.Disk.seen, length-map all g.B.Disk.seen) in
     let at : slice_get items c.places.place ≡ Some c.index_mut-disk.result.now = slice_get_read items (length items) c.places.place c.index_mut-disk.result.now refl inside c.index_mut-disk.ensures.value in
     stay_more g.B.Disk.seen all items c.places.place c.index_mut-disk.result.now c.attach.new.disk c.places.invariant.0 at c.attach.ensures.stays
 
@@ -19,7 +20,7 @@ returns-in-Err-clause-cause g c fault =
     let items = c.places.disks.items in
     let all = c.args.disks.now.items in
     let count = c.places.invariant.0.count in
-    let inside : c.places.place < length items = omega (arith, c.places-test.true, c.requires.disks, count, map_count g.B.Disk.seen items, map_count g.B.Disk.seen all) in
+    let inside : c.places.place < length items = omega (arith, c.places-test.true, c.requires.disks, count, length-map items g.B.Disk.seen, length-map all g.B.Disk.seen) in
     let at : slice_get items c.places.place ≡ Some c.index_mut-disk.result.now = slice_get_read items (length items) c.places.place c.index_mut-disk.result.now refl inside c.index_mut-disk.ensures.value in
     one_more_fails g.B.Disk.seen all items c.places.place (2 * c.args.nodes) c.index_mut-disk.result.now c.attach.new.disk c.places.invariant.0 at (omega (arith, c.places-test.true)) (c.in-Err.ensures.cause fault)
 
@@ -28,7 +29,7 @@ places-preserved g c =
     let items = c.places.disks.items in
     let all = c.args.disks.now.items in
     let count = c.places.invariant.0.count in
-    let inside : c.places.place < length items = omega (arith, c.places-test.true, c.requires.disks, count, map_count g.B.Disk.seen items, map_count g.B.Disk.seen all) in
+    let inside : c.places.place < length items = omega (arith, c.places-test.true, c.requires.disks, count, length-map items g.B.Disk.seen, length-map all g.B.Disk.seen) in
     let at : slice_get items c.places.place ≡ Some c.index_mut-disk.result.now = slice_get_read items (length items) c.places.place c.index_mut-disk.result.now refl inside c.index_mut-disk.ensures.value in (
       stay_more g.B.Disk.seen all items c.places.place c.index_mut-disk.result.now c.attach.new.disk c.places.invariant.0 at c.attach.ensures.stays,
       behind_set items c.places.place (2 * c.args.nodes) c.attach.new.disk (omega (arith, c.places-test.true)) ∙ c.places.invariant.1,

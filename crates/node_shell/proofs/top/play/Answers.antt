@@ -1,15 +1,15 @@
 use Rattle.std.proofs.Common.{◌≡◌, map, length, sym, ◌∙◌, ap, subst}
+use Rattle.std.proofs.lemmas.List.{length-map}
+use Rattle.net_base.proofs.Lists.{map_both}
 use Rattle.net_model.specs.Environment.{party}
 use Rattle.node_core.specs.Disks.{roomless}
 use Rattle.node_shell.specs.Runs.{IsToldWhy}
-use Rattle.node_shell.proofs.Weaving.{map_count}
-use Rattle.node_shell.proofs.Resting.{map_seen}
 use Rattle.node_shell.proofs.Opening.{played, refused, told_why, fault_why, boots_own}
 use Rattle.node_shell.proofs.top.play.Goals as goal
 
 pub returns-in-Ok-clause-count : goal.returns-in-Ok-clause-count
 returns-in-Ok-clause-count g c =
-    sym (map_count (λ d. roomless (g.B.Disk.seen d)) c.into_disks.result.items) ∙ ap length c.into_disks.ensures ∙ map_count (λ n. n.disk) c.session-end.new.net.nodes ∙ c.session-end.ensures.count ∙ c.in-Ok.ensures.count ∙ sym c.requires.disks
+    sym (length-map c.into_disks.result.items (λ d. roomless (g.B.Disk.seen d))) ∙ ap length c.into_disks.ensures ∙ length-map c.session-end.new.net.nodes (λ n. n.disk) ∙ c.session-end.ensures.count ∙ c.in-Ok.ensures.count ∙ sym c.requires.disks
 
 pub returns-in-Ok-clause-runs : goal.returns-in-Ok-clause-runs
 returns-in-Ok-clause-runs g c w shows coherent =
@@ -18,18 +18,18 @@ returns-in-Ok-clause-runs g c w shows coherent =
     let n = c.args.network.nodes in
     let notary = party c.args.network.notary in
     let own = map g.B.Disk.seen c.args.own.items in
-    let count : length own ≡ n = map_count g.B.Disk.seen c.args.own.items ∙ c.requires.disks in
-    let disks = sym c.into_disks.ensures ∙ sym (map_seen roomless g.B.Disk.seen c.into_disks.result.items) in
+    let count : length own ≡ n = length-map c.args.own.items g.B.Disk.seen ∙ c.requires.disks in
+    let disks = sym c.into_disks.ensures ∙ sym (map_both roomless g.B.Disk.seen c.into_disks.result.items) in
     played m f n notary own (map g.B.Disk.seen c.into_disks.result.items) w c.in-Ok.net c.session-end.new.net _ _ _ _ _ _ c.session-end.ensures.kinds (boots_own f n notary own c.in-Ok.net.now c.in-Ok.net.nodes count c.in-Ok.ensures.boots) c.in-Ok.ensures.ok c.session-end.ensures.ran disks shows coherent
 
 pub returns-in-Err-clause-runs : goal.returns-in-Err-clause-runs
 returns-in-Err-clause-runs g c w shows coherent =
     let own = map g.B.Disk.seen c.args.own.items in
-    refused g.F.FlowSet.machine g.F.Spelt.reading c.args.network.nodes (party c.args.network.notary) own _ w c.in-Err.refused.node c.in-Err.refused.why _ _ _ _ c.requires.within.some (map_count g.B.Disk.seen c.args.own.items ∙ c.requires.disks) c.in-Err.ensures.refused c.refuse-status.ensures.refused shows coherent
+    refused g.F.FlowSet.machine g.F.Spelt.reading c.args.network.nodes (party c.args.network.notary) own _ w c.in-Err.refused.node c.in-Err.refused.why _ _ _ _ c.requires.within.some (length-map c.args.own.items g.B.Disk.seen ∙ c.requires.disks) c.in-Err.ensures.refused c.refuse-status.ensures.refused shows coherent
 
 pub returns-in-Err-clause-disk_fault : goal.returns-in-Err-clause-disk_fault
 returns-in-Err-clause-disk_fault g c is =
-    fault_why g.F.FlowSet.machine g.F.Spelt.reading c.args.network.nodes (party c.args.network.notary) (map g.B.Disk.seen c.args.own.items) _ c.in-Err.refused.node c.in-Err.refused.why _ _ _ (map_count g.B.Disk.seen c.args.own.items ∙ c.requires.disks) c.in-Err.ensures.refused c.refuse-status.ensures.refused is
+    fault_why g.F.FlowSet.machine g.F.Spelt.reading c.args.network.nodes (party c.args.network.notary) (map g.B.Disk.seen c.args.own.items) _ c.in-Err.refused.node c.in-Err.refused.why _ _ _ (length-map c.args.own.items g.B.Disk.seen ∙ c.requires.disks) c.in-Err.ensures.refused c.refuse-status.ensures.refused is
 
 pub returns-in-Err-clause-bad_journal : goal.returns-in-Err-clause-bad_journal
 returns-in-Err-clause-bad_journal g c is =
@@ -37,8 +37,8 @@ returns-in-Err-clause-bad_journal g c is =
     let n = c.args.network.nodes in
     let notary = party c.args.network.notary in
     let own = map g.B.Disk.seen c.args.own.items in
-    subst (IsToldWhy f n notary own _ _ _) is (told_why g.F.FlowSet.machine f n notary own _ c.in-Err.refused.node c.in-Err.refused.why _ _ _ c.requires.within.some (map_count g.B.Disk.seen c.args.own.items ∙ c.requires.disks) c.in-Err.ensures.refused c.refuse-status.ensures.refused)
+    subst (IsToldWhy f n notary own _ _ _) is (told_why g.F.FlowSet.machine f n notary own _ c.in-Err.refused.node c.in-Err.refused.why _ _ _ c.requires.within.some (length-map c.args.own.items g.B.Disk.seen ∙ c.requires.disks) c.in-Err.ensures.refused c.refuse-status.ensures.refused)
 
 pub returns-in-Ok-clause-own : goal.returns-in-Ok-clause-own
 returns-in-Ok-clause-own g c is =
-    boots_own g.F.Spelt.reading c.args.network.nodes (party c.args.network.notary) (map g.B.Disk.seen c.args.own.items) c.in-Ok.net.now c.in-Ok.net.nodes (map_count g.B.Disk.seen c.args.own.items ∙ c.requires.disks) c.in-Ok.ensures.boots
+    boots_own g.F.Spelt.reading c.args.network.nodes (party c.args.network.notary) (map g.B.Disk.seen c.args.own.items) c.in-Ok.net.now c.in-Ok.net.nodes (length-map c.args.own.items g.B.Disk.seen ∙ c.requires.disks) c.in-Ok.ensures.boots

@@ -1,12 +1,12 @@
 use Rattle.std.proofs.Common.{◌≡◌, map, sym, ◌∙◌, subst}
+use Rattle.net_base.proofs.Options.{some_eq}
 use Rattle.net_model.specs.Environment.{party}
 use Rattle.shell_words.specs.declared.program.NetworkWords.{NetworkWords}
 use Rattle.node_shell.specs.Pairs.{first_disks}
 use Rattle.node_shell.specs.Runs.{KeepOwn}
-use Rattle.node_shell.proofs.Opening.{some_same}
 use Rattle.node_shell.proofs.top.run.Goals as goal
 
 pub returns-in-Some-clause-own : goal.returns-in-Some-clause-own
 returns-in-Some-clause-own g c number n is =
-    let same : c.in-Some.network ≡ n = some_same c.in-Some.network n (sym c.in-Some.is ∙ c.network_of_words.ensures.network ∙ is) in
+    let same : c.in-Some.network ≡ n = some_eq (sym c.in-Some.is ∙ c.network_of_words.ensures.network ∙ is) in
     subst (λ (k : NetworkWords). KeepOwn g.F.Spelt.reading k.nodes (party k.notary) (first_disks k.nodes (map g.B.Disk.seen c.args.disks.items))) same (c.run_network.ensures.own number)

@@ -1,7 +1,7 @@
 use Rattle.std.proofs.Common.{◌∙◌}
+use Rattle.net_base.proofs.Options.{on_ok}
 use Rattle.indexmap.proofs.CallerLemmas.{insert_entry-new}
 use Rattle.session_wire.specs.Sessions.{key_eq}
-use Rattle.session_table.proofs.Found.{on_ok}
 use Rattle.session_table.proofs.lines.put_line.Goals as goal
 
 pub returns-clause-entries : goal.returns-clause-entries

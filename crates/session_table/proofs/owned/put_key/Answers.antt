@@ -1,7 +1,7 @@
 use Rattle.std.proofs.Common.{◌∙◌}
+use Rattle.net_base.proofs.Options.{on_ok}
 use Rattle.indexmap.proofs.CallerLemmas.{insert_entry-new}
 use Rattle.session_table.specs.Owned.{flow_place_eq}
-use Rattle.session_table.proofs.Found.{on_ok}
 use Rattle.session_table.proofs.owned.put_key.Goals as goal
 
 pub returns-clause-entries : goal.returns-clause-entries

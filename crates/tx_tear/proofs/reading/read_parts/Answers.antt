@@ -1,8 +1,8 @@
 use Rattle.std.proofs.Common.{◌∙◌, ℕ, List, sym, ap}
 use Rattle.std.proofs.lemmas.Result.{err_from_is_err_and}
+use Rattle.net_base.proofs.Lists.{all_push}
 use Rattle.ledger_types.specs.Tears.{whole, spelt_by}
 use Rattle.tx_tear.proofs.Spelling.{goes_on, stops, ends, fails}
-use Rattle.tx_tear.proofs.Sizes.{all_push}
 use Rattle.tx_tear.proofs.reading.read_parts.Goals as goal
 
 pub loop-part-preserved : goal.loop-part-preserved

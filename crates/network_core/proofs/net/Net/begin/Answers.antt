@@ -1,9 +1,10 @@
 use Rattle.std.proofs.Common.{◌≡◌, refl, arith, ap, length, map, Some, ◌∙◌, subst, List, ℕ}
 use Rattle.std.specs.List.{slice_get}
+use Rattle.std.proofs.lemmas.List.{length-map}
+use Rattle.net_base.proofs.Lists.{map_twice}
 use Rattle.node_core.specs.Disks.{roomless}
 use Rattle.node_core.specs.Seen.{NodeSeen}
 use Rattle.network_core.specs.Begins.{nodes_over, BootsUpTo, BootStops}
-use Rattle.network_core.proofs.Faithful.{map_length, map_twice}
 use Rattle.network_core.proofs.Beginning.{begins_world, refused_world, refused_early, over_down, over_length, all_by_last}
 use Rattle.waiting_frames.specs.Waiting.{WaitingSeen}
 use Rattle.network_core.proofs.Loops.{none_wait}
@@ -18,7 +19,7 @@ returns-in_default-with_capacity-clause-refused g c = refused_early g.F.FlowSet.
 pub boot_all-requires-clause-few : goal.boot_all-requires-clause-few
 boot_all-requires-clause-few g c =
     let ds = map g.D.Disk.seen c.args.disks.items in
-    omega (arith, ap length c.nodes_over-places.ensures, over_length c.args.nodes c.args.notary 0 ds, map_length g.D.Disk.seen c.args.disks.items, c.requires.disks, c.requires.nodes)
+    omega (arith, ap length c.nodes_over-places.ensures, over_length c.args.nodes c.args.notary 0 ds, length-map c.args.disks.items g.D.Disk.seen, c.requires.disks, c.requires.nodes)
 
 pub boot_all-requires-clause-down : goal.boot_all-requires-clause-down
 boot_all-requires-clause-down g c p n at =
@@ -27,7 +28,7 @@ boot_all-requires-clause-down g c p n at =
 pub disks_of-requires-clause-room : goal.disks_of-requires-clause-room
 disks_of-requires-clause-room g c =
     let ds = map g.D.Disk.seen c.args.disks.items in
-    omega (arith, c.in-Err.ensures.err.count, ap length c.nodes_over-places.ensures, over_length c.args.nodes c.args.notary 0 ds, map_length g.D.Disk.seen c.args.disks.items, c.len-2.ensures, c.args.disks.ok.0, c.in-Ok-with_capacity.ensures.capacity)
+    omega (arith, c.in-Err.ensures.err.count, ap length c.nodes_over-places.ensures, over_length c.args.nodes c.args.notary 0 ds, length-map c.args.disks.items g.D.Disk.seen, c.len-2.ensures, c.args.disks.ok.0, c.in-Ok-with_capacity.ensures.capacity)
 
 pub returns-in-Ok-boot_all-clause-ok : goal.returns-in-Ok-boot_all-clause-ok
 returns-in-Ok-boot_all-clause-ok g c =
@@ -36,7 +37,7 @@ returns-in-Ok-boot_all-clause-ok g c =
     let count : length c.nodes_over-places.result.items ≡ length ds = ap length c.nodes_over-places.ensures ∙ over_length c.args.nodes c.args.notary 0 ds in
     let booted : BootsUpTo g.F.Spelt.reading (length ds) c.in-Ok-boot_all.now.0 c.nodes_over-places.result.items c.boot_all.new.nodes.items = subst (λ (i : ℕ). BootsUpTo g.F.Spelt.reading i c.in-Ok-boot_all.now.0 c.nodes_over-places.result.items c.boot_all.new.nodes.items) count c.in-Ok-boot_all.ensures.ok in
     begins_world g.F.FlowSet.machine g.F.Spelt.reading c.args.nodes c.args.notary ds (record { nodes = c.boot_all.new.nodes.items; waiting = map (λ (w : WaitingSeen). w.frames) c.no_frames.result.items; now = c.in-Ok-boot_all.now.0 }) (subst (λ (l : List NodeSeen). BootsUpTo g.F.Spelt.reading (length ds) c.in-Ok-boot_all.now.0 l c.boot_all.new.nodes.items) c.nodes_over-places.ensures booted)
-    (none_wait (λ (w : WaitingSeen). w.frames) c.no_frames.result.items c.boot_all.new.nodes.items (omega (arith, c.no_frames.ensures.count, c.in-Ok-boot_all.ensures.ok.count, ap length c.nodes_over-places.ensures, over_length c.args.nodes c.args.notary 0 ds, map_length g.D.Disk.seen c.args.disks.items, c.requires.disks)) c.no_frames.ensures.none)
+    (none_wait (λ (w : WaitingSeen). w.frames) c.no_frames.result.items c.boot_all.new.nodes.items (omega (arith, c.no_frames.ensures.count, c.in-Ok-boot_all.ensures.ok.count, ap length c.nodes_over-places.ensures, over_length c.args.nodes c.args.notary 0 ds, length-map c.args.disks.items g.D.Disk.seen, c.requires.disks)) c.no_frames.ensures.none)
 
 pub returns-in-Err-clause-refused : goal.returns-in-Err-clause-refused
 returns-in-Err-clause-refused g c =
@@ -48,17 +49,17 @@ returns-in-Err-clause-refused g c =
 pub invariant_of-result : goal.invariant_of-result
 invariant_of-result g c =
     let ds = map g.D.Disk.seen c.args.disks.items in
-    (all_by_last g.F.Spelt.reading c.nodes_over-places.result.items c.boot_all.new.nodes.items c.in-Ok-boot_all.now.0 c.in-Ok-boot_all.ensures.ok, c.in-Ok-with_capacity.ensures.items, omega (arith, c.in-Ok-boot_all.ensures.ok.count, ap length c.nodes_over-places.ensures, over_length c.args.nodes c.args.notary 0 ds, map_length g.D.Disk.seen c.args.disks.items, c.len-2.ensures, c.args.disks.ok.0, c.in-Ok-with_capacity.ensures.capacity), omega (arith, c.in-Ok-boot_all.ensures.ok.count, ap length c.nodes_over-places.ensures, over_length c.args.nodes c.args.notary 0 ds, map_length g.D.Disk.seen c.args.disks.items, c.requires.disks, c.requires.nodes), omega (arith, c.no_frames.ensures.count, c.in-Ok-boot_all.ensures.ok.count, ap length c.nodes_over-places.ensures, over_length c.args.nodes c.args.notary 0 ds, map_length g.D.Disk.seen c.args.disks.items, c.requires.disks))
+    (all_by_last g.F.Spelt.reading c.nodes_over-places.result.items c.boot_all.new.nodes.items c.in-Ok-boot_all.now.0 c.in-Ok-boot_all.ensures.ok, c.in-Ok-with_capacity.ensures.items, omega (arith, c.in-Ok-boot_all.ensures.ok.count, ap length c.nodes_over-places.ensures, over_length c.args.nodes c.args.notary 0 ds, length-map c.args.disks.items g.D.Disk.seen, c.len-2.ensures, c.args.disks.ok.0, c.in-Ok-with_capacity.ensures.capacity), omega (arith, c.in-Ok-boot_all.ensures.ok.count, ap length c.nodes_over-places.ensures, over_length c.args.nodes c.args.notary 0 ds, length-map c.args.disks.items g.D.Disk.seen, c.requires.disks, c.requires.nodes), omega (arith, c.no_frames.ensures.count, c.in-Ok-boot_all.ensures.ok.count, ap length c.nodes_over-places.ensures, over_length c.args.nodes c.args.notary 0 ds, length-map c.args.disks.items g.D.Disk.seen, c.requires.disks))
 
 pub returns-in-Ok-boot_all-clause-count : goal.returns-in-Ok-boot_all-clause-count
 returns-in-Ok-boot_all-clause-count g c =
     let ds = map g.D.Disk.seen c.args.disks.items in
-    omega (arith, c.in-Ok-boot_all.ensures.ok.count, ap length c.nodes_over-places.ensures, over_length c.args.nodes c.args.notary 0 ds, map_length g.D.Disk.seen c.args.disks.items, c.requires.disks)
+    omega (arith, c.in-Ok-boot_all.ensures.ok.count, ap length c.nodes_over-places.ensures, over_length c.args.nodes c.args.notary 0 ds, length-map c.args.disks.items g.D.Disk.seen, c.requires.disks)
 
 pub returns-in-Ok-boot_all-clause-boots : goal.returns-in-Ok-boot_all-clause-boots
 returns-in-Ok-boot_all-clause-boots g c =
     let ds = map g.D.Disk.seen c.args.disks.items in
-    let count : length c.nodes_over-places.result.items ≡ c.args.nodes = ap length c.nodes_over-places.ensures ∙ over_length c.args.nodes c.args.notary 0 ds ∙ map_length g.D.Disk.seen c.args.disks.items ∙ c.requires.disks in
+    let count : length c.nodes_over-places.result.items ≡ c.args.nodes = ap length c.nodes_over-places.ensures ∙ over_length c.args.nodes c.args.notary 0 ds ∙ length-map c.args.disks.items g.D.Disk.seen ∙ c.requires.disks in
     subst (λ (l : List NodeSeen). BootsUpTo g.F.Spelt.reading c.args.nodes c.in-Ok-boot_all.now.0 l c.boot_all.new.nodes.items) c.nodes_over-places.ensures
     (subst (λ (i : ℕ). BootsUpTo g.F.Spelt.reading i c.in-Ok-boot_all.now.0 c.nodes_over-places.result.items c.boot_all.new.nodes.items) count c.in-Ok-boot_all.ensures.ok)
 

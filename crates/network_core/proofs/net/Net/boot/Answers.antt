@@ -1,7 +1,7 @@
 use Rattle.std.proofs.Common.{◌<◌, inr, refl, arith, length, map, slice_set}
 use Rattle.std.proofs.lemmas.Option.{slice_get_read}
+use Rattle.net_base.proofs.Lists.{set_length}
 use Rattle.network_core.proofs.Booting.{all_by, clock_boot}
-use Rattle.network_core.proofs.Placing.{set_length}
 use Rattle.network_core.proofs.net.Net.boot.Goals as goal
 
 pub invariant_of-self : goal.invariant_of-self

@@ -2,10 +2,10 @@ use Rattle.std.proofs.Common.{◌≡◌, ◌<◌, inl, inr, refl, sym, ◌∙◌
 use Rattle.std.specs.Option.{option_map}
 use Rattle.std.proofs.lemmas.Option.{slice_get_read, slice_get_past}
 use Rattle.std.proofs.lemmas.Grind.{common_steps}
+use Rattle.net_base.proofs.Lists.{get_below}
 use Rattle.waiting_frames.specs.Waiting.{WaitingSeen}
 use Rattle.network_core.specs.Worlds.{NetSeen}
 use Rattle.network_core.proofs.Mailing.{get_map_is}
-use Rattle.network_core.proofs.Placing.{list_at}
 use Rattle.network_core.proofs.net.Net.hand.Goals as goal
 
 pub returns-then-not-is_up : goal.returns-then-not-is_up
@@ -16,7 +16,7 @@ returns-then-not-is_up g c =
     let inside : p < length items = omega (arith, c.if-place-len.false, c.len.ensures, c.self.inside.nodes.ok.0) in
     let within : p < length lists = omega (arith, inside, c.self.invariant.4) in
     let at = slice_get_read items (length items) p c.index.result.now refl inside c.index.ensures in
-    let found = list_at lists p within in
+    let found = get_below lists p within in
     let there : slice_get (map (λ (w : WaitingSeen). w.frames) lists) p ≡ Some found.0.frames = get_map_is (λ (w : WaitingSeen). w.frames) lists p ∙ ap (λ o. option_map (λ (w : WaitingSeen). w.frames) o) found.1 in
     let down : c.index.result.now.journal ≡ None = grind (arith, common_steps, c.is_up.ensures, c.if-not-is_up.true) in
     rw (← c.self.view_is) (inr (c.index.result.now, found.0.frames, at, there, inl (down, refl, refl)))

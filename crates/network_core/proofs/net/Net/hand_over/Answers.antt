@@ -2,14 +2,13 @@ use Rattle.std.proofs.Common.{◌≡◌, ◌<◌, refl, sym, ◌∙◌, ap, arit
 use Rattle.std.specs.Option.{option_map, option_to_list}
 use Rattle.std.proofs.lemmas.Option.{slice_get_read, same_Some}
 use Rattle.std.specs.contracts.alloc.AllocError.{the_row}
-use Rattle.net_model.proofs.Faithful.{get_less}
+use Rattle.net_base.proofs.Lists.{all_get, get_less, set_length, all_set}
 use Rattle.node_core.specs.Seen.{NodeSeen, IsBy}
 use Rattle.waiting_frames.specs.Waiting.{WaitingSeen}
 use Rattle.network_core.specs.Worlds.{NetSeen}
 use Rattle.network_core.specs.Answers.{TakeServes, mailed, parted}
 use Rattle.network_core.proofs.Delivering.{got_some, handed_done, handed_err, handed_short, list_there}
 use Rattle.network_core.proofs.Mailing.{same_lists, settled_lists}
-use Rattle.network_core.proofs.Placing.{all_at, all_set, set_length}
 use Rattle.network_core.proofs.net.Net.hand_over.Goals as goal
 
 pub returns-in_err-make_room : goal.returns-in_err-make_room
@@ -91,7 +90,7 @@ take_at-requires g c =
     let count : length c.make_room.new.waiting.items ≡ length lists = same_lists frames_of lists c.make_room.new.waiting.items c.make_room.ensures.frames in
     let within : p < length c.make_room.new.waiting.items = omega (arith, inside, count, c.self.invariant.4) in
     let node_at = slice_get_read items (length items) p c.index_mut-node.result.now refl inside c.index_mut-node.ensures.value in
-    all_at (λ (k : NodeSeen). IsBy g.F.Spelt.reading k.journal c.self.inside.now.0) items p c.index_mut-node.result.now c.self.invariant.0 node_at
+    all_get (λ (k : NodeSeen). IsBy g.F.Spelt.reading k.journal c.self.inside.now.0) items p c.index_mut-node.result.now c.self.invariant.0 node_at
 
 pub invariant_of-self-in_err-reply : goal.invariant_of-self-in_err-reply
 invariant_of-self-in_err-reply g c =

@@ -1,4 +1,4 @@
-use Rattle.std.proofs.Common.{◌≡◌, ℕ, ◌+◌, ◌<◌, ◌≤◌, sym, ◌∙◌, ap, subst, rules, arith, refl, Some, None, Option, List, ◌++◌, length}
+use Rattle.std.proofs.Common.{◌≡◌, ℕ, ◌+◌, ◌<◌, ◌≤◌, sym, ◌∙◌, ap, subst, rules, arith, refl, Some, None, Option, List, ◌++◌, length, append-nil}
 use Rattle.std.specs.Option.{IsSome}
 use Rattle.net_base.specs.declared.names.Key.{Key}
 use Rattle.net_base.specs.declared.values.Party.{Party}
@@ -6,7 +6,7 @@ use Rattle.session_wire.specs.declared.body.Body.{Body}
 use Rattle.session_wire.specs.declared.change.SessionChange.{SessionChange}
 use Rattle.session_wire.specs.Sessions.{Session}
 use Rattle.session_table.specs.Changes.{came_on, acks_of_came, FitsCame, AcceptsItem, arrived_in}
-use Rattle.session_table.proofs.Stepping.{nil_end, none_came, none_acked}
+use Rattle.session_table.proofs.Stepping.{none_came, none_acked}
 use Rattle.session_table.proofs.sessions.Sessions.accept.Goals as goal
 
 -- an item that is accepted has a session
@@ -54,7 +54,7 @@ pub returns-in_default-clause-list : goal.returns-in_default-clause-list
 returns-in_default-clause-list c = sym (ap (λ (o : Option Body). came_on c.args.came_key o c.args.owner c.args.self.now.list) c.in_default.is ∙ none_came c.args.came_key c.args.owner c.args.self.now.list)
 
 pub returns-in_default-clause-acked : goal.returns-in_default-clause-acked
-returns-in_default-clause-acked c = sym (ap (λ (o : Option Body). c.args.self.now.acked ++ acks_of_came c.args.came_key o) c.in_default.is ∙ ap (λ (l : List ℕ). c.args.self.now.acked ++ l) (none_acked c.args.came_key) ∙ nil_end c.args.self.now.acked)
+returns-in_default-clause-acked c = sym (ap (λ (o : Option Body). c.args.self.now.acked ++ acks_of_came c.args.came_key o) c.in_default.is ∙ ap (λ (l : List ℕ). c.args.self.now.acked ++ l) (none_acked c.args.came_key) ∙ append-nil c.args.self.now.acked)
 
 pub returns-in_default-clause-room : goal.returns-in_default-clause-room
 returns-in_default-clause-room c = omega arith

@@ -1,9 +1,9 @@
-use Rattle.std.proofs.Common.{◌≡◌, ℕ, ◌+◌, ◌<◌, sym, ◌∙◌, ap, arith, Some, Option, List, [], ◌∷◌, length, true, false, is_some, true≢false, length-append}
+use Rattle.std.proofs.Common.{◌≡◌, ℕ, ◌+◌, ◌<◌, sym, ◌∙◌, ap, arith, Some, Option, List, [], ◌∷◌, length, true, false, is_some, true≢false, length-append, append-nil}
 use Rattle.std.proofs.lemmas.List.{length-map}
 use Rattle.std.specs.Option.{option_map_or}
 use Rattle.session_wire.specs.Sessions.{Session, session_of, with_came, new_session, changed_at}
 use Rattle.session_wire.specs.Rules.{is_init}
-use Rattle.session_table.proofs.Stepping.{came_begun, stands_begun, nil_end}
+use Rattle.session_table.proofs.Stepping.{came_begun, stands_begun}
 use Rattle.session_table.proofs.sessions.Sessions.accept_item.Goals as goal
 
 few_of : (m n : ℕ) → m ≡ n → m + 1 < 4294967296 → n + 1 < 4294967296
@@ -83,7 +83,7 @@ pub returns-clause-acked : goal.returns-clause-acked
 returns-clause-acked c =
     let init : is_init c.args.body ≡ false = sym c.is_init.ensures ∙ c.if-is_init.false in
     let a = c.requires.fits.1.goes_on init in
-    rw init (c.add_came-2.ensures.acked ∙ sym (nil_end c.args.self.now.acked))
+    rw init (c.add_came-2.ensures.acked ∙ sym (append-nil c.args.self.now.acked))
 
 pub returns-clause-room : goal.returns-clause-room
 returns-clause-room c =

@@ -1,13 +1,14 @@
 use Rattle.std.proofs.Common.{◌≡◌, sym, ◌∙◌, ap, arith, Some, slice_get, length}
 use Rattle.std.proofs.lemmas.List.{length-map}
 use Rattle.std.specs.Prelude.{option_copied}
+use Rattle.net_base.proofs.Lists.{get_map}
 use Rattle.session_wire.specs.Sessions.{Session}
 use Rattle.session_wire.specs.Rules.{direction_out}
 use Rattle.session_table.specs.Kept.{items_of, sent_of}
 use Rattle.session_table.specs.Tables.{item_of}
 use Rattle.session_table.specs.declared.resent.Item.{Item}
 use Rattle.session_table.proofs.Stepping.{found_line}
-use Rattle.session_table.proofs.Resending.{get_map, is_there, item_step, pushed}
+use Rattle.session_table.proofs.Resending.{is_there, item_step, pushed}
 use Rattle.session_table.proofs.sessions.Sessions.add_sent_items.Goals as goal
 
 pub unwrap-posted-requires : goal.unwrap-posted-requires

@@ -1,4 +1,4 @@
-use Rattle.std.proofs.Common.{◌≡◌, ℕ, sym, ◌∙◌, ap, refl, Option, Some, None, List, [], drop, slice_get, ◌++◌}
+use Rattle.std.proofs.Common.{◌≡◌, ℕ, sym, ◌∙◌, ap, refl, Option, Some, None, List, [], drop, slice_get, ◌++◌, append-nil}
 use Rattle.std.specs.Prelude.{zip}
 use Rattle.std.proofs.lemmas.List.{length-map}
 use Rattle.session_table.specs.Kept.{session_at}
@@ -7,7 +7,6 @@ use Rattle.session_wire.specs.Sessions.{Session}
 use Rattle.session_table.specs.Tables.{items_from, unacked_at, unacked_in}
 use Rattle.session_table.specs.declared.resent.Item.{Item}
 use Rattle.session_table.proofs.Found.{present, count_is}
-use Rattle.session_table.proofs.Items.{append_nil}
 use Rattle.session_table.proofs.Resending.{follows, no_pair, pair_at, unacked_is}
 use Rattle.session_table.proofs.sessions.Sessions.add_unacked.Goals as goal
 
@@ -35,4 +34,4 @@ pub returns-in-None : goal.returns-in-None
 returns-in-None c =
     let s = c.self.inside in
     let none : slice_get (zip c.args.self.now.list c.args.self.now.acked) c.args.place ≡ None = sym (ap (λ t. slice_get (zip t.list t.acked) c.args.place) c.self.view_is) ∙ no_pair (session_at s.sent.entries s.came.entries) (λ e. e.1.acked) s.lines.entries c.args.place (sym c.in-None.ensures.entry) in
-    sym (append_nil c.args.items.now.items) ∙ ap (λ (o : Option (Session × ℕ)). c.args.items.now.items ++ option_map_or (unacked_in c.args.self.now.party) o []) (sym none)
+    sym (append-nil c.args.items.now.items) ∙ ap (λ (o : Option (Session × ℕ)). c.args.items.now.items ++ option_map_or (unacked_in c.args.self.now.party) o []) (sym none)

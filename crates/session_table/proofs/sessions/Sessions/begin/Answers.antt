@@ -2,13 +2,14 @@ use Rattle.std.proofs.Common.{◌≡◌, ℕ, ◌+◌, ◌<◌, sym, ◌∙◌, 
 use Rattle.std.proofs.lemmas.List.{length-map, map-append}
 use Rattle.std.specs.Map.{keys_of}
 use Rattle.net_base.specs.declared.names.Key.{Key}
+use Rattle.net_base.proofs.Lists.{filter_length}
 use Rattle.session_wire.specs.Sessions.{Session, new_session}
 use Rattle.session_wire.specs.Rules.{is_opened_by, opened_by}
 use Rattle.session_table.specs.Kept.{session_at, IsKept}
 use Rattle.session_table.specs.declared.standing.Standing.{Standing}
 use Rattle.session_table.proofs.Found.{opened_keys}
 use Rattle.session_table.proofs.Keeping.{kept_begun}
-use Rattle.session_table.proofs.Stepping.{list_begun, new_line, filter_le}
+use Rattle.session_table.proofs.Stepping.{list_begun, new_line}
 use Rattle.session_table.specs.Kept.{owner_of}
 use Rattle.session_table.specs.Owned.{owners, owner_pair}
 use Rattle.session_table.proofs.Owning.{owners_push, few_owners}
@@ -21,7 +22,7 @@ overflow_add-self c =
     let s = c.self.inside in
     let same = ap (λ t. t.list) c.self.view_is in
     let party = ap (λ t. t.party) c.self.view_is in
-    let few = filter_le (is_opened_by s.party) (keys_of s.lines.entries) in
+    let few = filter_length (is_opened_by s.party) (keys_of s.lines.entries) in
     let keys = length-map s.lines.entries (λ e. e.0) in
     let list = ap length (sym same) ∙ length-map s.lines.entries (session_at s.sent.entries s.came.entries) in
     let opened = c.self.invariant.0.opened_is in

@@ -1,9 +1,9 @@
-use Rattle.std.proofs.Common.{◌≡◌, ℕ, ◌+◌, ◌≤◌, sym, ◌∙◌, ap, subst, arith, Some, Option, ◌++◌, length, true≢false}
+use Rattle.std.proofs.Common.{◌≡◌, ℕ, ◌+◌, ◌≤◌, sym, ◌∙◌, ap, subst, arith, Some, Option, ◌++◌, length, true≢false, append-nil}
 use Rattle.net_base.specs.declared.names.Key.{Key}
 use Rattle.net_base.specs.declared.values.Party.{Party}
 use Rattle.session_wire.specs.Sessions.{opened_on}
 use Rattle.session_table.specs.Changes.{acks_of_opened, FitsOpened}
-use Rattle.session_table.proofs.Stepping.{nil_end, own_key}
+use Rattle.session_table.proofs.Stepping.{own_key}
 use Rattle.session_table.proofs.sessions.Sessions.open.Goals as goal
 
 room_of : (old new m n : ℕ) → m ≡ n → old ≤ new + n → old ≤ new + m
@@ -32,7 +32,7 @@ pub returns-in_default-clause-list : goal.returns-in_default-clause-list
 returns-in_default-clause-list c = sym (ap (λ (o : Option (Key × Party)). opened_on o (Some c.args.owner) c.args.self.now.list) c.in_default.is)
 
 pub returns-in_default-clause-acked : goal.returns-in_default-clause-acked
-returns-in_default-clause-acked c = sym (ap (λ (o : Option (Key × Party)). c.args.self.now.acked ++ acks_of_opened o) c.in_default.is ∙ nil_end c.args.self.now.acked)
+returns-in_default-clause-acked c = sym (ap (λ (o : Option (Key × Party)). c.args.self.now.acked ++ acks_of_opened o) c.in_default.is ∙ append-nil c.args.self.now.acked)
 
 pub returns-in_default-clause-room : goal.returns-in_default-clause-room
 returns-in_default-clause-room c = omega arith

@@ -1,11 +1,11 @@
-use Rattle.std.proofs.Common.{◌≡◌, ℕ, sym, ◌∙◌, ap, List, ◌++◌, get_or}
+use Rattle.std.proofs.Common.{◌≡◌, ℕ, sym, ◌∙◌, ap, List, ◌++◌, get_or, append-nil}
 use Rattle.std.specs.Prelude.{flat_map}
 use Rattle.std.proofs.lemmas.Option.{slice_get-get_or}
+use Rattle.std.proofs.lemmas.List.{drop_all}
 use Rattle.session_table.specs.Tables.{unacked, unacked_at}
 use Rattle.session_table.specs.declared.resent.Item.{Item}
 use Rattle.session_table.proofs.Gathering.{gathered_is}
-use Rattle.session_table.proofs.Items.{append_nil}
-use Rattle.session_table.proofs.Resending.{appended, drop_all}
+use Rattle.session_table.proofs.Resending.{appended}
 use Rattle.session_table.proofs.sessions.Sessions.unacked.Goals as goal
 
 pub loop-place-init : goal.loop-place-init
@@ -30,8 +30,8 @@ loop-place-preserved c =
 pub returns : goal.returns
 returns c =
     let t = c.args.self.now in
-    let end = drop_all c.deref-place-items.result.now c.loop-place.place-index c.loop-place-test.false in
+    let end = drop_all c.loop-place.place-index c.deref-place-items.result.now c.loop-place-test.false in
     c.from_vec.ensures
-    ∙ sym (append_nil c.loop-place.items.items)
+    ∙ sym (append-nil c.loop-place.items.items)
     ∙ ap (λ (l : List ℕ). c.loop-place.items.items ++ flat_map (unacked_at t.party t.list t.acked) l) (sym end)
     ∙ c.loop-place.invariant

@@ -2,13 +2,14 @@ use Rattle.std.proofs.Common.{◌≡◌, ◌<◌, ◌++◌, ◌∷◌, [], List,
 use Rattle.std.proofs.lemmas.Bool.{and_from}
 use Rattle.indexmap.proofs.CallerLemmas.{insert_entry-new}
 use Rattle.net_base.specs.declared.values.Hash32.{Hash32}
+use Rattle.net_base.proofs.Options.{on_ok}
 use Rattle.ledger_types.specs.declared.tx.SignedTx.{SignedTx}
 use Rattle.ledger_types.specs.Names.{hash_eq}
 use Rattle.ledger_types.specs.Signatures.{tx_id}
 use Rattle.ledger_types.specs.Stores.{is_stored}
 use Rattle.tx_store.specs.Stored.{AreWithin, is_in_order, may_follow}
 use Rattle.tx_store.proofs.Limits.{within_more}
-use Rattle.tx_store.proofs.Ordered.{lookup_some, none_is, on_ok, in_order_push, hash_same}
+use Rattle.tx_store.proofs.Ordered.{lookup_some, none_is, in_order_push, hash_same}
 use Rattle.tx_store.proofs.store.Store.put.Goals as goal
 
 -- the entries behind the call
