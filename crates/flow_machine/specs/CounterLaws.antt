@@ -31,20 +31,20 @@ use Rattle.flow_machine.specs.Counter.{machine, worded, count_words, spelt_count
 -- ---- bytes
 
 -- a place is told by its number
-of_place : (n : ℕ) → n < 3 → place_of (phase_of n) ≡ n
+pub of_place : (n : ℕ) → n < 3 → place_of (phase_of n) ≡ n
 of_place zero h = refl
 of_place (suc zero) h = refl
 of_place (suc (suc zero)) h = refl
 of_place (suc (suc (suc n))) h = absurd (omega (arith, h))
 
 -- a phase is told by its place
-to_phase : (phase : Phase) → phase_of (place_of phase) ≡ phase
+pub to_phase : (phase : Phase) → phase_of (place_of phase) ≡ phase
 to_phase Failing = refl
 to_phase Sleeping = refl
 to_phase Returning = refl
 
 -- there are three places
-place_below : (phase : Phase) → place_of phase < 3
+pub place_below : (phase : Phase) → place_of phase < 3
 place_below Failing = omega arith
 place_below Sleeping = omega arith
 place_below Returning = omega arith

@@ -21,25 +21,11 @@ use crate::resuming::{call, hand_down, let_go, resume};
 use flow_machine::{Act, Checkpoint, FlowSet, FlowState, Resumed};
 use flow_records::{FlowAfter, Step};
 use ledger_types::Value;
-use net_base::{Cause, Identity, Key, ListOf, Party, Unlimited};
-use session_acts::{Performed, end_sessions, open, receive, send};
+use net_base::{Cause, Identity, Key, Party, Unlimited};
+use session_acts::{Performed, end_sessions, open, receive, send, unchanged};
 use session_table::Sessions;
 use session_wire::{Body, SessionChange};
 use std::alloc::{AllocError, Global};
-
-/// No session changes, by a flow. Takes no memory.
-pub(crate) fn unchanged(alloc: Global, flow: u32) -> SessionChange
-    ensures { result ≡ unchanged flow }
-{
-    SessionChange {
-        opened: None,
-        owner: flow,
-        sent: ListOf::new(alloc),
-        came: None,
-        came_key: None,
-        taken: None,
-    }
-}
 
 /// The step by which the flow of the number becomes this, and by which this changes in the sessions.
 pub(crate) fn step_of<F>(

@@ -13,13 +13,14 @@ ghost use Rattle.flow_records.specs.Records.{IsFlow};
 ghost use Rattle.flow_steps.specs.Going.{first_state};
 ghost use Rattle.flow_steps.specs.Ready.{AreKept, IsBegun, IsReady};
 
-use crate::acts::{perform, step_of, unchanged};
+use crate::acts::{perform, step_of};
 use crate::picking::flow_in;
 use crate::resuming::place_of;
 use checkpoints::{FlowView, Flows};
 use flow_machine::{Act, Checkpoint, FlowSet, FlowState, MakeFault, Stack};
 use flow_records::Step;
 use net_base::{ByteList, Cause, Event, Identity, Moment, Unlimited};
+use session_acts::unchanged;
 use session_table::Sessions;
 use std::alloc::{AllocError, Global};
 

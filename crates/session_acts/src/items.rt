@@ -14,7 +14,7 @@ use session_wire::{Body, SentItem, SessionChange};
 use std::alloc::{AllocError, Global};
 
 /// No session changes, by a flow. Takes no memory.
-pub(crate) fn unchanged(alloc: Global, flow: u32) -> SessionChange
+pub fn unchanged(alloc: Global, flow: u32) -> SessionChange
     ensures { result ≡ unchanged flow }
 {
     SessionChange {

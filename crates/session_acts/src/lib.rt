@@ -13,6 +13,7 @@ pub use accepting::{answer, arrive};
 pub use acts::{Performed, open, receive, send};
 pub use enabling::{enabling_event, is_waiting};
 pub use ends::end_sessions;
+pub use items::unchanged;
 pub use laws::{accepted_as_meant, sessions_are_sound};
 
 #[cfg(test)]

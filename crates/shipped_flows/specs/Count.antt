@@ -1,5 +1,5 @@
 -- The counting flow's frames among those of the set: their own bytes, and their acts.
-use Rattle.std.specs.Prelude.{◌≡◌, ℕ, zero, suc, ◌<◌, List, ◌∷◌, ◌++◌, length, Result, refl}
+use Rattle.std.specs.Prelude.{◌≡◌, ℕ, List, ◌∷◌, ◌++◌, length, Result, refl}
 use Rattle.std.proofs.Common.{arith, ap}
 use Rattle.std.specs.Int.{w32}
 use Rattle.net_base.specs.Reading.{number}
@@ -10,7 +10,7 @@ use Rattle.net_base.specs.Combining.{mapped_at, mapped_laws, pair_at, pair_laws}
 use Rattle.net_base.specs.Fields.{below_laws, u32_laws}
 use Rattle.flow_machine.specs.declared.counter.Counter.{Counter}
 use Rattle.flow_machine.specs.declared.counter.Phase.{Phase}
-use Rattle.flow_machine.specs.declared.counter.Phase.TheVariants.{Sleeping, Returning, Failing}
+use Rattle.flow_machine.specs.CounterLaws.{of_place, to_phase, place_below}
 use Rattle.flow_machine.specs.Counter.{place_of, phase_of, content, IsCounter}
 
 -- a frame of its fields, behind the machine
@@ -20,25 +20,6 @@ count_of p = record { phase = phase_of p.1.0; left = p.1.1.0; all = p.1.1.1 }
 -- reading a frame's own bytes
 unfoldable pub count_at : List ℕ → Result (Counter × List ℕ) ℕ
 count_at = mapped_at count_of (pair_at (between_at 1 2) (pair_at (below_at 3) (pair_at (number_at w32) (number_at w32))))
-
--- a place is told by its number
-of_place : (n : ℕ) → n < 3 → place_of (phase_of n) ≡ n
-of_place zero h = refl
-of_place (suc zero) h = refl
-of_place (suc (suc zero)) h = refl
-of_place (suc (suc (suc n))) h = absurd (omega (arith, h))
-
--- a phase is told by its place
-to_phase : (phase : Phase) → phase_of (place_of phase) ≡ phase
-to_phase Failing = refl
-to_phase Sleeping = refl
-to_phase Returning = refl
-
--- there are three places
-place_below : (phase : Phase) → place_of phase < 3
-place_below Failing = omega arith
-place_below Sleeping = omega arith
-place_below Returning = omega arith
 
 -- the laws of a frame's own bytes
 pub count_laws : Laws IsCounter content count_at

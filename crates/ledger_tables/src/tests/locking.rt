@@ -1,10 +1,16 @@
 //! Coins that a flow locks, and that are free again where it ends.
 
+ghost use Rattle.std.specs.Prelude.{◌≡◌, true, false};
+ghost use Rattle.std.specs.List.{list_all};
+ghost use Rattle.ledger_types.specs.Names.{ref_eq, has_repeat};
+ghost use Rattle.vault.specs.Holdings.{has_coin};
+
 use crate::Tables;
 use crate::tests::{output, record, spell, token};
 use ledger_types::LedgerChange;
 use net_base::{ListOf, Party, StateRef};
-use std::alloc::Global;
+use std::alloc::{AllocError, Global};
+use std::mem::forget;
 use std::test::Fail;
 use vault::ReserveFault;
 
@@ -70,19 +76,106 @@ fn lock_twice(alloc: Global, tables: &mut Tables, coin: StateRef) -> Result<[boo
     Ok([lock(alloc, tables, 7, coin)?, lock(alloc, tables, 8, coin)?])
 }
 
+/// What a reservation of 60 names, and which flows have the two states locked.
+type Seen = ((usize, u128), [Option<u32>; 2]);
+
+fn look(alloc: Global, tables: &Tables) -> Result<Seen, Fail> {
+    Ok((reserve(alloc, tables), lockers(alloc, tables)?))
+}
+
+/// What is seen before any lock, once flow 7 has the first coin, once flow 8 has ended, and once flow 7 has; and which of the two
+/// could lock it.
+fn lock_and_end(
+    alloc: Global,
+    tables: &mut Tables,
+    coin: StateRef,
+) -> Result<([bool; 2], [Seen; 4]), Fail> {
+    let free = look(alloc, tables)?;
+    let could = lock_twice(alloc, tables, coin)?;
+    let locked = look(alloc, tables)?;
+    end(alloc, tables, 8)?;
+    let still = look(alloc, tables)?;
+    end(alloc, tables, 7)?;
+    Ok((could, [free, locked, still, look(alloc, tables)?]))
+}
+
 #[test]
 fn locks_and_releases_at_the_end(rt: HostRuntime) -> Result<(), Fail> {
-    let alloc = rt.alloc();
-    let mut tables = Tables::new(alloc, Party(1));
-    let [coin, _] = two_coins(alloc, &mut tables)?;
-    assert_eq!(rt; reserve(alloc, &tables), (1, 0));
-    assert_eq!(rt; lock_twice(alloc, &mut tables, coin)?, [true, false]);
-    assert_eq!(rt; lockers(alloc, &tables)?, [Some(7), None]);
-    assert_eq!(rt; reserve(alloc, &tables), (0, 50));
-    end(alloc, &mut tables, 8)?;
-    assert_eq!(rt; reserve(alloc, &tables), (0, 50));
-    end(alloc, &mut tables, 7)?;
-    assert_eq!(rt; lockers(alloc, &tables)?, [None, None]);
-    assert_eq!(rt; reserve(alloc, &tables), (1, 0));
+    let mut tables = Tables::new(rt.alloc(), Party(1));
+    let [coin, _] = two_coins(rt.alloc(), &mut tables)?;
+    let (could, seen) = lock_and_end(rt.alloc(), &mut tables, coin)?;
+    forget(tables);
+    assert_eq!(rt; could, [true, false]);
+    let free = ((1, 0), [None, None]);
+    let locked = ((0, 50), [Some(7), None]);
+    assert_eq!(rt; seen, [free, locked, locked, free]);
+    Ok(())
+}
+
+/// Locks coins for a flow.
+fn lock_all(
+    alloc: Global,
+    tables: &mut Tables,
+    flow: u32,
+    coins: &[StateRef],
+) -> Result<usize, AllocError>
+    requires coins { list_all (has_coin tables.old.vault.held) coins.now ≡ true }
+    requires once { has_repeat ref_eq coins.now ≡ false }
+{
+    let change = LedgerChange {
+        recorded: None,
+        locked: ListOf::from_slice(alloc, coins)?,
+        owner: flow,
+        ended: false,
+        booked: None,
+    };
+    tables.make_room(alloc, &change)?;
+    tables.apply(change);
+    Ok(coins.len())
+}
+
+/// Locks for a flow all that a reservation of the amount names, as it stands, and tells how many coins that are: one or two, else 0.
+fn reserve_and_lock(
+    alloc: Global,
+    tables: &mut Tables,
+    flow: u32,
+    amount: u64,
+) -> Result<usize, AllocError> {
+    let Ok(coins) = tables.vault().reserve(alloc, &token(), amount) else {
+        return Ok(0);
+    };
+    let locked = match coins.as_slice() {
+        [a] => lock_all(alloc, tables, flow, &[a.reference]),
+        [a, b] => lock_all(alloc, tables, flow, &[a.reference, b.reference]),
+        _ => Ok(0),
+    };
+    forget(coins);
+    locked
+}
+
+/// How many coins flow 7 locks for 60, flow 8 for 60 more, flow 8 for 50 and, once both have ended, flow 9 for 150.
+fn reserve_in_turn(alloc: Global, tables: &mut Tables) -> Result<[usize; 4], Fail> {
+    let first = reserve_and_lock(alloc, tables, 7, 60)?;
+    let short = reserve_and_lock(alloc, tables, 8, 60)?;
+    let second = reserve_and_lock(alloc, tables, 8, 50)?;
+    end(alloc, tables, 7)?;
+    end(alloc, tables, 8)?;
+    Ok([
+        first,
+        short,
+        second,
+        reserve_and_lock(alloc, tables, 9, 150)?,
+    ])
+}
+
+#[test]
+fn locks_what_a_reservation_names(rt: HostRuntime) -> Result<(), Fail> {
+    let mut tables = Tables::new(rt.alloc(), Party(1));
+    two_coins(rt.alloc(), &mut tables)?;
+    let counts = reserve_in_turn(rt.alloc(), &mut tables)?;
+    let lockers = lockers(rt.alloc(), &tables)?;
+    forget(tables);
+    assert_eq!(rt; counts, [1, 0, 1, 2]);
+    assert_eq!(rt; lockers, [Some(9), Some(9)]);
     Ok(())
 }
