@@ -4,7 +4,7 @@ use Rattle.std.proofs.lemmas.List.{length-take-le, get_or-take, get_or-drop, get
 use Rattle.outside.specs.Disk.{Durable, IsImage, IsUntouched, written_end, overwritten, with_range, clean}
 use Rattle.outside.proofs.Moments.{clean_image}
 use Rattle.std.proofs.lemmas.Grind.{same_number_lists}
-use Rattle.disk_mem.specs.Mem.{durable_of}
+use Rattle.disk_mem.specs.Mem.{durable_of, durable}
 use Rattle.disk_mem.specs.declared.lay.Medium.{Medium}
 use Rattle.std.specs.declared.snapshot.Snapshot.{Snapshot}
 
@@ -53,15 +53,12 @@ module _ (old bytes : List ℕ) (at : ℕ) (within : at ≤ length old) where
     elsewhere = λ i lt u. let rest = untouched_push s.pending (at, length bytes) i u in get-overwritten i (omega (arith, lt, image.no_shorter)) rest.1 ∙ image.elsewhere i lt rest.0;
   }
 
-abbrev pub record_surface : List ℕ → List (ℕ × ℕ) → Durable
-record_surface synced pending = record { synced = synced; pending = pending }
-
 pub past_push : (past : List (Snapshot Medium)) (s : Snapshot Medium) (l : Medium) → s.value ≡ l → map (λ (x : Snapshot Medium). durable_of x.value) (past ++ s ∷ []) ≡ map (λ (x : Snapshot Medium). durable_of x.value) past ++ durable_of l ∷ []
 past_push [] s l is = ap (λ (x : Medium). durable_of x ∷ []) is
 past_push (p ∷ past) s l is = ap (λ (xs : List Durable). durable_of p.value ∷ xs) (past_push past s l is)
 
 -- with no range since the sync, what is there is what was synced
-pub clean_now : (synced : List ℕ) (pending : List (ℕ × ℕ)) (bytes : List ℕ) → length pending ≡ 0 → IsImage (record { synced = synced; pending = pending }) bytes → record_surface synced pending ≡ clean bytes
+pub clean_now : (synced : List ℕ) (pending : List (ℕ × ℕ)) (bytes : List ℕ) → length pending ≡ 0 → IsImage (record { synced = synced; pending = pending }) bytes → durable synced pending ≡ clean bytes
 clean_now synced [] bytes none image = λ i. record { synced = sym (clean_image synced bytes image) i; pending = [] }
 clean_now synced (t ∷ ts) bytes none image = absurd (omega (arith, none))
 

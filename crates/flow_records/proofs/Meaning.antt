@@ -10,10 +10,10 @@ use Rattle.transition_record.specs.Records.{IsRecord, record_text, record_at, re
 use Rattle.session_wire.specs.declared.effect.FlowPart.{FlowPart as SpokenPart}
 use Rattle.transition_record.specs.Causes.{IsCause, came_key_of}
 use Rattle.transition_record.specs.Changes.{IsSession, session_text}
-use Rattle.net_model.specs.State.{FlowPart}
+use Rattle.net_model.specs.State.{FlowPart, session_part}
 use Rattle.flow_records.specs.Records.{whole, record_over, record_of}
 use Rattle.flow_records.specs.declared.step.FlowAfter.{FlowAfter}
-use Rattle.flow_records.specs.Steps.{effect_by, change_by, owner_of, ends_with, spoken_by, IsPartAfter}
+use Rattle.flow_records.specs.Steps.{effect_by, owner_of, ends_with, spoken_by, IsPartAfter}
 use Rattle.flow_records.proofs.Sizes.{spoken_fits}
 use Rattle.flow_records.proofs.Whole.{whole_again, whole_takes}
 
@@ -56,7 +56,7 @@ step_is_record frame_at cause flow p s hc h hs few = record {
 -- whose bytes mean that step
 step_means : {F : Type 0} (frame_at : List ℕ → Result (F × List ℕ) ℕ) (cause : Cause) (flow : Option (FlowAfter F)) (p : SpokenPart) (s : SessionChange) → IsCause cause → IsPartAfter frame_at flow p → IsSession (owner_of flow) (came_key_of cause.event) s → length (session_text s) ≤ 50000 → (bytes : List ℕ) → bytes ≡ record_text cause (spoken_by p s (owner_of flow) (ends_with flow)) → record_of frame_at bytes ≡ Some (record { cause = cause; effect = effect_by flow s })
 step_means {F} frame_at cause flow p s hc h hs few bytes is =
-    spelt_means frame_at bytes cause (spoken_by p s (owner_of flow) (ends_with flow)) (step_is_record frame_at cause flow p s hc h hs few) is ∙ ap (λ (o : Option (FlowPart F)). option_map (λ x. record { cause = cause; effect = record { flow = x; change = change_by s } }) o) h.means
+    spelt_means frame_at bytes cause (spoken_by p s (owner_of flow) (ends_with flow)) (step_is_record frame_at cause flow p s hc h hs few) is ∙ ap (λ (o : Option (FlowPart F)). option_map (λ x. record { cause = cause; effect = record { flow = x; change = session_part s } }) o) h.means
 
 -- so do those that were written
 pub step_written : {F E : Type 0} (frame_at : List ℕ → Result (F × List ℕ) ℕ) (cause : Cause) (flow : Option (FlowAfter F)) (p : SpokenPart) (s : SessionChange) → IsCause cause → IsPartAfter frame_at flow p → IsSession (owner_of flow) (came_key_of cause.event) s → length (session_text s) ≤ 50000 → (r : Result (List ℕ) E) → IfOk r (λ bytes. bytes ≡ record_text cause (spoken_by p s (owner_of flow) (ends_with flow))) → IfOk r (λ bytes. record_of frame_at bytes ≡ Some (record { cause = cause; effect = effect_by flow s }))

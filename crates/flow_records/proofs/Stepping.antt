@@ -10,12 +10,12 @@ use Rattle.ledger_types.specs.declared.notary.Entry.{Entry}
 use Rattle.session_wire.specs.declared.effect.Effect.{Effect as Spoken}
 use Rattle.transition_record.specs.Causes.{IsCause, came_key_of}
 use Rattle.transition_record.specs.Changes.{part_flow, IsSession}
-use Rattle.net_model.specs.State.{FlowPart, Change, Record}
+use Rattle.net_model.specs.State.{FlowPart, Change, Record, session_part}
 use Rattle.flow_records.specs.declared.step.FlowAfter.{FlowAfter}
 use Rattle.flow_records.specs.Records.{flow_part, change_of, record_over}
 use Rattle.flow_records.specs.Alone.{leaves_ledger}
 use Rattle.flow_records.specs.Telling.{leaves_ledger_of}
-use Rattle.flow_records.specs.Steps.{part_after, change_by, besides_ledger, owner_of, step_with, TellsAfter, TellsStep}
+use Rattle.flow_records.specs.Steps.{part_after, besides_ledger, owner_of, step_with, TellsAfter, TellsStep}
 
 -- ---- the ledger
 
@@ -61,7 +61,7 @@ not_read cause c (Some p) true is h = absurd cc
 not_read cause c (Some p) false is h = rw is refl
 
 -- an effect that leaves the ledger changes what it changes in the sessions
-by_session : (e : Spoken) → leaves_ledger_of e.ledger ≡ true → change_of e ≡ change_by e.session
+by_session : (e : Spoken) → leaves_ledger_of e.ledger ≡ true → change_of e ≡ session_part e.session
 by_session e h =
     let l = ledger_still e.ledger.recorded e.ledger.locked e.ledger.booked h in
     λ i. record { opened = e.session.opened; sent = e.session.sent; came = e.session.came; taken = e.session.taken; recorded = l.recorded_is i; locked = l.locked_is i; booked = l.booked_is i }

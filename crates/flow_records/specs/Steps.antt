@@ -12,7 +12,7 @@ use Rattle.session_wire.specs.declared.effect.FlowPart.TheVariants as part
 use Rattle.flow_machine.specs.declared.flows.FlowState.{FlowState}
 use Rattle.transition_record.specs.Causes.{IsCause, came_key_of}
 use Rattle.transition_record.specs.Changes.{IsFlowPart, part_text, part_flow, part_over, IsSessionPart, IsSession, session_text}
-use Rattle.net_model.specs.State.{FlowPart, no_flow, Change, Effect, Record}
+use Rattle.net_model.specs.State.{FlowPart, no_flow, Effect, Record, session_part}
 use Rattle.net_model.specs.Enabled.{part_of}
 use Rattle.net_model.specs.Sound.{IsNumbered}
 use Rattle.flow_records.specs.declared.step.FlowAfter.{FlowAfter}
@@ -28,13 +28,9 @@ abbrev pub part_after : {F : Type 0} → Option (FlowAfter F) → FlowPart F
 part_after None = no_flow
 part_after (Some after) = part_of after.number after.state
 
--- what changes by this in the sessions, and nothing of the ledger
-abbrev pub change_by : SessionChange → Change
-change_by session = record { opened = session.opened; sent = session.sent; came = session.came; taken = session.taken; recorded = None; locked = []; booked = None }
-
 -- this is the flow afterwards, this changes in the sessions, and nothing of the ledger
 abbrev pub effect_by : {F : Type 0} → Option (FlowAfter F) → SessionChange → Effect F
-effect_by flow session = record { flow = part_after flow; change = change_by session }
+effect_by flow session = record { flow = part_after flow; change = session_part session }
 
 -- the record of a step
 abbrev pub step_record : {F : Type 0} → Step F → Record F

@@ -22,11 +22,11 @@ use Rattle.flow_machine.specs.Machine.{Machine}
 use Rattle.transition_record.specs.Causes.{IsEvent, came_key_of}
 use Rattle.transition_record.specs.Changes.{IsSession, session_text}
 use Rattle.net_model.specs.Environment.{Environment, environment}
-use Rattle.net_model.specs.State.{NodeState, Effect}
+use Rattle.net_model.specs.State.{NodeState, Effect, session_part}
 use Rattle.net_model.specs.Steps.{place, effect_of, answering, answered_with}
 use Rattle.net_model.specs.Enabled.{enabled_event}
 use Rattle.net_model.proofs.Enabled.{effect_at}
-use Rattle.session_acts.specs.Parts.{session_part, unchanged, answer_to, arrival}
+use Rattle.session_acts.specs.Parts.{unchanged, answer_to, arrival}
 use Rattle.session_acts.proofs.Limits.{unchanged_within}
 use Rattle.flow_records.specs.declared.step.FlowAfter.{FlowAfter}
 use Rattle.flow_records.specs.declared.step.Step.{Step}

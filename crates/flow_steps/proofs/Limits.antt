@@ -20,10 +20,10 @@ use Rattle.flow_machine.specs.declared.acts.Resumed.TheVariants as resumed
 use Rattle.flow_machine.specs.Limits.{IsResumed}
 use Rattle.transition_record.specs.Changes.{IsSession, IsSessionPart, IsOpened, session_text}
 use Rattle.net_model.specs.Environment.{party}
-use Rattle.net_model.specs.State.{nothing}
+use Rattle.net_model.specs.State.{nothing, session_part}
 use Rattle.net_model.specs.Steps.{Done, opens, sends, handed, takes, receives, last_items}
 use Rattle.session_acts.specs.declared.acts.Performed.{Performed}
-use Rattle.session_acts.specs.Parts.{done_of, unchanged, session_part}
+use Rattle.session_acts.specs.Parts.{done_of, unchanged}
 use Rattle.session_acts.proofs.Limits.{unchanged_within}
 use Rattle.flow_records.specs.Steps.{carries_value}
 use Rattle.flow_records.proofs.Lengths.{few_values_are_short}

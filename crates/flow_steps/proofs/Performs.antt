@@ -31,14 +31,14 @@ use Rattle.flow_machine.specs.Flows.{KeepsLimits}
 use Rattle.flow_machine.specs.Limits.{IsPlace, IsResumed}
 use Rattle.flow_machine.specs.Machine.{Machine}
 use Rattle.net_model.specs.Environment.{Environment, environment, is_act_built}
-use Rattle.net_model.specs.State.{NodeState, Effect, nothing, fresh}
+use Rattle.net_model.specs.State.{NodeState, Effect, nothing, fresh, session_part}
 use Rattle.net_model.specs.Steps.{Done, goes_on, onwards, pushes, returns, fails, opens, sends, receives, takes, performed, lapsed, lapses}
 use Rattle.net_model.specs.Enabled.{enabling, enabled_event, effect_on}
 use Rattle.net_model.specs.Sound.{IsNumbered}
 use Rattle.session_wire.specs.declared.change.SessionChange.{SessionChange}
 use Rattle.session_wire.specs.declared.body.Body.TheVariants as body_of
 use Rattle.transition_record.specs.Changes.{IsSession, session_text}
-use Rattle.session_acts.specs.Parts.{session_part, unchanged}
+use Rattle.session_acts.specs.Parts.{unchanged}
 use Rattle.session_acts.proofs.Limits.{unchanged_within}
 use Rattle.flow_records.specs.Records.{IsFlow}
 use Rattle.flow_records.specs.declared.step.Step.{Step}

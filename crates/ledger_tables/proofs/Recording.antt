@@ -11,11 +11,9 @@ use Rattle.ledger_types.specs.Names.{hash_eq}
 use Rattle.ledger_types.specs.Signatures.{tx_id}
 use Rattle.ledger_types.specs.Stores.{is_stored, untagged}
 use Rattle.tx_store.specs.Stored.{all_stored, has_dependencies}
+use Rattle.tx_store.proofs.Ordered.{Recorded}
 use Rattle.vault.specs.Holdings.{is_noted, may_note}
 use Rattle.ledger_tables.specs.Ledgers.{may_record}
-
-abbrev Recorded : Type 0
-Recorded = Hash32 × SignedTx
 
 noted_is : (store : List Recorded) (id : Hash32) → is_noted (untagged store) id ≡ is_stored store id
 noted_is [] id = refl

@@ -5,11 +5,8 @@ use Rattle.std.specs.List.{AllByRecursion}
 use Rattle.std.proofs.lemmas.Bool.{eq-eqb, eqb-true, ne_eqb, ltb-true, ltb-false, or_cases, or_parts, and_parts}
 use Rattle.net_base.proofs.Lists.{all_weaken}
 use Rattle.net_model.specs.State.{Record}
-use Rattle.net_model.specs.Runs.{is_before, put, merge_two, merge_from, merge, record_stamp}
+use Rattle.net_model.specs.Runs.{is_before, put, merge_two, merge_from, merge, record_stamp, at_node}
 use Rattle.net_model.proofs.Local.{of_node, Rising, AreBelow}
-
-abbrev pub tagged : {X : Type 0} → ℕ → List X → List (ℕ × X)
-tagged p xs = map (λ x. (p, x)) xs
 
 -- ---- what holds of all
 
@@ -45,19 +42,19 @@ module _ {X : Type 0} (p : ℕ) where
   merge_mine before [] ys h = h
   merge_mine before (x ∷ xs) ys h = put_mine before x (merge_two before xs) (of_node p xs) ys (λ zs k. merge_mine before xs zs k) h
 
-  of_own : (xs : List X) → of_node p (tagged p xs) ≡ xs
+  of_own : (xs : List X) → of_node p (at_node p xs) ≡ xs
   of_own [] = refl
   of_own (x ∷ xs) = rw (eq-eqb p p refl, of_own xs)
 
-  merge_other : (q : ℕ) (before : ℕ × X → ℕ × X → Bool) (xs : List X) (ys : List (ℕ × X)) → (p == q) ≡ false → of_node p (merge_two before (tagged q xs) ys) ≡ of_node p ys
+  merge_other : (q : ℕ) (before : ℕ × X → ℕ × X → Bool) (xs : List X) (ys : List (ℕ × X)) → (p == q) ≡ false → of_node p (merge_two before (at_node q xs) ys) ≡ of_node p ys
   merge_other q before [] ys e = refl
-  merge_other q before (x ∷ xs) ys e = put_other before (q, x) (merge_two before (tagged q xs)) ys e (λ zs. merge_other q before xs zs e)
+  merge_other q before (x ∷ xs) ys e = put_other before (q, x) (merge_two before (at_node q xs)) ys e (λ zs. merge_other q before xs zs e)
 
   pub of_later : (xs : List (ℕ × X)) → AllByRecursion (λ x. p < x.0) xs → of_node p xs ≡ []
   of_later [] h = refl
   of_later (x ∷ xs) h = let l = h.0 in let e : (p == x.0) ≡ false = ne_eqb p x.0 (λ k. omega arith) in rw e (of_later xs h.1)
 
-all_tagged : {X : Type 0} (P : ℕ × X → Type 0) (q : ℕ) (xs : List X) → ((x : X) → P (q, x)) → AllByRecursion P (tagged q xs)
+all_tagged : {X : Type 0} (P : ℕ × X → Type 0) (q : ℕ) (xs : List X) → ((x : X) → P (q, x)) → AllByRecursion P (at_node q xs)
 all_tagged P q [] f = tt
 all_tagged P q (x ∷ xs) f = (f x, all_tagged P q xs f)
 
@@ -65,7 +62,7 @@ all_tagged P q (x ∷ xs) f = (f x, all_tagged P q xs f)
 pub merge_from_nodes : {X : Type 0} (stamp : X → ℕ) (q : ℕ) (lists : List (List X)) → AllByRecursion (λ x. (q ≤ x.0) × (x.0 < q + length lists)) (merge_from stamp q lists)
 merge_from_nodes stamp q [] = tt
 merge_from_nodes {X} stamp q (xs ∷ lists) =
-    all_merge_two (λ x. (q ≤ x.0) × (x.0 < q + length (xs ∷ lists))) (is_before stamp) (tagged q xs) (merge_from stamp (q + 1) lists)
+    all_merge_two (λ x. (q ≤ x.0) × (x.0 < q + length (xs ∷ lists))) (is_before stamp) (at_node q xs) (merge_from stamp (q + 1) lists)
     (all_tagged (λ x. (q ≤ x.0) × (x.0 < q + length (xs ∷ lists))) q xs (λ x. (omega arith, omega arith)))
     (all_weaken _ (λ x. (q ≤ x.0) × (x.0 < q + length (xs ∷ lists))) _ (λ x h. (omega arith, omega arith)) (merge_from_nodes stamp (q + 1) lists))
 
@@ -75,7 +72,7 @@ merge_from_of {X} stamp q zero (ys ∷ lists) xs h =
     let same : ys ≡ xs = cc in
     let e : q + 0 ≡ q = omega arith in
     let later : of_node q (merge_from stamp (q + 1) lists) ≡ [] = of_later q _ (all_weaken _ (λ x. q < x.0) _ (λ x l. let m = l.0 in omega arith) (merge_from_nodes stamp (q + 1) lists)) in
-    rw e (merge_mine q (is_before stamp) (tagged q ys) _ later ∙ (of_own q ys ∙ same))
+    rw e (merge_mine q (is_before stamp) (at_node q ys) _ later ∙ (of_own q ys ∙ same))
 merge_from_of {X} stamp q (suc k) (ys ∷ lists) xs h =
     let e : q + suc k ≡ (q + 1) + k = omega arith in
     let no : (q + suc k == q) ≡ false = ne_eqb (q + suc k) q (λ l. omega arith) in
@@ -122,17 +119,17 @@ abbrev pub Climbs : {F : Type 0} → ℕ → List (Record F) → Type 0
 Climbs n [] = ⊤
 Climbs n (r ∷ rs) = (n < record_stamp r) × Climbs (record_stamp r) rs
 
-climbs_from : {F : Type 0} (p n m : ℕ) (rs : List (Record F)) → m ≤ n → Climbs n rs → From m (tagged p rs)
+climbs_from : {F : Type 0} (p n m : ℕ) (rs : List (Record F)) → m ≤ n → Climbs n rs → From m (at_node p rs)
 climbs_from p n m [] l h = tt
 climbs_from p n m (r ∷ rs) l h = let k = h.0 in (omega arith, climbs_from p (record_stamp r) m rs (omega arith) h.1)
 
-climbs_rising : {F : Type 0} (p n : ℕ) (rs : List (Record F)) → Climbs n rs → Rising (tagged p rs)
+climbs_rising : {F : Type 0} (p n : ℕ) (rs : List (Record F)) → Climbs n rs → Rising (at_node p rs)
 climbs_rising p n [] h = tt
 climbs_rising p n (r ∷ rs) h = (climbs_from p (record_stamp r) (record_stamp r) rs (omega arith) h.1, climbs_rising p (record_stamp r) rs h.1)
 
 merge_from_rising : {F : Type 0} (q : ℕ) (lists : List (List (Record F))) → AllByRecursion (Climbs 0) lists → Rising (merge_from record_stamp q lists)
 merge_from_rising q [] h = tt
-merge_from_rising q (rs ∷ lists) h = rising_merge_two (tagged q rs) _ (climbs_rising q 0 rs h.0) (merge_from_rising (q + 1) lists h.1)
+merge_from_rising q (rs ∷ lists) h = rising_merge_two (at_node q rs) _ (climbs_rising q 0 rs h.0) (merge_from_rising (q + 1) lists h.1)
 
 pub merge_rising : {F : Type 0} (lists : List (List (Record F))) → AllByRecursion (Climbs 0) lists → Rising (merge record_stamp lists)
 unfolding merge
@@ -157,13 +154,13 @@ module _ {X Y : Type 0} (f : X → Y) (stamp : Y → ℕ) where
   merge_two_map [] ys = refl
   merge_two_map (x ∷ xs) ys = put_map x (merge_two Old xs) (merge_two (is_before stamp) (map Seen xs)) ys (λ zs. merge_two_map xs zs)
 
-  tagged_map : (q : ℕ) (xs : List X) → map Seen (tagged q xs) ≡ tagged q (map f xs)
+  tagged_map : (q : ℕ) (xs : List X) → map Seen (at_node q xs) ≡ at_node q (map f xs)
   tagged_map q [] = refl
   tagged_map q (x ∷ xs) = ap (λ (l : List (ℕ × Y)). (q, f x) ∷ l) (tagged_map q xs)
 
   merge_from_map : (q : ℕ) (lists : List (List X)) → map Seen (merge_from (λ x. stamp (f x)) q lists) ≡ merge_from stamp q (map (map f) lists)
   merge_from_map q [] = refl
-  merge_from_map q (xs ∷ lists) = merge_two_map (tagged q xs) (merge_from (λ x. stamp (f x)) (q + 1) lists) ∙ rw (tagged_map q xs, merge_from_map (q + 1) lists)
+  merge_from_map q (xs ∷ lists) = merge_two_map (at_node q xs) (merge_from (λ x. stamp (f x)) (q + 1) lists) ∙ rw (tagged_map q xs, merge_from_map (q + 1) lists)
 
   pub merge_map : (lists : List (List X)) → map Seen (merge (λ x. stamp (f x)) lists) ≡ merge stamp (map (map f) lists)
   unfolding merge

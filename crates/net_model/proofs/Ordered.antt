@@ -3,8 +3,8 @@ use Rattle.std.proofs.Common.{◌≡◌, ℕ, ◌+◌, ◌<◌, ◌≤◌, ◌�
 use Rattle.std.specs.List.{AllByRecursion}
 use Rattle.std.proofs.lemmas.Bool.{and_parts, and_from, or_cases, or_parts, or_left, or_right, eqb-true, eqb-false, eq-eqb, ltb-true, ltb-false, lt-ltb}
 use Rattle.net_base.proofs.Lists.{all_weaken}
-use Rattle.net_model.specs.Runs.{is_before, put, merge_two, merge_from, merge, AreOrdered, AreRising, MergesInOrder}
-use Rattle.net_model.proofs.Merging.{tagged, all_put, all_merge_two, merge_from_nodes}
+use Rattle.net_model.specs.Runs.{is_before, put, merge_two, merge_from, merge, AreOrdered, AreRising, MergesInOrder, at_node}
+use Rattle.net_model.proofs.Merging.{all_put, all_merge_two, merge_from_nodes}
 
 module _ {X : Type 0} (stamp : X → ℕ) where
   abbrev Before : ℕ × X → ℕ × X → Type 0
@@ -45,19 +45,19 @@ module _ {X : Type 0} (stamp : X → ℕ) where
         | false ↦ λ e. let t = turned x y n.0 e in (g (y ∷ ys) (t, behind_more x y ys t o.0), h (y ∷ ys) n o)
       ]) refl
 
-  ordered_two : (q : ℕ) (xs : List X) (ys : List (ℕ × X)) → AreOrdered stamp (tagged q xs) → AllByRecursion (λ y. q < y.0) ys → AreOrdered stamp ys → AreOrdered stamp (merge_two (is_before stamp) (tagged q xs) ys)
+  ordered_two : (q : ℕ) (xs : List X) (ys : List (ℕ × X)) → AreOrdered stamp (at_node q xs) → AllByRecursion (λ y. q < y.0) ys → AreOrdered stamp ys → AreOrdered stamp (merge_two (is_before stamp) (at_node q xs) ys)
   ordered_two q [] ys o n p = p
   ordered_two q (x ∷ xs) ys o n p =
-      ordered_put (q, x) (merge_two (is_before stamp) (tagged q xs)) ys
-      (λ a zs h k. all_merge_two (λ z. is_before stamp a z ≡ true) (is_before stamp) (tagged q xs) zs (behind_more a (q, x) (tagged q xs) h o.0) k)
-      (λ zs k. all_merge_two (λ z. is_before stamp (q, x) z ≡ true) (is_before stamp) (tagged q xs) zs o.0 k)
+      ordered_put (q, x) (merge_two (is_before stamp) (at_node q xs)) ys
+      (λ a zs h k. all_merge_two (λ z. is_before stamp a z ≡ true) (is_before stamp) (at_node q xs) zs (behind_more a (q, x) (at_node q xs) h o.0) k)
+      (λ zs k. all_merge_two (λ z. is_before stamp (q, x) z ≡ true) (is_before stamp) (at_node q xs) zs o.0 k)
       (λ zs m k. ordered_two q xs zs o.1 m k) n p
 
-  rising_behind : (q : ℕ) (x : X) (n : ℕ) (xs : List X) → stamp x ≤ n → AreRising stamp n xs → Behind (q, x) (tagged q xs)
+  rising_behind : (q : ℕ) (x : X) (n : ℕ) (xs : List X) → stamp x ≤ n → AreRising stamp n xs → Behind (q, x) (at_node q xs)
   rising_behind q x n [] l h = tt
   rising_behind q x n (y ∷ ys) l h = let k = h.0 in (write (q, x) (q, y) (inl (omega arith)), rising_behind q x (stamp y) ys (omega arith) h.1)
 
-  rising_ordered : (q n : ℕ) (xs : List X) → AreRising stamp n xs → AreOrdered stamp (tagged q xs)
+  rising_ordered : (q n : ℕ) (xs : List X) → AreRising stamp n xs → AreOrdered stamp (at_node q xs)
   rising_ordered q n [] h = tt
   rising_ordered q n (x ∷ xs) h = (rising_behind q x (stamp x) xs (omega arith) h.1, rising_ordered q (stamp x) xs h.1)
 

@@ -18,6 +18,7 @@ use Rattle.flow_machine.specs.declared.flows.Checkpoint.{Checkpoint}
 use Rattle.flow_machine.specs.declared.flows.FlowState.{FlowState}
 use Rattle.flow_machine.specs.declared.flows.FlowState.TheVariants as state
 use Rattle.session_wire.specs.Sessions.{Session, changed_at, new_session, opened_on, sent_on, taken_on, with_came}
+use Rattle.session_wire.specs.declared.change.SessionChange.{SessionChange}
 
 -- ---- the state
 
@@ -71,6 +72,10 @@ pub record Effect (F : Type 0) : Type 0 where
 -- nothing changes but the flow
 abbrev pub nothing : Change
 nothing = record { opened = None; sent = []; came = None; taken = None; recorded = None; locked = []; booked = None }
+
+-- what changes of a node where its sessions change so: nothing is recorded, locked or booked
+abbrev pub session_part : SessionChange → Change
+session_part change = record { opened = change.opened; sent = change.sent; came = change.came; taken = change.taken; recorded = None; locked = []; booked = None }
 
 -- one record of a journal
 pub record Record (F : Type 0) : Type 0 where

@@ -1,5 +1,5 @@
 -- How a journal is opened.
-use Rattle.std.proofs.Common.{◌≡◌, ◌⊎◌, inl, inr, ⊎_elim, ℕ, ◌+◌, ◌≤◌, List, [], ◌∷◌, length, map, Some, None, Err, true, false, refl, sym, ◌∙◌, ap, subst, arith}
+use Rattle.std.proofs.Common.{◌≡◌, ◌⊎◌, inl, inr, ⊎_elim, ℕ, ◌+◌, ◌≤◌, List, [], ◌∷◌, length, Some, None, Err, true, false, refl, sym, ◌∙◌, ap, subst, arith}
 use Rattle.std.proofs.lemmas.List.{length-map}
 use Rattle.outside.specs.Disk.{DiskView, IsImage, EachImage, IfTold, clean}
 use Rattle.outside.specs.Faults.{Rose}
@@ -12,13 +12,11 @@ use Rattle.node_tables.specs.declared.boot.RebuildFault.{RebuildFault}
 use Rattle.node_tables.specs.declared.boot.RebuildFault.TheVariants as rebuild_fault
 use Rattle.node_tables.specs.Journals.{Reads}
 use Rattle.node_tables.specs.Seen.{RebuildsAs}
+use Rattle.node_tables.proofs.Boots.{bodies_in}
 use Rattle.node_core.specs.Journals.{bytes_of}
 use Rattle.node_core.specs.Disks.{roomless}
 use Rattle.node_core.specs.Seen.{Tied, Opens, Refuses, Unfit, Unbooted, GaveUp, boot_by, boot_of}
 use Rattle.node_core.proofs.Commits.{tied_holds}
-
-abbrev pub bodies_in : List (ℕ × List ℕ) → List (List ℕ)
-bodies_in list = map (λ x. x.1) list
 
 -- ---- a list with places
 

@@ -23,12 +23,12 @@ use Rattle.transition_record.specs.Causes.{came_key_of}
 use Rattle.flow_machine.specs.declared.flows.FlowState.{FlowState}
 use Rattle.flow_machine.specs.declared.flows.FlowState.TheVariants.{Live, Ended, Failed}
 use Rattle.net_model.specs.Environment.{Environment, party}
-use Rattle.net_model.specs.State.{NodeState, FlowPart, no_flow, now_live, now_ended, now_failed, Effect, nothing, flow_of, came_on, sessions_on}
+use Rattle.net_model.specs.State.{NodeState, FlowPart, no_flow, now_live, now_ended, now_failed, Effect, nothing, flow_of, came_on, sessions_on, session_part}
 use Rattle.net_model.specs.Enabled.{part_of}
 use Rattle.net_model.specs.Sound.{IsNumbered}
 use Rattle.net_model.specs.Fits.{FitsEvent, FitsOpened, AnswersBy, AnswersFirst, AcceptsInit, ArrivesAt, IsNewFlow}
 use Rattle.flow_records.specs.declared.step.FlowAfter.{FlowAfter}
-use Rattle.flow_records.specs.Steps.{part_after, change_by, effect_by, owner_of}
+use Rattle.flow_records.specs.Steps.{part_after, effect_by, owner_of}
 use Rattle.node_tables.specs.Fits.{begun_by}
 use Rattle.node_tables.specs.Seen.{IsSmall}
 use Rattle.node_tables.proofs.Small.{found_key}
@@ -153,7 +153,7 @@ module _ {F : Type 0} (w : Environment F) (me a c : ℕ) (s : NodeState F) (flow
   -- an item arrives
   arrive_came : (key : Key) (direction number : ℕ) (h : ArrivesAt me s key direction number (effect_by flow change)) → FitsCame (party me) s.sessions change (Some key) (Some h.body)
   arrive_came key direction number h =
-      let quiet : change_by change ≡ record nothing { came = Some h.body } = ap (λ (e : Effect F). e.change) h.alone in
+      let quiet : session_part change ≡ record nothing { came = Some h.body } = ap (λ (e : Effect F). e.change) h.alone in
       let other = not_init h.body (arrived_no_init me a c s key direction number (effect_by flow change) h small) in
       let lawful : is_lawful (direction_in (party me) key) (length h.session.came) h.body ≡ true = subst (λ n. is_lawful (direction_in (party me) key) n h.body ≡ true) h.expected (subst (λ d. is_lawful d number h.body ≡ true) h.incoming h.lawful) in
       record {

@@ -2,6 +2,7 @@
 use Rattle.std.proofs.Common.{◌≡◌, ◌≤◌, ◌⊎◌, inl, inr, ⊎_elim, List, [], ◌∷◌, ◌++◌, Option, Some, None, Bool, true, false, true≢false, cond, ◌&&◌, not, find, filter_map, option_map, is_some, length, refl, sym, ap, subst, ◌∙◌, arith}
 use Rattle.std.specs.List.{list_any, cons_option}
 use Rattle.std.proofs.lemmas.Bool.{and_parts, and_from, and_cases, or_cases, or_parts, not-true, both_ways, not_from_false}
+use Rattle.notary_book.specs.Indexed.{takes}
 use Rattle.net_base.specs.declared.values.Hash32.{Hash32}
 use Rattle.net_base.specs.declared.values.Party.{Party}
 use Rattle.net_base.specs.declared.values.Moment.{Moment}
@@ -52,10 +53,6 @@ some_map f None h = cc
 some_map f (Some x) h = refl
 
 -- ---- one entry after another that consumes the reference
-
--- a signed entry that has the reference among its inputs
-abbrev takes : StateRef → Entry → Bool
-takes r e = is_signature e.answer && has_ref r e.inputs
 
 conflict_there : (before : List Entry) (id : Hash32) (r : StateRef) → list_any (takes r) before ≡ true → list_any (signs id) before ≡ false → is_some (conflict_over before id kind.Input r) ≡ true
 conflict_there before id r h k =

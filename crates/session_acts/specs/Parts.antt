@@ -10,14 +10,10 @@ use Rattle.session_wire.specs.Sessions.{Session}
 use Rattle.session_wire.specs.Rules.{next_key}
 use Rattle.flow_machine.specs.declared.acts.Act.{Act}
 use Rattle.net_model.specs.Environment.{party}
-use Rattle.net_model.specs.State.{NodeState, Change, Effect, nothing}
+use Rattle.net_model.specs.State.{NodeState, Change, Effect, nothing, session_part}
 use Rattle.net_model.specs.Steps.{Done, answering, arrived}
 use Rattle.net_model.specs.Fits.{is_counted, keys_differ, IsSound}
 use Rattle.session_acts.specs.declared.acts.Performed.{Performed}
-
--- what changes of a node where its sessions change so: nothing is recorded, locked or booked
-abbrev pub session_part : SessionChange → Change
-session_part change = record { opened = change.opened; sent = change.sent; came = change.came; taken = change.taken; recorded = None; locked = []; booked = None }
 
 -- what an act does: what the frame is resumed with, and what changes
 abbrev pub done_of : Performed → Done

@@ -10,7 +10,8 @@ ghost use Rattle.session_table.specs.Changes.{IsFitting, room_for};
 ghost use Rattle.net_base.specs.Names.{IsKey};
 ghost use Rattle.session_wire.specs.Bodies.{IsBody};
 ghost use Rattle.transition_record.specs.Changes.{IsSession};
-ghost use Rattle.session_acts.specs.Parts.{session_part, answer_to, arrival};
+ghost use Rattle.net_model.specs.State.{session_part};
+ghost use Rattle.session_acts.specs.Parts.{answer_to, arrival};
 
 use crate::items::one_item;
 use net_base::{Key, ListOf};

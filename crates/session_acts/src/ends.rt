@@ -9,7 +9,8 @@ ghost use Rattle.session_wire.specs.Bodies.{IsBody};
 ghost use Rattle.transition_record.specs.Changes.{IsSession};
 ghost use Rattle.net_model.specs.Fits.{keys_differ};
 ghost use Rattle.net_model.specs.Steps.{last_items};
-ghost use Rattle.session_acts.specs.Parts.{session_part, is_last, AreSound};
+ghost use Rattle.net_model.specs.State.{session_part};
+ghost use Rattle.session_acts.specs.Parts.{is_last, AreSound};
 
 use crate::items::item_on;
 use net_base::{Identity, ListOf};

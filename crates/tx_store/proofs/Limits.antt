@@ -14,9 +14,7 @@ use Rattle.ledger_types.specs.Txs.{IsSignedTx}
 use Rattle.ledger_types.specs.Stores.{stored_of, state_of, states_of}
 use Rattle.tx_store.specs.Stored.{AreWithin}
 use Rattle.tx_store.proofs.Resolving.{joined_parts}
-
-abbrev Recorded : Type 0
-Recorded = Hash32 × SignedTx
+use Rattle.tx_store.proofs.Ordered.{Recorded}
 
 -- with one more within its limits
 pub within_more : (list : List Recorded) (p : Recorded) → AreWithin list → IsSignedTx p.1 → AreWithin (list ++ p ∷ [])

@@ -14,7 +14,7 @@ use Rattle.ledger_types.specs.Stores.{stored_of, is_stored}
 use Rattle.ledger_types.proofs.Names.{hash_exact}
 use Rattle.tx_store.specs.Stored.{refs_of, all_stored, has_dependencies, may_follow, may_all_follow, is_in_order, is_named, leads_back}
 
-abbrev Recorded : Type 0
+abbrev pub Recorded : Type 0
 Recorded = Hash32 × SignedTx
 
 -- an id is equal to itself
