@@ -11,6 +11,10 @@ use session_wire::{Body, SentItem, SessionChange};
 use std::alloc::{AllocError, Global};
 use std::test::Fail;
 
+mod dealing;
+mod ended;
+mod making;
+
 /// Node 0 of a network of two.
 const IDENTITY: Identity = Identity {
     party: Party(0),
