@@ -17,6 +17,9 @@ use session_wire::Body;
 use std::alloc::{AllocError, Global};
 use std::test::Fail;
 
+mod dealing;
+mod stacks;
+
 /// Node 0 of a network of two.
 const IDENTITY: Identity = Identity {
     party: Party(0),
