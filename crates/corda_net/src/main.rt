@@ -4,6 +4,8 @@
 #![tactic(auto)]
 
 ghost use Rattle.std.specs.Prelude.{◌≡◌, IfOk, length, All, [], true, None};
+ghost use Rattle.std.specs.IoError.{error_kind};
+ghost use Rattle.std.specs.declared.io.ErrorKind.TheVariants.{OutOfMemory};
 ghost use Rattle.outside.specs.Disk.{clean};
 ghost use Rattle.disk_mem.specs.Mem.{MemView};
 
@@ -24,12 +26,14 @@ const BAD_WORDS: u8 = 2;
 /// The status for want of memory.
 const NO_MEMORY: u8 = 7;
 
-// The status where the program's own words can't be read: one isn't UTF-8, or there is no memory for them.
-fn status_of(fault: &io::Error) -> u8 {
-    if fault.kind() == io::ErrorKind::OutOfMemory {
-        NO_MEMORY
-    } else {
-        BAD_WORDS
+/// The status where the program's own words can't be read: one isn't UTF-8, or there is no memory for them.
+fn status_of(fault: &io::Error) -> u8
+    ensures memory { error_kind fault.now ≡ OutOfMemory → result ≡ 7 }
+    ensures words { (error_kind fault.now ≡ OutOfMemory → ⊥) → result ≡ 2 }
+{
+    match fault.kind() {
+        io::ErrorKind::OutOfMemory => NO_MEMORY,
+        _ => BAD_WORDS,
     }
 }
 
