@@ -1,11 +1,12 @@
 -- The laws of the counting flow, proved.
-use Rattle.std.specs.Prelude.{◌≡◌, ℕ, zero, suc, ◌+◌, ◌-◌, ◌<◌, ◌≤◌, ◌^◌, ◌==◌, ◌&&◌, nat_le, nat_lt, List, [], ◌∷◌, ◌++◌, length, Bool, true, false, refl, if◌then◌else◌, Some, None, Option, Result, Ok, Err, IfOk, codes}
+use Rattle.std.specs.Prelude.{◌≡◌, ℕ, zero, suc, ◌+◌, ◌-◌, ◌<◌, ◌≤◌, ◌^◌, ◌==◌, ◌&&◌, nat_le, nat_lt, List, [], ◌∷◌, ◌++◌, length, true, false, refl, Some, None, Option, Ok, IfOk, codes}
 use Rattle.std.specs.List.{list_all}
 use Rattle.std.proofs.Common.{arith, ap, subst}
 use Rattle.std.proofs.lemmas.Bool.{eqb-true, and_parts, leb-true}
 use Rattle.std.specs.Int.{from_be_bytes, to_be_bytes, w32}
 use Rattle.std.specs.Str.{bytes_eq}
 use Rattle.net_base.specs.Numbers.{number_of}
+use Rattle.net_base.proofs.Options.{given, given_one, given_ok}
 use Rattle.net_base.specs.Reading.{number}
 use Rattle.net_base.specs.Laws.{Laws}
 use Rattle.net_base.specs.Combining.{mapped_laws, pair_laws}
@@ -18,14 +19,12 @@ use Rattle.flow_machine.specs.declared.acts.Act.{Act}
 use Rattle.flow_machine.specs.declared.acts.Place.{Place}
 use Rattle.flow_machine.specs.declared.acts.Resumed.{Resumed}
 use Rattle.flow_machine.specs.declared.acts.Resumed.TheVariants as resumed
-use Rattle.ledger_types.specs.declared.verdict.Verdict.{Verdict}
-use Rattle.ledger_types.specs.declared.verdict.Verdict.TheVariants as verdict
 use Rattle.flow_machine.specs.declared.flow_set.WordFault.TheVariants as word
 use Rattle.flow_machine.specs.declared.flow_set.MakeFault.TheVariants as make
 use Rattle.flow_machine.specs.declared.counter.Counter.{Counter}
 use Rattle.flow_machine.specs.declared.counter.Phase.{Phase}
 use Rattle.flow_machine.specs.declared.counter.Phase.TheVariants.{Sleeping, Returning, Failing}
-use Rattle.flow_machine.specs.Unnamed.{unnamed_code, verdict_code}
+use Rattle.flow_machine.specs.Unnamed.{code_small}
 use Rattle.flow_machine.specs.Counter.{machine, worded, count_words, spelt_count, made, made_of, next, next_at, woken, with_left, weight, weight_at, over, over_at, place_of, phase_of, counter, IsCounter, counter_of, counter_at}
 
 -- ---- bytes
@@ -69,16 +68,6 @@ spells_content = record { framed = λ c h. refl; short = λ c h. omega arith }
 
 -- ---- what begins, by its arguments
 
--- what was given under a test was given because the test holds
-pub given : {X E : Type 0} (test : Bool) (r : Result X E) (fault : E) (x : X) → (if test then r else Err fault) ≡ Ok x → (test ≡ true) × (r ≡ Ok x)
-given true r fault x e = (refl, e)
-given false r fault x e = absurd cc
-
--- what was given is the one value that the test lets through
-pub given_one : {X E : Type 0} (test : Bool) (x y : X) (fault : E) → (if test then Ok x else Err fault) ≡ Ok y → (test ≡ true) × (x ≡ y)
-given_one true x y fault e = (refl, cc)
-given_one false x y fault e = absurd cc
-
 -- a flow that is made begins with some count of sleeps, at most 65,534
 made_begins : (class : ℕ) (args : List ℕ) (at : Place) (begins : Counter × Act Counter) → made class args at ≡ Ok begins → (n : ℕ) × ((n ≤ 65534) × (with_left n n ≡ begins))
 unfolding made
@@ -98,17 +87,6 @@ left_within : (left all : ℕ) → left < 2 ^ 32 → all < 2 ^ 32 → AreWithin 
 unfolding with_left
 left_within zero all hl ha = ((hl, ha), omega (arith, ha))
 left_within (suc n) all hl ha = ((hl, ha), omega arith)
-
-pub verdict_small : (v : Verdict) → verdict_code v < 2 ^ 16
-verdict_small verdict.Accepted = omega arith
-verdict_small (verdict.Broken rule) = omega arith
-verdict_small (verdict.Refused contract clause) = omega arith
-verdict_small (verdict.NoContract id) = omega arith
-
-pub code_small : (with : Resumed) → IsResumed with → unnamed_code with < 2 ^ 16
-code_small (resumed.Refused code) h = h
-code_small (resumed.Verdict v) h = verdict_small v
-code_small other h = omega arith
 
 woken_within : (with : Resumed) (c : Counter) → IsCounter c → IsResumed with → AreWithin IsCounter (woken with c)
 woken_within resumed.Lapsed c h small = left_within (c.left - 1) c.all (omega (arith, h.0)) h.1
@@ -222,11 +200,6 @@ pub begins_bare : BeginsBare machine
 begins_bare = record { made = made_bare; begun = λ class key at begins e. absurd (begun_none begins e) }
 
 -- ---- arguments
-
--- what holds of a result holds where it is given only under a test
-given_ok : {X E : Type 0} (P : X → Type 0) (test : Bool) (r : Result X E) (fault : E) → (test ≡ true → IfOk r P) → IfOk (if test then r else Err fault) P
-given_ok P true r fault h = h refl
-given_ok P false r fault h = tt
 
 spelt_short : (count : Option ℕ) → IfOk (spelt_count count) (λ words. length words.1 ≤ 65535)
 spelt_short None = tt

@@ -13,7 +13,7 @@ use session_table::Sessions;
 use session_wire::{Body, SentItem, SessionChange};
 use std::alloc::{AllocError, Global};
 
-/// No session changes, by a flow. Takes no memory.
+/// The change of this flow by which no session changes: nothing is opened, sent, come or taken. Takes no memory.
 pub fn unchanged(alloc: Global, flow: u32) -> SessionChange
     ensures { result ≡ unchanged flow }
 {

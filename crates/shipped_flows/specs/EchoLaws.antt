@@ -17,7 +17,7 @@ use Rattle.flow_machine.specs.declared.acts.Resumed.{Resumed}
 use Rattle.flow_machine.specs.declared.acts.Resumed.TheVariants as resumed
 use Rattle.flow_machine.specs.Machine.{Machine}
 use Rattle.flow_machine.specs.Limits.{IsResumed}
-use Rattle.flow_machine.specs.CounterLaws.{code_small}
+use Rattle.flow_machine.specs.Unnamed.{code_small}
 use Rattle.shipped_flows.specs.declared.echo.Echo.{Echo}
 use Rattle.shipped_flows.specs.declared.echo.EchoPhase.{EchoPhase}
 use Rattle.shipped_flows.specs.declared.echo.EchoPhase.TheVariants.{Receiving, Sending, Returning, Failing}

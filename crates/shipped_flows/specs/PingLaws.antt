@@ -21,7 +21,8 @@ use Rattle.ledger_types.specs.declared.value.Value.TheVariants as value
 use Rattle.flow_machine.specs.declared.flow_set.MakeFault.TheVariants as make
 use Rattle.flow_machine.specs.Machine.{Machine}
 use Rattle.flow_machine.specs.Limits.{IsResumed, IsPlace}
-use Rattle.flow_machine.specs.CounterLaws.{given_one, code_small}
+use Rattle.net_base.proofs.Options.{given_one}
+use Rattle.flow_machine.specs.Unnamed.{code_small}
 use Rattle.shipped_flows.specs.declared.ping.Ping.{Ping}
 use Rattle.shipped_flows.specs.declared.ping.PingPhase.{PingPhase}
 use Rattle.shipped_flows.specs.declared.ping.PingPhase.TheVariants.{Opening, Receiving, Sending, Returning, Failing}

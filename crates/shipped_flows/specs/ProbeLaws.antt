@@ -19,7 +19,8 @@ use Rattle.flow_machine.specs.declared.acts.Resumed.TheVariants as resumed
 use Rattle.flow_machine.specs.declared.flow_set.MakeFault.TheVariants as make
 use Rattle.flow_machine.specs.Machine.{Machine}
 use Rattle.flow_machine.specs.Limits.{IsResumed, IsPlace}
-use Rattle.flow_machine.specs.CounterLaws.{given_one, code_small}
+use Rattle.net_base.proofs.Options.{given_one}
+use Rattle.flow_machine.specs.Unnamed.{code_small}
 use Rattle.shipped_flows.specs.declared.probe.Probe.{Probe}
 use Rattle.shipped_flows.specs.declared.probe.ProbePhase.{ProbePhase}
 use Rattle.shipped_flows.specs.declared.probe.ProbePhase.TheVariants.{Opening, Receiving, Returning, Failing}

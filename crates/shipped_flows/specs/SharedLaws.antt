@@ -5,9 +5,7 @@ use Rattle.std.proofs.lemmas.Bool.{eqb-true, and_parts, ltb-true}
 use Rattle.std.specs.Int.{Width, w16, from_be_bytes}
 use Rattle.net_base.specs.Reading.{IsBytes}
 use Rattle.net_base.specs.Fields.{wide16}
-use Rattle.ledger_types.specs.declared.verdict.Verdict.TheVariants as verdict
 use Rattle.flow_machine.specs.declared.acts.Place.{Place}
-use Rattle.flow_machine.specs.declared.acts.Resumed.TheVariants as resumed
 use Rattle.flow_machine.specs.Limits.{IsPlace}
 use Rattle.shipped_flows.specs.Shared.{sized, beside, party_and, is_peer}
 
