@@ -1,6 +1,6 @@
 //! The digest of bytes, and the nonce and the leaf of one component.
 
-ghost use Rattle.std.specs.Prelude.{◌≡◌, ◌++◌};
+ghost use Rattle.std.specs.Prelude.{◌≡◌};
 ghost use Rattle.component_merkle.specs.Merkle.{digest_of, nonce_of, leaf_of, node_of};
 
 use sha2::{Digest, Sha256};

@@ -1,4 +1,4 @@
-ghost use Rattle.std.specs.Prelude.{◌^◌, ◌≡◌, ◌≤◌, ◌<◌, ◌+◌, ◌-◌, ◌⊎◌, ◌++◌, ◌∷◌, [], ℕ, List, length, take, drop, true, false, Some, None, IfOk, IfErr, slice_index, ◌≢◌, OnOk, OnErr, IsOk, IsErrOf};
+ghost use Rattle.std.specs.Prelude.{◌^◌, ◌≡◌, ◌≤◌, ◌<◌, ◌+◌, ◌-◌, ◌⊎◌, ◌++◌, ◌∷◌, [], ℕ, List, length, drop, true, false, Some, None, IfOk, IfErr, slice_index, ◌≢◌, OnOk, IsOk, IsErrOf};
 ghost use Rattle.outside.specs.Disk.{EachImage, IfTold, SameRest, IsImage, clean, burnt, burnt_by};
 ghost use Rattle.outside.specs.Faults.{Rose, HasCause};
 ghost use Rattle.net_base.specs.Names.{IsIdentity};

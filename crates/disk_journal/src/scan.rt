@@ -1,4 +1,4 @@
-ghost use Rattle.std.specs.Prelude.{◌≡◌, ◌≤◌, ◌<◌, ◌+◌, ◌-◌, ◌++◌, ◌∷◌, [], ◌^◌, ℕ, length, take, drop, true, Some, None, IfOk, if◌then◌else◌, nat_lt, ◌&&◌};
+ghost use Rattle.std.specs.Prelude.{◌≡◌, ◌≤◌, ◌<◌, ◌+◌, ◌-◌, ◌∷◌, [], length, take, drop, Some, None, IfOk, if◌then◌else◌, nat_lt, ◌&&◌};
 ghost use Rattle.disk_journal.specs.Journal.{is_whole, is_closed, length_at, bodies, extent, damage, placed, size_of, found, identity_of, named, is_same, is_unformatted, is_shut, magic};
 ghost use Rattle.std.specs.Str.{bytes_eq};
 

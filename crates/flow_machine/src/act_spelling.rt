@@ -1,6 +1,5 @@
 //! The spelling of acts.
 
-ghost use Rattle.std.specs.Prelude.{◌≡◌, ℕ, List};
 ghost use Rattle.net_base.specs.Reading.{Puts};
 ghost use Rattle.net_base.specs.Parts.{Decodes};
 ghost use Rattle.flow_machine.specs.Acts.{IsFrameBytes, frame_bytes, frame_bytes_at, frame_bytes_laws, act_text};

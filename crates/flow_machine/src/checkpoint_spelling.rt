@@ -1,9 +1,9 @@
 //! The spelling of stacks and checkpoints.
 
-ghost use Rattle.std.specs.Prelude.{◌≡◌, ◌≤◌, ℕ, List, IfOk, length};
+ghost use Rattle.std.specs.Prelude.{◌≤◌, IfOk, length};
 ghost use Rattle.std.specs.List.{flat_map, AllByRecursion};
 ghost use Rattle.net_base.specs.Reading.{Puts};
-ghost use Rattle.net_base.specs.Forms.{items_at, bytes16};
+ghost use Rattle.net_base.specs.Forms.{items_at};
 ghost use Rattle.net_base.specs.Parts.{Gives, Writes, Decodes};
 ghost use Rattle.flow_machine.specs.declared.act_spelling.FrameBytes.{FrameBytes};
 ghost use Rattle.flow_machine.specs.Acts.{IsFrameBytes, frame_bytes, SameBytes};

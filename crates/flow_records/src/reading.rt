@@ -1,6 +1,6 @@
 //! What the bytes of a record tell of beside the ledger.
 
-ghost use Rattle.std.specs.Prelude.{◌≡◌, ◌≤◌, ℕ, length, List, Bool, Option, Some, None, IfOk, IfSome, option_map, if◌then◌else◌};
+ghost use Rattle.std.specs.Prelude.{◌≡◌, ◌≤◌, length, Option, Some, None, IfOk, IfSome, option_map, if◌then◌else◌};
 ghost use Rattle.transition_record.specs.Causes.{IsCause};
 ghost use Rattle.transition_record.specs.Changes.{IsFlowPart, checkpoint_flow, part_flow, session_text};
 ghost use Rattle.transition_record.specs.Records.{IsEffect};

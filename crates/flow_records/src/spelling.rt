@@ -1,13 +1,11 @@
 //! The bytes of a record of a flow or of none, and of sessions.
 
-ghost use Rattle.std.specs.Prelude.{◌≡◌, ◌≤◌, ℕ, List, Some, IfOk, IfSome, length};
-ghost use Rattle.flow_machine.specs.Limits.{IsAct};
+ghost use Rattle.std.specs.Prelude.{◌≡◌, ◌≤◌, Some, IfOk, IfSome, length};
 ghost use Rattle.flow_machine.specs.Checkpoints.{IsCheckpoint, checkpoint_text};
 ghost use Rattle.transition_record.specs.Causes.{IsCause, came_key_of};
-ghost use Rattle.transition_record.specs.Changes.{IsFlowPart, part_text, part_flow, part_over, IsSession, session_text};
-ghost use Rattle.net_model.specs.Enabled.{part_of};
+ghost use Rattle.transition_record.specs.Changes.{IsSession, session_text};
 ghost use Rattle.net_model.specs.Sound.{IsNumbered};
-ghost use Rattle.flow_records.specs.Records.{record_of, flow_part, IsFlow};
+ghost use Rattle.flow_records.specs.Records.{record_of, IsFlow};
 ghost use Rattle.flow_records.specs.Spelling.{is_over, IsPartOf};
 ghost use Rattle.flow_records.specs.Steps.{step_record, no_ledger, owner_of, ends_with, IsAfter, IsPartAfter};
 

@@ -1,6 +1,6 @@
 //! The parts of one change, each in the table that it concerns.
 
-ghost use Rattle.std.specs.Prelude.{◌≡◌, ◌≤◌, ◌<◌, ◌+◌, ◌++◌, ◌^◌, true, not, List, length, option_to_list, IfSome, OnOk};
+ghost use Rattle.std.specs.Prelude.{◌≡◌, ◌≤◌, ◌<◌, ◌+◌, ◌++◌, true, not, List, length, option_to_list, IfSome, OnOk};
 ghost use Rattle.net_base.specs.declared.values.Hash32.{Hash32 as Id};
 ghost use Rattle.ledger_types.specs.declared.tx.Tx.{Tx as Recorded};
 ghost use Rattle.ledger_types.specs.Txs.{IsSignedTx};

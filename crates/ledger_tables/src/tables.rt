@@ -1,6 +1,6 @@
 //! The tables of a node's ledger.
 
-ghost use Rattle.std.specs.Prelude.{◌≡◌, ◌≤◌, ◌<◌, ◌+◌, ◌++◌, ◌^◌, [], true, false, List, length, option_to_list, IfSome, OnOk};
+ghost use Rattle.std.specs.Prelude.{◌≡◌, ◌≤◌, ◌<◌, ◌+◌, ◌++◌, [], true, false, List, length, option_to_list, IfSome, OnOk};
 ghost use Rattle.std.specs.List.{list_all, AllByRecursion};
 ghost use Rattle.ledger_types.specs.Txs.{IsTx, IsSignedTx};
 ghost use Rattle.ledger_types.specs.Requests.{IsEntry};

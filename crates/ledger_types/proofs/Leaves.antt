@@ -1,5 +1,5 @@
 -- Leaves one after the other.
-use Rattle.std.proofs.Common.{◌≡◌, ℕ, zero, suc, ◌+◌, ◌<◌, List, [], ◌∷◌, ◌++◌, length, take, set, get_or, map, refl, sym, ap, ◌∙◌, arith}
+use Rattle.std.proofs.Common.{◌≡◌, ℕ, ◌+◌, ◌<◌, List, [], ◌∷◌, ◌++◌, length, take, set, get_or, map, sym, ap, ◌∙◌, arith}
 use Rattle.std.proofs.lemmas.List.{take_more_set, map_more, length-map, length-take}
 use Rattle.component_merkle.specs.Merkle.{nonce_of, leaf_of}
 use Rattle.ledger_types.specs.Ids.{leaves_from}

@@ -1,5 +1,5 @@
 -- The id of a transaction.
-use Rattle.std.specs.Prelude.{◌≡◌, ℕ, zero, suc, ◌+◌, List, [], ◌∷◌, ◌++◌, map, option_to_list}
+use Rattle.std.specs.Prelude.{ℕ, ◌+◌, List, [], ◌∷◌, map, option_to_list}
 use Rattle.component_merkle.specs.Merkle.{nonce_of, leaf_of, root_of, group_of}
 use Rattle.net_base.specs.Values.{hash, party}
 use Rattle.net_base.specs.Names.{state_ref}

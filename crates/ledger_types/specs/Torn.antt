@@ -1,12 +1,12 @@
 -- The spelling of transactions of which only some components are shown.
-use Rattle.std.proofs.Common.{◌≡◌, ◌<◌, ◌≤◌, ◌+◌, ◌-◌, ◌^◌, ℕ, zero, suc, Bool, true, false, cond, List, [], ◌∷◌, ◌++◌, length, Result, Ok, Err, refl, ap, sym, subst, ◌∙◌, arith}
+use Rattle.std.proofs.Common.{◌≡◌, ◌≤◌, ◌+◌, ◌-◌, ℕ, Bool, true, false, cond, List, [], ◌∷◌, ◌++◌, length, Result, refl, ap, arith}
 use Rattle.std.specs.Prelude.{nat_eq, nat_lt}
 use Rattle.std.specs.List.{list_any, AllByRecursion, flat_map}
 use Rattle.std.proofs.lemmas.Bool.Decides.{nat_tests}
 use Rattle.net_base.specs.declared.values.Hash32.{Hash32}
 use Rattle.net_base.specs.Forms.{◌>>=◌, below_at, list8, list8_at, ListWithin, bytes16}
 use Rattle.net_base.specs.Laws.{Laws}
-use Rattle.net_base.specs.Combining.{mapped_at, mapped_laws, pair_at, pair_laws, iso_laws, restated_laws, bind_laws}
+use Rattle.net_base.specs.Combining.{mapped_at, mapped_laws, pair_at, pair_laws, iso_laws, bind_laws}
 use Rattle.net_base.specs.Fields.{list8_laws, below_laws}
 use Rattle.net_base.specs.Kinds.{kinds_of, cases_at, cases_laws}
 use Rattle.net_base.specs.Framing.{bytes16_at, bytes16_laws}

@@ -1,9 +1,9 @@
 //! The id of a transaction.
 
-ghost use Rattle.std.specs.Prelude.{◌≡◌, ◌+◌, ◌≤◌, ℕ, List, length, map};
+ghost use Rattle.std.specs.Prelude.{◌≡◌, ◌≤◌, length, map};
 ghost use Rattle.std.specs.List.{AllByRecursion};
-ghost use Rattle.component_merkle.specs.Merkle.{nonce_of, leaf_of, group_of, root_of};
-ghost use Rattle.ledger_types.specs.Ids.{value_of, leaves_from, id_of, groups, present};
+ghost use Rattle.component_merkle.specs.Merkle.{nonce_of, leaf_of};
+ghost use Rattle.ledger_types.specs.Ids.{value_of, id_of, groups, present};
 ghost use Rattle.ledger_types.specs.Txs.{IsTx};
 
 use crate::parts::{ItsDeed, ItsSigners, Part, Whole};

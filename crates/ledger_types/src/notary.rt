@@ -1,6 +1,6 @@
 //! What a notary is asked, answers and books.
 
-ghost use Rattle.std.specs.Prelude.{◌≡◌, ◌<◌, ◌≤◌, ℕ, List, IfOk};
+ghost use Rattle.std.specs.Prelude.{◌≡◌, ◌<◌, IfOk};
 ghost use Rattle.net_base.specs.Parts.{Decodes};
 ghost use Rattle.net_base.specs.Reading.{Puts};
 ghost use Rattle.component_merkle.specs.Merkle.{digest_of};

@@ -1,6 +1,6 @@
 //! The states of the ledger.
 
-ghost use Rattle.std.specs.Prelude.{◌≡◌, ◌<◌, ◌≤◌, ℕ, List};
+ghost use Rattle.std.specs.Prelude.{◌≡◌, ◌<◌};
 ghost use Rattle.ledger_types.specs.Verdicts.{contract_of};
 ghost use Rattle.ledger_types.specs.States.{IsStateData, state_data, state_data_at, state_data_laws, IsTxState, tx_state, tx_state_at, tx_state_laws};
 

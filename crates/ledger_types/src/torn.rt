@@ -1,6 +1,6 @@
 //! Transactions of which only some components are shown.
 
-ghost use Rattle.std.specs.Prelude.{◌≡◌, ◌≤◌, ◌<◌, ◌-◌, ◌+◌, length, ℕ, List, IfOk};
+ghost use Rattle.std.specs.Prelude.{◌≡◌, ◌≤◌, ◌<◌, ◌-◌, IfOk};
 ghost use Rattle.net_base.specs.Reading.{Puts};
 ghost use Rattle.net_base.specs.Parts.{Gives, Decodes};
 ghost use Rattle.net_base.specs.Runs.{run_at};

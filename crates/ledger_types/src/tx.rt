@@ -1,6 +1,6 @@
 //! Transactions.
 
-ghost use Rattle.std.specs.Prelude.{◌≡◌, ◌<◌, ◌≤◌, ℕ, List, IfOk};
+ghost use Rattle.std.specs.Prelude.{◌≡◌, ◌<◌, IfOk};
 ghost use Rattle.net_base.specs.Parts.{Decodes};
 ghost use Rattle.net_base.specs.Reading.{Puts};
 ghost use Rattle.ledger_types.specs.Windows.{has_begun, is_before_end, window_holds};

@@ -1,6 +1,6 @@
 //! What flows hand to one another.
 
-ghost use Rattle.std.specs.Prelude.{◌≡◌, ◌<◌, ◌≤◌, ℕ, List, IfOk};
+ghost use Rattle.std.specs.Prelude.{◌≡◌, ◌<◌, IfOk};
 ghost use Rattle.net_base.specs.Parts.{Decodes};
 ghost use Rattle.net_base.specs.Reading.{Puts};
 ghost use Rattle.ledger_types.specs.Values.{IsValue, value, value_at, value_laws};

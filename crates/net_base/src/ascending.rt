@@ -1,9 +1,7 @@
 //! Lists in strictly ascending order of a party.
 
-ghost use Rattle.std.specs.Prelude.{◌≡◌, ◌<◌, ◌≤◌, ◌∷◌, ℕ, List, Result, IfOk, length};
-ghost use Rattle.std.specs.List.{flat_map};
-ghost use Rattle.net_base.specs.Forms.{list8};
-ghost use Rattle.net_base.specs.Parts.{Gives, Writes};
+ghost use Rattle.std.specs.Prelude.{◌≡◌, ◌<◌, ◌≤◌, ℕ, List, Result, IfOk};
+ghost use Rattle.net_base.specs.Parts.{Gives};
 ghost use Rattle.net_base.specs.Runs.{ascending_at, ascending8_at};
 
 use crate::fault::PartFault;

@@ -1,7 +1,7 @@
 //! A few bytes that are written without memory.
 
 ghost use Rattle.std.specs.Prelude.{◌≡◌, ◌++◌, ◌∷◌, [], ◌+◌, ◌≤◌, ◌<◌, ◌^◌, List, ℕ, length};
-ghost use Rattle.std.specs.Int.{w16, w32, w64};
+ghost use Rattle.std.specs.Int.{w32, w64};
 ghost use Rattle.net_base.specs.Reading.{number};
 ghost use Rattle.net_base.specs.Parts.{Writes};
 ghost use Rattle.net_base.specs.Values.{IsHash, hash, IsParty, party, IsMoment, moment};

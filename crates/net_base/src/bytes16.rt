@@ -1,6 +1,6 @@
 //! Bytes behind two bytes of length.
 
-ghost use Rattle.std.specs.Prelude.{◌≡◌, ◌<◌, ◌≤◌, ◌%◌, length};
+ghost use Rattle.std.specs.Prelude.{◌<◌, ◌%◌, length};
 ghost use Rattle.net_base.specs.Parts.{Gives, Writes};
 ghost use Rattle.net_base.specs.Forms.{bytes16};
 ghost use Rattle.net_base.specs.Framing.{at_most_at, bytes16_at};

@@ -1,6 +1,6 @@
 //! The spelling of numbers, digests, parties, moments and options.
 
-ghost use Rattle.std.specs.Prelude.{◌≡◌, ◌<◌, ◌^◌, ◌∷◌, [], ℕ, List};
+ghost use Rattle.std.specs.Prelude.{◌<◌, ◌^◌, ◌∷◌, []};
 ghost use Rattle.std.specs.Int.{w16, w32, w64};
 ghost use Rattle.net_base.specs.Reading.{number};
 ghost use Rattle.net_base.specs.Forms.{byte_at, number_at, option_of, option_at};

@@ -1,10 +1,7 @@
 //! Types whose values are always within the limits of their spelling.
 
-ghost use Rattle.std.specs.Prelude.{◌≡◌, ◌<◌, ◌^◌};
+ghost use Rattle.std.specs.Prelude.{◌<◌, ◌^◌};
 ghost use Rattle.std.specs.List.{AllByRecursion};
-ghost use Rattle.net_base.specs.Values.{IsHash, IsMoment};
-ghost use Rattle.net_base.specs.Names.{IsStateRef};
-ghost use Rattle.net_base.specs.Parties.{IsPartySet};
 
 use crate::names::StateRef;
 use crate::parties::PartySet;

@@ -1,6 +1,6 @@
 //! What states, transactions, sessions and nodes are named by.
 
-ghost use Rattle.std.specs.Prelude.{◌^◌, ◌≡◌, ◌<◌, ◌≤◌, ℕ, List};
+ghost use Rattle.std.specs.Prelude.{◌<◌};
 ghost use Rattle.net_base.specs.Names.{IsStateRef, state_ref, state_ref_at, state_ref_laws, IsTag, tag, tag_at, tag_laws, by_of, tag_between_at, tag_between_laws, IsToken, token, token_at, token_laws, IsKey, key, key_at, key_laws, IsIdentity, identity, identity_at, identity_laws};
 
 use crate::ascending::ByParty;

@@ -3,10 +3,10 @@
 //! A function that reads a part answers it, or a fault that tells how many bytes are left at the first
 //! place where no spelling of the part goes on. After a fault the reader's place is not stated.
 
-ghost use Rattle.std.specs.Prelude.{◌≡◌, ◌+◌, ◌++◌, ◌<◌, ◌≤◌, ◌∷◌, [], ℕ, List, Result, IfSome, IfOk, length};
+ghost use Rattle.std.specs.Prelude.{◌+◌, ◌<◌, ◌≤◌, Result, IfSome, IfOk, length};
 ghost use Rattle.std.specs.List.{flat_map, AllByRecursion};
-ghost use Rattle.std.specs.Int.{w16, w32, w64, to_be_bytes};
-ghost use Rattle.net_base.specs.Forms.{byte_at, bytes_at, number_at, below_at, option_at, items_at, list8_at, option_of, list8, ListWithin};
+ghost use Rattle.std.specs.Int.{w16, w32, w64};
+ghost use Rattle.net_base.specs.Forms.{byte_at, bytes_at, number_at, below_at, option_at, items_at, list8_at, option_of, list8};
 ghost use Rattle.net_base.specs.Parts.{Gives, TakesNoMemory, Writes};
 ghost use Rattle.net_base.specs.Kinds.{kind_at, between_at};
 ghost use Rattle.net_base.specs.Framing.{list8_between_at};

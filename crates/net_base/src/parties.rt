@@ -1,6 +1,6 @@
 //! Sets of parties.
 
-ghost use Rattle.std.specs.Prelude.{◌≡◌, ◌++◌, ◌+◌, ◌/◌, ◌%◌, ◌^◌, ◌≤◌, ◌<◌, ◌↔◌, ◌==◌, ◌||◌, ◌&&◌, not, false, IsTrue, List, [], ℕ, length};
+ghost use Rattle.std.specs.Prelude.{◌≡◌, ◌++◌, ◌+◌, ◌/◌, ◌%◌, ◌^◌, ◌≤◌, ◌<◌, ◌↔◌, ◌==◌, ◌||◌, ◌&&◌, not, false, IsTrue, [], ℕ, length};
 ghost use Rattle.net_base.specs.Parts.{Gives};
 ghost use Rattle.net_base.specs.Kinds.{between_at};
 ghost use Rattle.net_base.specs.Runs.{ascending_at};

@@ -1,6 +1,6 @@
 //! Reading from the left.
 
-ghost use Rattle.std.specs.Prelude.{◌≡◌, ◌+◌, ◌^◌, ℕ, List, [], ◌<◌, take, length, slice_index, MatchResult};
+ghost use Rattle.std.specs.Prelude.{◌≡◌, ◌+◌, ◌^◌, [], ◌<◌, take, length, slice_index, MatchResult};
 ghost use Rattle.std.specs.Int.{w16, w32, w64, from_be_bytes};
 ghost use Rattle.net_base.specs.Reading.{Reading, Took, IsShort, IsBytes};
 
@@ -31,7 +31,7 @@ pub struct Reader<'a> {
 }
 
 impl<'a> Model for Reader<'a> {
-    ghost use Rattle.std.specs.Prelude.{ℕ, ◌≤◌, length, drop};
+    ghost use Rattle.std.specs.Prelude.{◌≤◌, length, drop};
     ghost use Rattle.net_base.specs.Reading.{Reading, IsBytes};
 
     ghost Value = { Reading };

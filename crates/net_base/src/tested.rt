@@ -1,7 +1,7 @@
 //! Bytes and numbers that are tested where they stand.
 
-ghost use Rattle.std.specs.Prelude.{◌≡◌, ◌<◌, ◌≤◌, ◌≢◌, IfOk};
-ghost use Rattle.std.specs.Int.{w32, w64};
+ghost use Rattle.std.specs.Prelude.{◌<◌};
+ghost use Rattle.std.specs.Int.{w32};
 ghost use Rattle.net_base.specs.Parts.{Gives, TakesNoMemory};
 ghost use Rattle.net_base.specs.Tested.{below_except_at, positive_at, headed_at, stamp_at};
 

@@ -1,6 +1,6 @@
 //! Writing at the end.
 
-ghost use Rattle.std.specs.Prelude.{◌≡◌, ◌++◌, ◌∷◌, [], List, ℕ, length, take};
+ghost use Rattle.std.specs.Prelude.{◌≡◌, ◌∷◌, [], List, ℕ, length, take};
 ghost use Rattle.std.specs.Int.{w16, w32, w64};
 ghost use Rattle.net_base.specs.Reading.{Puts, number};
 

@@ -5,7 +5,6 @@ use Rattle.std.proofs.lemmas.Bool.{and_parts, and_from, and_left, and_right, or_
 use Rattle.net_base.specs.declared.values.Hash32.{Hash32}
 use Rattle.net_base.specs.declared.names.StateRef.{StateRef}
 use Rattle.net_base.specs.declared.names.Token.{Token}
-use Rattle.ledger_types.specs.declared.state.StateData.TheVariants as data_of
 use Rattle.ledger_types.specs.declared.state.TxState.{TxState}
 use Rattle.net_base.specs.declared.values.Party.{Party}
 use Rattle.net_base.proofs.Lists.{passes_weaken}

@@ -3,7 +3,6 @@ use Rattle.std.proofs.Common.{◌≡◌, ℕ, ◌-◌, List, [], ◌∷◌, ◌+
 use Rattle.std.proofs.lemmas.List.{length-drop}
 use Rattle.std.proofs.Math.Seq.{take-length}
 use Rattle.net_base.specs.declared.causes.Cause.{Cause}
-use Rattle.net_base.specs.declared.causes.Event.TheVariants as event
 use Rattle.net_base.proofs.Lists.{none_left}
 use Rattle.net_model.specs.Runs.{merge_two, stamp_of, is_before, at_node, merged_with}
 

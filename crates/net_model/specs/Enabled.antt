@@ -1,5 +1,5 @@
 -- Which act is enabled, and by which event it is performed.
-use Rattle.std.specs.Prelude.{◌≡◌, ℕ, ◌+◌, Option, Some, None, IsSome, option_and_then, MatchOption, if◌then◌else◌, nat_le, List, [], ◌∷◌, slice_get}
+use Rattle.std.specs.Prelude.{◌≡◌, ℕ, Option, Some, None, IsSome, option_and_then, MatchOption, if◌then◌else◌, nat_le, List, [], ◌∷◌, slice_get}
 use Rattle.std.specs.Option.{option_or}
 use Rattle.net_base.specs.declared.causes.Event.{Event}
 use Rattle.net_base.specs.declared.causes.Event.TheVariants as event

@@ -5,7 +5,7 @@ ghost use Rattle.node_core.specs.Disks.{roomless};
 ghost use Rattle.node_core.specs.Seen.{NodeSeen};
 ghost use Rattle.network_core.specs.Worlds.{KeepsWorld};
 ghost use Rattle.std.specs.List.{AllByRecursion};
-ghost use Rattle.network_core.specs.Answers.{Answered, AtPlace, StartServes, TurnServes, PostServes, HandServes, Handed, LoseServes, CutServes, BootServes, ClockServes, BootClock, said};
+ghost use Rattle.network_core.specs.Answers.{Answered, AtPlace, StartServes, TurnServes, PostServes, HandServes, LoseServes, CutServes, BootServes, ClockServes, BootClock, said};
 ghost use Rattle.network_core.specs.Begins.{BeginsWorld, IsRefused, BootsUpTo, nodes_over as over_disks};
 ghost use Rattle.network_core.specs.Drains.{DeliversAt, Drains, Drives, HandStops, HandsStop, InOrder, Posts, Round, RoundStops, StopsAt, Turns, TurnsAt, TurnsStop, heard, joined, room, turned};
 ghost use Rattle.network_core.specs.Served.{Serve, Follows};

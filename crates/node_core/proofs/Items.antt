@@ -5,7 +5,6 @@ use Rattle.std.proofs.lemmas.Bool.{and_parts, eqb-true}
 use Rattle.net_base.specs.declared.names.Identity.{Identity}
 use Rattle.net_base.specs.declared.names.Key.{Key}
 use Rattle.net_base.specs.declared.values.Party.{Party}
-use Rattle.net_base.specs.declared.causes.Event.TheVariants as event
 use Rattle.net_base.specs.Names.{IsKey}
 use Rattle.net_base.proofs.Options.{none_of}
 use Rattle.net_base.proofs.Lists.{all_find}

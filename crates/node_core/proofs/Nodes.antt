@@ -15,7 +15,6 @@ use Rattle.net_model.specs.Steps.{place}
 use Rattle.node_core.specs.declared.node.State.{State}
 use Rattle.node_core.specs.declared.node.State.TheVariants.{Down, Up, Moved}
 use Rattle.node_core.specs.declared.faults.StartFault.TheVariants as start_fault
-use Rattle.flow_machine.specs.declared.flow_set.MakeFault.TheVariants as make
 use Rattle.node_tables.specs.Journals.{Reads}
 use Rattle.node_core.specs.declared.faults.Taken.{Taken}
 use Rattle.node_core.specs.declared.faults.TakeFault.{TakeFault}

@@ -1,6 +1,6 @@
 //! What the words of a line do to the network.
 
-ghost use Rattle.std.specs.Prelude.{◌≡◌, ◌<◌, ◌≤◌, IfOk, map, string_bytes, List, ℕ, min, ◌-◌, ◌^◌, length, drop, slice_index_or, [], Option, Some, None, option_map, false};
+ghost use Rattle.std.specs.Prelude.{◌≡◌, ◌<◌, IfOk, map, string_bytes, min, ◌-◌, length, drop, slice_index_or, [], Option, Some, None, option_map, false};
 ghost use Rattle.network_core.specs.Worlds.{KeepsWorld};
 ghost use Rattle.shell_words.specs.Script.{command_of, is_quit, has_mark};
 ghost use Rattle.shell_words.specs.declared.commands.Command.TheVariants as command;

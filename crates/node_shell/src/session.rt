@@ -1,4 +1,4 @@
-ghost use Rattle.std.specs.Prelude.{◌≡◌, ◌≢◌, ◌<◌, ◌≤◌, ◌+◌, ◌++◌, ◌↔◌, [], ◌∷◌, ℕ, List, length, OnOk, IfOk, IfErr, IsErrOf, Option, MatchResult};
+ghost use Rattle.std.specs.Prelude.{◌≡◌, ◌<◌, ◌≤◌, ◌+◌, ◌↔◌, [], ◌∷◌, ℕ, List, length, OnOk, IfOk, IfErr, IsErrOf, Option};
 ghost use Rattle.outside.specs.Faults.{Rose};
 ghost use Rattle.network_core.specs.Worlds.{World, KeepsWorld, Shows, Coherent};
 ghost use Rattle.net_base.specs.declared.names.Identity.{Identity};

@@ -1,7 +1,6 @@
 //! Which records a node takes: what they say of the cause and of the flow.
 
 ghost use Rattle.std.specs.Prelude.{◌≡◌, ◌&&◌, ◌<◌, ◌^◌, nat_lt, nat_le, option_and_then, slice_get};
-ghost use Rattle.net_base.specs.declared.causes.Cause.{Cause as OfCause};
 ghost use Rattle.net_model.specs.Enabled.{part_of};
 ghost use Rattle.net_model.specs.Steps.{checkpoint_of};
 ghost use Rattle.session_wire.specs.Rules.{is_lawful};

@@ -1,6 +1,6 @@
 //! Lists with room for more.
 
-ghost use Rattle.std.specs.Prelude.{◌≡◌, ◌++◌, ◌∷◌, [], ◌<◌, ◌≤◌, ◌+◌, OnOk};
+ghost use Rattle.std.specs.Prelude.{◌≡◌, ◌++◌, ◌∷◌, [], ◌<◌, ◌+◌, OnOk};
 
 use std::alloc::{AllocError, Global};
 use std::marker::Model;

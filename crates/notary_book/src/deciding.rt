@@ -1,6 +1,6 @@
 //! What the notary decides over its book.
 
-ghost use Rattle.std.specs.Prelude.{◌≡◌, ◌<◌, ◌≤◌, ◌++◌, ◌∷◌, [], false, filter_map, OnOk, IfOk, IfSome};
+ghost use Rattle.std.specs.Prelude.{◌≡◌, ◌<◌, ◌++◌, false, filter_map, OnOk, IfOk, IfSome};
 ghost use Rattle.std.specs.Option.{option_copied};
 ghost use Rattle.std.specs.List.{list_any, AllByRecursion};
 ghost use Rattle.net_base.specs.Values.{IsParty};
@@ -8,7 +8,7 @@ ghost use Rattle.net_base.specs.Names.{IsTag};
 ghost use Rattle.ledger_types.specs.Requests.{IsConflictItem, IsNotaryAnswer};
 ghost use Rattle.ledger_types.specs.Names.{is_party};
 ghost use Rattle.ledger_types.specs.Tears.{visible_of};
-ghost use Rattle.ledger_types.specs.Notary.{signs, conflict_over, tag_by, has_good_tag, is_inside, conflicts, answer_unsigned, answer_shown, answer_new, is_notary, reply};
+ghost use Rattle.ledger_types.specs.Notary.{signs, conflict_over, tag_by, has_good_tag, is_inside, conflicts, answer_unsigned, answer_shown, answer_new, reply};
 
 use crate::book::Book;
 use ledger_types::{ConflictItem, NotaryAnswer, RefKind, Request, Visible, Window, consumer_hash};

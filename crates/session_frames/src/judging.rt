@@ -4,7 +4,7 @@ ghost use Rattle.std.specs.Prelude.{◌≡◌, IfOk};
 ghost use Rattle.session_wire.specs.Frames.{IsFrame, AreSides, GoesAt};
 ghost use Rattle.session_wire.specs.Rules.{direction_in};
 ghost use Rattle.session_wire.specs.Sessions.{session_of};
-ghost use Rattle.session_frames.specs.Judging.{arrived, judge, judge_ack, objection, misplaced, or_else, is_with, IsJudged};
+ghost use Rattle.session_frames.specs.Judging.{arrived, judge, judge_ack, objection, misplaced, is_with, IsJudged};
 ghost use Rattle.session_frames.specs.Items.{GoesFurther};
 ghost use Rattle.session_frames.specs.Lawful.{AreLawful};
 ghost use Rattle.session_wire.specs.declared.frame.Frame.TheVariants.{Message, Ack};

@@ -1,6 +1,6 @@
 //! The frames that a node sends: its messages until they are acknowledged, and acknowledgements.
 
-ghost use Rattle.std.specs.Prelude.{◌≡◌, ◌≤◌, ◌++◌, ◌∷◌, [], map, IfOk, OnOk, length};
+ghost use Rattle.std.specs.Prelude.{◌≡◌, ◌++◌, ◌∷◌, [], map, IfOk, OnOk};
 ghost use Rattle.std.specs.List.{AllByRecursion};
 ghost use Rattle.session_wire.specs.Frames.{IsFrame, frame};
 ghost use Rattle.session_wire.specs.declared.frame.Frame.TheVariants.{Ack};

@@ -3,8 +3,8 @@
 ghost use Rattle.std.specs.Prelude.{◌≡◌, ◌<◌, ◌≤◌, ◌+◌, ◌-◌, ◌^◌, ◌++◌, ◌∷◌, [], List, ℕ, length, drop, OnOk, IfOk, Option, Some, None, is_some, true, false, option_copied, option_map, if◌then◌else◌, ◌==◌, nat_lt};
 ghost use Rattle.std.specs.List.{list_all};
 ghost use Rattle.std.specs.Option.{option_and_then};
-ghost use Rattle.session_wire.specs.Sessions.{Session, session_of, changed_at, new_session, with_came, with_sent, with_taken, opened_on, sent_on, taken_on, next_item, first_item, ending_at};
-ghost use Rattle.session_wire.specs.Rules.{is_opened_by, opened_by, direction_out, direction_in, is_init, Continues, FitsSent, FitsTaken, sessions_of};
+ghost use Rattle.session_wire.specs.Sessions.{Session, session_of, changed_at, new_session, with_came, with_taken, opened_on, sent_on, taken_on, next_item, first_item, ending_at};
+ghost use Rattle.session_wire.specs.Rules.{is_opened_by, opened_by, direction_out, direction_in, is_init, Continues, FitsSent, sessions_of};
 ghost use Rattle.session_table.specs.Changes.{IsFitting, FitsCame, FitsOpened, AcceptsItem, answered_for, came_on, changed_by, acks_of_came, acks_of_opened, acks_after, arrived_in, room_for, taken_and_came};
 ghost use Rattle.session_wire.specs.declared.change.SessionChange.{SessionChange as Change};
 ghost use Rattle.net_base.specs.declared.names.Key.{Key as SessionKey};

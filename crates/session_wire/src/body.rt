@@ -1,7 +1,7 @@
 //! What a message says.
 
-ghost use Rattle.std.specs.Prelude.{◌≡◌, ◌<◌, ◌≤◌, ℕ, List, IfOk};
-ghost use Rattle.net_base.specs.Parts.{Gives, Writes};
+ghost use Rattle.std.specs.Prelude.{◌≡◌, ◌<◌, IfOk};
+ghost use Rattle.net_base.specs.Parts.{Gives};
 ghost use Rattle.session_wire.specs.Bodies.{IsBody, body_text, body_at, any_body_at, any_body_laws};
 
 use ledger_types::Value;

@@ -1,6 +1,6 @@
 //! Frames: what nodes send one another.
 
-ghost use Rattle.std.specs.Prelude.{◌≡◌, ◌<◌, ◌≤◌, ℕ, List, IfOk, IsOk, length};
+ghost use Rattle.std.specs.Prelude.{◌≡◌, ◌<◌, ◌≤◌, IfOk, IsOk, length};
 ghost use Rattle.net_base.specs.Parts.{Gives, Writes, DecodesWhole};
 ghost use Rattle.session_wire.specs.Frames.{IsFrame, frame, frame_at, frame_laws, message_at, ack_at, route_text, route_at};
 ghost use Rattle.session_wire.specs.Routes.{route_parts};

@@ -1,6 +1,6 @@
 //! Copies of causes.
 
-ghost use Rattle.std.specs.Prelude.{◌≡◌, IfOk, take};
+ghost use Rattle.std.specs.Prelude.{◌≡◌, IfOk};
 
 use net_base::{Cause, CauseList, ListOf};
 use net_model::copy_cause;

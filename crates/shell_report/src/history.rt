@@ -1,6 +1,6 @@
 //! The history of the network.
 
-ghost use Rattle.std.specs.Prelude.{◌≡◌, ◌++◌, ◌≤◌, IfOk, OnOk, string_bytes, length};
+ghost use Rattle.std.specs.Prelude.{◌≡◌, ◌≤◌, IfOk, string_bytes, length};
 ghost use Rattle.net_model.specs.Runs.{merged};
 ghost use Rattle.net_model.specs.Print.{event_line, history_line, history_lines, history_text};
 

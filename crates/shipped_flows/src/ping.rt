@@ -1,6 +1,6 @@
 ghost use Rattle.std.specs.Prelude.{◌≡◌, map, string_bytes};
 ghost use Rattle.net_base.specs.Parts.{Gives, Writes};
-ghost use Rattle.flow_machine.specs.Flows.{GivesWords, GivesMade};
+ghost use Rattle.flow_machine.specs.Flows.{GivesWords};
 ghost use Rattle.std.specs.Int.{w32};
 ghost use Rattle.shipped_flows.specs.Shared.{party_and};
 

@@ -1,7 +1,7 @@
 ghost use Rattle.std.specs.Prelude.{◌≡◌, map, string_bytes};
 ghost use Rattle.std.specs.Int.{w16};
 ghost use Rattle.net_base.specs.Parts.{Gives, Writes};
-ghost use Rattle.flow_machine.specs.Flows.{GivesWords, GivesMade};
+ghost use Rattle.flow_machine.specs.Flows.{GivesWords};
 ghost use Rattle.shipped_flows.specs.Shared.{party_and};
 
 use crate::shared::{is_peer, read_flagged, u8_word, u16_of, u16_word};

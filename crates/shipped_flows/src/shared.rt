@@ -1,6 +1,6 @@
 //! What the machines share: numbers in words and in arguments, peers, and fields that may be absent.
 
-ghost use Rattle.std.specs.Prelude.{◌≡◌, ◌^◌, ◌==◌, length, Some, None, if◌then◌else◌};
+ghost use Rattle.std.specs.Prelude.{◌≡◌, ◌^◌, Some, None};
 ghost use Rattle.std.specs.Int.{from_be_bytes, w16, w32};
 ghost use Rattle.net_base.specs.Parts.{Gives};
 ghost use Rattle.shipped_flows.specs.Shared.{word_below, sized, is_peer, flagged_at};

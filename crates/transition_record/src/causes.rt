@@ -1,6 +1,6 @@
 //! The spelling of causes.
 
-ghost use Rattle.std.specs.Prelude.{◌≡◌, ◌<◌, ◌≤◌, ℕ, List};
+ghost use Rattle.std.specs.Prelude.{◌≡◌, ◌<◌};
 ghost use Rattle.net_base.specs.Parts.{Gives, Writes};
 ghost use Rattle.transition_record.specs.Causes.{IsEvent, event_text, event_at, IsCause, cause_text, cause_at, came_key_of};
 

@@ -1,6 +1,6 @@
 //! The spelling of what becomes of a flow.
 
-ghost use Rattle.std.specs.Prelude.{◌≡◌, ◌<◌, ◌≤◌, ℕ, List};
+ghost use Rattle.std.specs.Prelude.{◌≡◌, ◌<◌};
 ghost use Rattle.net_base.specs.Parts.{Gives, Writes};
 ghost use Rattle.transition_record.specs.Changes.{checkpoint_bytes_at, checkpoint_flow, IsFlowPart, part_text, part_at, part_flow, part_over};
 

@@ -1,6 +1,6 @@
 //! The spelling of a change of the ledger.
 
-ghost use Rattle.std.specs.Prelude.{◌≡◌, ◌<◌, ◌≤◌, ℕ, List, Bool};
+ghost use Rattle.std.specs.Prelude.{◌<◌};
 ghost use Rattle.net_base.specs.Parts.{Gives, Writes};
 ghost use Rattle.transition_record.specs.Changes.{IsLedgerPart, ledger_text, ledger_at};
 

@@ -1,7 +1,7 @@
 //! Records, both ways.
 
-ghost use Rattle.std.specs.Prelude.{◌≡◌, ◌<◌, ◌≤◌, [], ℕ, List, IfOk, length};
-ghost use Rattle.net_base.specs.Parts.{Gives, Writes};
+ghost use Rattle.std.specs.Prelude.{◌≡◌, ◌<◌, ◌≤◌, [], IfOk, length};
+ghost use Rattle.net_base.specs.Parts.{Writes};
 ghost use Rattle.net_base.specs.declared.causes.Cause.{Cause};
 ghost use Rattle.session_wire.specs.declared.effect.Effect.{Effect};
 ghost use Rattle.transition_record.specs.Records.{IsRecord, record_text, IsUnbounded, unbounded_text, record_at, record_laws, GivesRecord, GivesBack, IsEffect, effect_text};

@@ -1,6 +1,6 @@
 //! The spelling of a change of sessions.
 
-ghost use Rattle.std.specs.Prelude.{◌≡◌, ◌++◌, ◌<◌, ◌≤◌, ℕ, List, Option, IfSome, IfOk, length};
+ghost use Rattle.std.specs.Prelude.{◌++◌, ◌<◌, Option, IfSome};
 ghost use Rattle.std.specs.List.{flat_map, AllByRecursion};
 ghost use Rattle.net_base.specs.Forms.{option_of, option_at, items_at, list8_at, list8, ListWithin};
 ghost use Rattle.net_base.specs.Combining.{pair_at};

@@ -1,7 +1,7 @@
 //! The rules on encumbrances, over the pairs of an encumbered output and the output that encumbers it.
 
-ghost use Rattle.std.specs.Prelude.{◌≡◌, ◌==◌, not, map};
-ghost use Rattle.std.specs.List.{list_any, list_all};
+ghost use Rattle.std.specs.Prelude.{◌≡◌, ◌==◌, map};
+ghost use Rattle.std.specs.List.{list_all};
 ghost use Rattle.ledger_types.specs.Rules as rule;
 ghost use Rattle.ledger_types.specs.Names.{has_number};
 

@@ -4,7 +4,7 @@ ghost use Rattle.std.specs.Prelude.{◌≡◌, ◌<◌, ◌&&◌, ℕ};
 ghost use Rattle.std.specs.List.{list_any};
 ghost use Rattle.net_base.specs.Parties.{has_party, members};
 ghost use Rattle.ledger_types.specs.Txs.{IsTx};
-ghost use Rattle.ledger_types.specs.Signatures.{needs, needed, missing_signers, signs_command, signs_as_notary, is_tag, checks, is_missing, has_signed};
+ghost use Rattle.ledger_types.specs.Signatures.{needs, needed, missing_signers, is_tag, checks, is_missing};
 ghost use Rattle.ledger_types.specs.Names.{hash_eq};
 
 use crate::shape::asks_notary;

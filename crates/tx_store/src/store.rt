@@ -1,12 +1,12 @@
 //! The store.
 
-ghost use Rattle.std.specs.Prelude.{◌≡◌, ◌≢◌, ◌<◌, ◌≤◌, ◌+◌, ◌^◌, ◌++◌, ◌∷◌, [], List, length, IsOk, OnOk, IfOk, IfErr, IfSome, Some, None, not, true, false, Bool, option_copied, option_map, slice_get, map, if◌then◌else◌, Contains};
+ghost use Rattle.std.specs.Prelude.{◌≡◌, ◌≢◌, ◌<◌, ◌≤◌, ◌+◌, ◌^◌, ◌++◌, ◌∷◌, [], List, length, OnOk, IfOk, IfErr, IfSome, Some, None, not, true, false, option_copied, option_map, slice_get, map, if◌then◌else◌};
 ghost use Rattle.std.specs.List.{list_all};
 ghost use Rattle.std.specs.Map.Iter.{deref_pair};
 ghost use Rattle.net_base.specs.declared.values.Hash32.{Hash32 as Id};
 ghost use Rattle.ledger_types.specs.Txs.{IsSignedTx};
 ghost use Rattle.ledger_types.specs.Signatures.{tx_id};
-ghost use Rattle.ledger_types.specs.Stores.{stored_of, is_stored, state_of, states_of, resolved_of, missing_ids};
+ghost use Rattle.ledger_types.specs.Stores.{stored_of, is_stored, states_of, resolved_of, missing_ids};
 ghost use Rattle.tx_store.specs.declared.fault.ResolveFault.TheVariants.{Memory};
 ghost use Rattle.tx_store.specs.Stored.{AreWithin, IsResolved, refs_of, all_stored, has_dependencies, is_in_order, leads_back, found_with, found_in};
 ghost use Rattle.tx_store.specs.Faults.{fault_of, state_or_fault};

@@ -1,6 +1,6 @@
 //! Making a tear-off.
 
-ghost use Rattle.std.specs.Prelude.{◌≡◌, ◌≤◌, Some, List, map, length, IfOk};
+ghost use Rattle.std.specs.Prelude.{◌≡◌, ◌≤◌, Some, map, length, IfOk};
 ghost use Rattle.std.specs.List.{AllByRecursion};
 ghost use Rattle.ledger_types.specs.Ids.{groups};
 ghost use Rattle.ledger_types.specs.Txs.{IsTx};

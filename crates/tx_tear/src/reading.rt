@@ -1,6 +1,6 @@
 //! Reading a tear-off.
 
-ghost use Rattle.std.specs.Prelude.{◌≡◌, List, option_and_then, IfOk, IfSome};
+ghost use Rattle.std.specs.Prelude.{◌≡◌, option_and_then, IfOk, IfSome};
 ghost use Rattle.std.specs.List.{AllByRecursion};
 ghost use Rattle.net_base.specs.Forms.{ListWithin};
 ghost use Rattle.ledger_types.specs.Torn.{IsTornTx};

@@ -1,6 +1,6 @@
 //! The values of the groups of a tear-off.
 
-ghost use Rattle.std.specs.Prelude.{◌≡◌, List, map, IfOk};
+ghost use Rattle.std.specs.Prelude.{◌≡◌, map, IfOk};
 ghost use Rattle.component_merkle.specs.Merkle.{leaf_of};
 ghost use Rattle.ledger_types.specs.Tears.{group_value};
 

@@ -1,4 +1,4 @@
-use Rattle.std.proofs.Common.{◌≡◌, ◌≤◌, arith}
+use Rattle.std.proofs.Common.{arith}
 use Rattle.ledger_types.proofs.torn.read_group.Goals.{then-room-lt64, else-room-lt64}
 use Rattle.ledger_types.proofs.torn.read_group.Goals as goal
 

@@ -1,8 +1,8 @@
-use Rattle.std.proofs.Common.{◌≡◌, ◌-◌, arith}
+use Rattle.std.proofs.Common.{arith}
 use Rattle.std.proofs.lemmas.Result.{err_from_is_err_and}
 use Rattle.net_base.specs.Runs.{run_at}
 use Rattle.net_base.proofs.Items.{run_goes_on, run_ends, run_is_done}
-use Rattle.ledger_types.specs.Torn.{group_step, group_next, shown_of}
+use Rattle.ledger_types.specs.Torn.{group_step, group_next}
 use Rattle.ledger_types.proofs.torn.read_group_items.Goals as goal
 
 pub returns-in_err-group : goal.returns-in_err-group
