@@ -130,7 +130,7 @@ impl MemDisk {
 
 impl MemDisk {
     /// Counts a write or a sync down; false where it took the power.
-    fn lives(&mut self) -> bool
+    fn count_down(&mut self) -> bool
         requires { self.old.power ≡ true }
         ensures result { result ≡ not (blows self.old.fuse) }
         ensures yes { result ≡ true → self.new ≡ record self.old { fuse = burnt self.old.fuse } }
@@ -238,7 +238,7 @@ impl Disk for MemDisk {
             return Err(self.fail());
         }
         self.write(at, from);
-        if self.lives() { Ok(()) } else { Err(Failed) }
+        if self.count_down() { Ok(()) } else { Err(Failed) }
     }
 
     fn sync(&mut self) -> Result<(), Failed>
@@ -255,7 +255,7 @@ impl Disk for MemDisk {
         if !self.powered {
             return Err(self.fail());
         }
-        if !self.lives() {
+        if !self.count_down() {
             return Err(Failed);
         }
         self.keep();

@@ -201,7 +201,7 @@ impl<D: Disk, F: FlowSet> Node<D, F> {
             Err(CommitFault::Full) => unreachable!(),
             Err(CommitFault::Memory) => Err(StartFault::Memory),
             Err(CommitFault::Fault) => {
-                fall(&mut self.state);
+                go_down(&mut self.state);
                 Err(StartFault::Fault)
             }
         }
@@ -240,7 +240,7 @@ impl<D: Disk, F: FlowSet> Node<D, F> {
             Err(CommitFault::Full) => unreachable!(),
             Err(CommitFault::Memory) => Err(TurnFault::Memory),
             Err(CommitFault::Fault) => {
-                fall(&mut self.state);
+                go_down(&mut self.state);
                 Err(TurnFault::Fault)
             }
         }
@@ -268,7 +268,7 @@ impl<D: Disk, F: FlowSet> Node<D, F> {
         };
         let answer = up.take(alloc, &self.identity, now, bytes);
         if is_fault(&answer) {
-            fall(&mut self.state);
+            go_down(&mut self.state);
         }
         answer
     }
@@ -292,7 +292,7 @@ impl<D: Bay, F: Spelt + Drop> Node<D, F> {
             return Err(CutFault::NoFuse);
         }
         if calls == 0 {
-            fall(&mut self.state);
+            go_down(&mut self.state);
             cut_now(&mut self.state, outcome);
         }
         Ok(())
@@ -340,7 +340,7 @@ fn cut_now<D: Bay, F: Spelt + Drop>(state: &mut State<D, F>, outcome: u8)
 }
 
 /// Takes a node down: its disk comes out of the journal.
-fn fall<D: Disk, F: Spelt + Drop>(state: &mut State<D, F>)
+fn go_down<D: Disk, F: Spelt + Drop>(state: &mut State<D, F>)
     requires { IsSome (journal_in state.old) }
     ensures disk { disk_in D.seen state.new ≡ disk_in D.seen state.old }
     ensures down { IsDown state.new }

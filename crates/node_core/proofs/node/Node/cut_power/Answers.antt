@@ -11,7 +11,7 @@ returns-then-calls-eq0 g c =
     let failed = sym c.if-is_err.ensures.value in
     let memory : c.in-Up.up.journal.disk.of_file ≡ false = where_ok _ c.arm.result failed c.arm.ensures.memory in
     subst (λ (o : NodeSeen). CutAnswers {T = Unit {0}} c.args.calls c.args.outcome o (Ok tt) (record { identity = id; disk = disk_in g.D.Disk.seen c.cut_now.new.state; journal = journal_in c.cut_now.new.state; acked = acked_in c.cut_now.new.state })) here
-    (cut_down g.D.Disk.seen id c.args.calls c.args.outcome _ c.in-Up.up c.arm.new.self c.fall.new.state c.cut_now.new.state c.if-calls-eq0.true memory (where_ok _ c.arm.result failed c.arm.ensures.armed) c.fall.ensures.disk c.cut_now.ensures.cut c.cut_now.ensures.down)
+    (cut_down g.D.Disk.seen id c.args.calls c.args.outcome _ c.in-Up.up c.arm.new.self c.go_down.new.state c.cut_now.new.state c.if-calls-eq0.true memory (where_ok _ c.arm.result failed c.arm.ensures.armed) c.go_down.ensures.disk c.cut_now.ensures.cut c.cut_now.ensures.down)
 
 pub returns-else-calls-eq0 : goal.returns-else-calls-eq0
 returns-else-calls-eq0 g c =
