@@ -128,8 +128,9 @@ pub enum BootFault {
     /// The journal is that of another node, or of another network.
     #[error("the journal is that of another node")]
     WrongNode { found: Identity },
-    /// What stands at this place, in bytes from the start, is neither a whole record nor a closed gate, or the record that begins
-    /// there is none of this flow set's or doesn't fit behind those before it.
+    /// What stands at this place, in bytes from the start, is neither a whole record nor a closed gate, or it is an open gate
+    /// behind the most records that a journal holds, or the record that begins there is none of this flow set's or doesn't fit
+    /// behind those before it.
     #[error("the journal is damaged at byte {at}")]
     Damaged { at: u64 },
     /// Out of memory.

@@ -39,7 +39,7 @@ fn falls_at(alloc: Global, calls: u64, outcome: u8, after: Said) -> Result<(), F
     falls_and_rises(alloc, fresh(alloc), calls, outcome, after)
 }
 
-// An append writes the record, syncs, closes the gate and syncs. The record stands where the closed gate is left.
+// An append writes the record, syncs, opens its gate and syncs. The record stands where the opened gate is left.
 #[test]
 fn a_fault_leaves_it_down(rt: HostRuntime) -> Result<(), Fail> {
     let alloc = rt.alloc();

@@ -78,14 +78,22 @@ fn has_causes<B: Bench>(node: &B, count: u64, last: u64) -> Result<(), Fail> {
     expect(node.causes_are(), ("causes", count, last))
 }
 
-/// One byte is missing from the first frame, and the second is for node 2.
+/// Each proper prefix of the first frame is no frame, nor is the frame with a byte behind it.
+fn refuses_parts<B: Bench>(alloc: Global, node: &mut B) -> Result<(), Fail> {
+    let mut bytes = hex::decode(alloc, INIT)?;
+    bytes.extend_from_slice(&[0])?;
+    for n in 0..bytes.len() + 1 {
+        if n != 33 {
+            let part = &bytes.as_slice()[..n];
+            expect(node.taken(alloc, 5, part, &[]), ("garbled", 0, 0))?;
+        }
+    }
+    Ok(())
+}
+
+/// What is no frame, and a frame for node 2.
 fn refuses<B: Bench>(alloc: Global, node: &mut B) -> Result<(), Fail> {
-    hands_other(
-        alloc,
-        node,
-        "0100010000000000000000000000000000000000020100020100000000000000",
-        ("garbled", 0, 0),
-    )?;
+    refuses_parts(alloc, node)?;
     hands_other(
         alloc,
         node,
