@@ -28,4 +28,5 @@ pub mod BookKept
 mod Ordered
 mod Kept
 mod Stamps
+mod Came
 mod Rows

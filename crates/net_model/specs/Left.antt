@@ -1,4 +1,4 @@
--- What a network may still do: a number that falls at each cause but Start.
+-- What a network may still do: a number that, in a run, falls at each cause but Start, where the weights of frames fall, loads are enough, and frames are over exactly where they return or fail.
 use Rattle.std.specs.Prelude.{◌≡◌, ℕ, ◌+◌, ◌≤◌, ◌&&◌, not, List, [], ◌∷◌, Option, Some, None, Bool, true, false, drop, length, slice_get, nat_lt}
 use Rattle.std.specs.List.{list_all}
 use Rattle.net_base.specs.declared.names.Key.{Key}

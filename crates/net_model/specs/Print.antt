@@ -112,7 +112,7 @@ print causes net (of_flows p) = node_text (slice_get net p)
 print causes net (of_flow p f) = flow_text_at f (slice_get net p)
 print causes net of_history = history_text causes
 
--- the lines that answer a query of a network, where there is one
+-- the lines that answer a query of a network; there is none where the journals are those of no run, and then nothing is printed
 abbrev pub print_of : {F : Type 0} → List (ℕ × Cause) → Option (List (NodeState F)) → Query → List ℕ
 print_of causes None query = []
 print_of causes (Some net) query = print causes net query

@@ -1,5 +1,5 @@
 -- Runs of the whole network, and which journals are those of a run.
-use Rattle.std.specs.Prelude.{◌≡◌, ℕ, ◌+◌, ◌<◌, ◌==◌, ◌&&◌, ◌||◌, get_or, List, [], ◌∷◌, ◌++◌, Option, Some, None, Bool, true, false, if◌then◌else◌, IsSome, length, map, max, option_map, option_and_then, nat_lt, replicate, slice_get, slice_set, ⊤, ◌↔◌}
+use Rattle.std.specs.Prelude.{◌≡◌, ℕ, ◌+◌, ◌<◌, ◌==◌, ◌&&◌, ◌||◌, get_or, List, [], ◌∷◌, ◌++◌, Option, Some, None, Bool, true, false, if◌then◌else◌, IsSome, length, map, max, option_map, option_and_then, nat_lt, replicate, slice_get, slice_set, take, ⊤, ◌↔◌}
 use Rattle.std.specs.List.{AllByRecursion}
 use Rattle.net_base.specs.declared.names.Key.{Key}
 use Rattle.net_base.specs.declared.causes.Cause.{Cause}
@@ -222,3 +222,25 @@ CommitsKeepLocal F = (w : Environment F) (journals : List (List (Record F))) (p 
 abbrev pub CommitsKeepMatched : (F : Type 0) → Type 0
 CommitsKeepMatched F = (journals : List (List (Record F))) (p : ℕ) (records : List (Record F)) (r : Record F) → slice_get journals p ≡ Some records → IsMatched journals
     → (accepts r.cause.event ≡ true → IsItem (map replay journals) p (replay records) r) → IsMatched (slice_set journals p (records ++ r ∷ []))
+
+-- what a node has sent in a session, where the session is with the node `me`
+abbrev pub sent_in : ℕ → Option Session → List Sent
+sent_in me None = []
+sent_in me (Some session) = if session.peer.0 == me then session.sent else []
+
+-- what a sender has sent to the node in the session of the key
+abbrev pub items_from : {F : Type 0} → List (NodeState F) → ℕ → ℕ → Key → List Sent
+items_from net me sender key = sent_in me (option_and_then (λ s. session_of key s.sessions) (slice_get net sender))
+
+-- what has come into each session of each node is a front of what the session's peer has sent there: in order, none passed over, none twice, none that was not sent
+abbrev pub CameFromPeers : {F : Type 0} → List (NodeState F) → Type 0
+CameFromPeers {F} net = (p : ℕ) (s : NodeState F) (key : Key) (session : Session) → slice_get net p ≡ Some s → session_of key s.sessions ≡ Some session
+    → session.came ≡ take (length session.came) (map (λ sent. sent.body) (items_from net p session.peer.0 key))
+
+-- so it is in a run
+abbrev pub CameWasSent : (F : Type 0) → Type 0
+CameWasSent F = (w : Environment F) (causes : List (ℕ × Cause)) (net : List (NodeState F)) → run_of w causes ≡ Some net → CameFromPeers net
+
+-- and with what the journals of a run make
+abbrev pub CameWasSentInJournals : (F : Type 0) → Type 0
+CameWasSentInJournals F = (w : Environment F) (journals : List (List (Record F))) → length journals ≡ w.nodes → IsFaithful w journals → CameFromPeers (map replay journals)

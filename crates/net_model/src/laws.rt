@@ -4,7 +4,7 @@ ghost use Rattle.net_model.specs.Left.{LeftFalls};
 ghost use Rattle.net_model.specs.Tags.{NotaryTagsHold};
 ghost use Rattle.net_model.specs.Stores.{RunsHoldStores, StoredIsSigned};
 ghost use Rattle.net_model.specs.Books.{BooksOfRuns, BooksOfJournals};
-ghost use Rattle.net_model.specs.Runs.{MergesInOrder, MergesEach, PrefixesAreRuns, StampsRise, StepIsItsEffect, ItemsStay, ItemsAreStamped, FaithfulExactly, FaithfulRun, CommitsKeepLocal, CommitsKeepMatched};
+ghost use Rattle.net_model.specs.Runs.{MergesInOrder, MergesEach, PrefixesAreRuns, StampsRise, StepIsItsEffect, ItemsStay, ItemsAreStamped, FaithfulExactly, FaithfulRun, CommitsKeepLocal, CommitsKeepMatched, CameWasSent, CameWasSentInJournals};
 
 /// The law that a flow which keeps its own number goes on, by the event that performs its act, exactly where that event has an effect.
 #[tactic(auto, using(crate::proofs::Enabled::enabled_is_defined))]
@@ -49,6 +49,14 @@ pub fn step_is_its_effect<F>()
 pub fn items_stay<F>()
     ensures stay { ItemsStay F }
     ensures stamped { ItemsAreStamped F }
+{}
+
+/// The law that what has come into a session is a front of what its peer has sent there, in a run and in the journals of one: items
+/// come in their order, and none is passed over, comes twice, or was not sent.
+#[tactic(auto, using(crate::proofs::Came::came_was_sent, crate::proofs::Came::came_was_sent_in_journals))]
+pub fn came_was_sent<F>()
+    ensures runs { CameWasSent F }
+    ensures journals { CameWasSentInJournals F }
 {}
 
 /// The law that journals, one of each node, are those of a run exactly where each record is a step of its node alone and each

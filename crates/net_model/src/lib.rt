@@ -12,9 +12,9 @@ mod laws;
 mod ordering;
 
 pub use laws::{
-    books_hold, commits_keep, enabled_is_defined, faithful_exactly, faithful_run, items_stay,
-    left_falls, merges_each, merges_in_order, notary_tags_hold, prefixes_are_runs, stamps_rise,
-    step_is_its_effect, steps_fit, stored_is_signed, stores_hold,
+    books_hold, came_was_sent, commits_keep, enabled_is_defined, faithful_exactly, faithful_run,
+    items_stay, left_falls, merges_each, merges_in_order, notary_tags_hold, prefixes_are_runs,
+    stamps_rise, step_is_its_effect, steps_fit, stored_is_signed, stores_hold,
 };
 pub use ordering::{copy_cause, merge};
 

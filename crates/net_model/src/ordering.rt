@@ -8,8 +8,12 @@ use net_base::{Cause, CauseList, Event, ListOf, NodeCauseList};
 use std::alloc::{AllocError, Global};
 
 /// Merges the causes of all nodes, the list at place p being that of node p: each with its node, by stamp and at the same stamp by
-/// node, where the stamps of each list rise (Lamport, Time, Clocks, and the Ordering of Events in a Distributed System, 1978). Copies
-/// every cause.
+/// node, where the stamps of each list rise (Lamport, Time, Clocks, and the Ordering of Events in a Distributed System, 1978). There are
+/// 16 lists at most, and any of them may be empty. Copies every cause once, and moves it once for each list before its own.
+///
+/// # Errors
+///
+/// Want of memory alone.
 #[tactic(auto, unfolding(crate::specs::Runs::merge))]
 pub fn merge(alloc: Global, lists: &[CauseList]) -> Result<NodeCauseList, AllocError>
     requires few { length lists.now ≤ 16 }
@@ -92,13 +96,14 @@ fn add_all(
     Ok(())
 }
 
+/// Whether the cause of `node` comes before `next`, a cause of another node.
 fn comes_before(node: u8, cause: &Cause, other: u8, next: &Cause) -> bool
     ensures { result ≡ is_before stamp_of (node, cause.now) (other, next.now) }
 {
     cause.stamp < next.stamp || (cause.stamp == next.stamp && node < other)
 }
 
-/// An equal cause.
+/// An equal cause. The one error is want of memory, for the arguments of a Start.
 pub fn copy_cause(alloc: Global, cause: &Cause) -> Result<Cause, AllocError>
     ensures { IfOk result (λ copy. copy ≡ cause.now) }
 {
@@ -109,6 +114,7 @@ pub fn copy_cause(alloc: Global, cause: &Cause) -> Result<Cause, AllocError>
     })
 }
 
+/// An equal event.
 fn copy_event(alloc: Global, event: &Event) -> Result<Event, AllocError>
     ensures { IfOk result (λ copy. copy ≡ event.now) }
 {
