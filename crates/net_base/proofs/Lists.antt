@@ -159,6 +159,13 @@ get_less [] q x h = cc
 get_less (y ∷ ys) zero x h = omega arith
 get_less (y ∷ ys) (suc q) x h = let k = get_less ys q x h in omega arith
 
+-- in a list with one more at its end
+pub get_push : {X : Type 0} (xs : List X) (y : X) (n : ℕ) (x : X) → slice_get (xs ++ y ∷ []) n ≡ Some x → (slice_get xs n ≡ Some x) ⊎ ((length xs ≡ n) × (y ≡ x))
+get_push [] y zero x h = inr (refl, cc)
+get_push [] y (suc n) x h = cc
+get_push (z ∷ zs) y zero x h = inl h
+get_push (z ∷ zs) y (suc n) x h = ⊎_elim (λ k. inl k) (λ k. inr (ap suc k.0, k.1)) (get_push zs y n x h)
+
 -- another list of this length has one too
 pub get_beside : {X Y : Type 0} (xs : List X) (ys : List Y) (p : ℕ) (x : X) → length xs ≡ length ys → slice_get xs p ≡ Some x → (y : Y) × (slice_get ys p ≡ Some y)
 get_beside [] ys p x n h = cc

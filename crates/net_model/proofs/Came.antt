@@ -1,5 +1,5 @@
 -- What has come into a session was sent there by its peer, in the same order.
-use Rattle.std.proofs.Common.{◌≡◌, ◌⊎◌, inl, inr, ⊎_elim, ℕ, zero, suc, List, [], ◌∷◌, ◌++◌, Option, Some, None, Bool, true, false, cond, ◌==◌, map, take, option_and_then, slice_get, slice_set, length, refl, sym, ap, subst, ◌∙◌, append-nil}
+use Rattle.std.proofs.Common.{◌≡◌, ◌⊎◌, ⊎_elim, ℕ, zero, suc, List, [], ◌∷◌, ◌++◌, Option, Some, None, Bool, true, false, cond, ◌==◌, map, take, option_and_then, slice_get, slice_set, length, refl, sym, ap, subst, ◌∙◌, append-nil}
 use Rattle.std.specs.Prelude.{⊤, option_to_list}
 use Rattle.std.proofs.lemmas.Bool.{and_parts, eqb-true}
 use Rattle.net_base.specs.declared.names.Key.{Key}
@@ -7,7 +7,7 @@ use Rattle.net_base.specs.declared.values.Party.{Party}
 use Rattle.net_base.specs.declared.causes.Cause.{Cause}
 use Rattle.net_base.specs.declared.causes.Event.{Event}
 use Rattle.net_base.specs.declared.causes.Event.TheVariants as event
-use Rattle.net_base.proofs.Lists.{find_map, find_test}
+use Rattle.net_base.proofs.Lists.{find_map, find_test, get_push}
 use Rattle.net_base.proofs.Options.{some_eq}
 use Rattle.session_wire.specs.declared.body.Body.{Body}
 use Rattle.session_wire.specs.declared.change.SentItem.{SentItem}
@@ -36,12 +36,6 @@ Brings P (event.Arrive key direction number) ss came = (session : Session) (body
 Brings P (event.Start flow class args) ss came = ⊤
 Brings P (event.Move flow) ss came = ⊤
 Brings P (event.Lapse flow) ss came = ⊤
-
-get_push : {A : Type 0} (xs : List A) (y : A) (n : ℕ) (a : A) → slice_get (xs ++ y ∷ []) n ≡ Some a → (slice_get xs n ≡ Some a) ⊎ ((length xs ≡ n) × (y ≡ a))
-get_push [] y zero a h = inr (refl, some_eq h)
-get_push [] y (suc n) a h = cc
-get_push (x ∷ xs) y zero a h = inl h
-get_push (x ∷ xs) y (suc n) a h = ⊎_elim (λ k. inl k) (λ k. inr (ap suc k.0, k.1)) (get_push xs y n a h)
 
 module _ (P : Key → Party → ℕ → Body → Type 0) where
   came_added : (ss : List Session) (x : Session) → Came P ss → ((n : ℕ) (body : Body) → slice_get x.came n ≡ Some body → P x.key x.peer n body) → Came P (ss ++ x ∷ [])

@@ -1,6 +1,7 @@
 -- What transitions make of lawful sessions.
-use Rattle.std.proofs.Common.{◌≡◌, ◌⊎◌, inl, inr, ◌<◌, ◌^◌, ℕ, zero, suc, Bool, true, false, cond, List, [], ◌∷◌, ◌++◌, Some, None, refl, ap, sym, subst, ◌∙◌, length, arith, map, slice_get, length-append}
+use Rattle.std.proofs.Common.{◌≡◌, inl, inr, ◌<◌, ◌^◌, ℕ, Bool, true, false, cond, List, [], ◌∷◌, Some, None, refl, ap, sym, subst, ◌∙◌, length, arith, map, length-append}
 use Rattle.std.specs.List.{AllByRecursion, IsDistinct}
+use Rattle.net_base.proofs.Lists.{get_push}
 use Rattle.net_base.specs.declared.names.Key.{Key}
 use Rattle.net_base.specs.declared.values.Party.{Party}
 use Rattle.session_wire.specs.Bodies.{IsBodyAt}
@@ -50,17 +51,6 @@ pub taking : TakingIsLawful
 taking me sessions None h = h
 taking me sessions (Some taken) h = record { node = h.node; each = all_changed (IsLawful me) taken.0 (with_taken taken.1) (taken_lawful me taken.1) sessions h.each }
 
--- what stands at a place of a list with one more at its end
-get_end : {A : Type 0} (xs : List A) (y : A) (n : ℕ) (a : A) → slice_get (xs ++ y ∷ []) n ≡ Some a → (slice_get xs n ≡ Some a) ⊎ ((n ≡ length xs) × (y ≡ a))
-get_end [] y zero a h = inr (refl, cc)
-get_end [] y (suc n) a h = absurd cc
-get_end (x ∷ xs) y zero a h = inl h
-get_end (x ∷ xs) y (suc n) a h =
-    elim (get_end xs y n a h) [
-      | inl e ↦ inl e
-      | inr e ↦ inr (omega (arith, e.0), e.1)
-    ]
-
 -- a session to which the next item was sent
 sent_lawful : (me : Party) (item : SentItem) (stamp : ℕ) (s : Session) → 0 < stamp → stamp < 2 ^ 63 → IsWithin item → item.key ≡ s.key → item.direction ≡ direction_out me item.key → item.seq ≡ length s.sent → is_lawful item.direction item.seq item.body ≡ true
     → IsLawful me s → IsLawful me (with_sent (record { body = item.body; stamp = stamp }) s)
@@ -71,9 +61,9 @@ sent_lawful me item stamp s low high within same outgoing next lawful h =
       number = h.number;
       answered = λ e. record { peer = (h.answered e).peer; came = (h.answered e).came };
       few = omega (arith, length-append s.sent (x ∷ []), within.number, next);
-      items = λ n y there. elim (get_end s.sent x n y there) [
+      items = λ n y there. elim (get_push s.sent x n y there) [
         | inl e ↦ h.items n y e
-        | inr e ↦ subst (λ (z : Sent). IsSentAt me s.key n z) e.1 (subst (λ (k : ℕ). IsSentAt me s.key k x) (next ∙ sym e.0) (record { stamped = (low, high); lawful = placed }))
+        | inr e ↦ subst (λ (z : Sent). IsSentAt me s.key n z) e.1 (subst (λ (k : ℕ). IsSentAt me s.key k x) (next ∙ e.0) (record { stamped = (low, high); lawful = placed }))
       ];
     }
   where
