@@ -4,7 +4,7 @@ use Rattle.std.proofs.lemmas.List.{drop_at, append-nil}
 use Rattle.std.proofs.lemmas.List.Elements.{Contains-push_cases, Contains-append_cases, Contains-append_left, Contains-push}
 use Rattle.std.proofs.lemmas.Grind.{same_number_lists}
 use Rattle.std.specs.List.{Contains}
-use Rattle.outside.specs.Disk.{DiskState, DiskView, Durable, IsImage, EachImage, KeepsImage, Kept, Syncs, LosesPower, CutsPower, FailsSyncing, FailsWriting, moment, clean, overwritten, with_range, written, flushed}
+use Rattle.outside.specs.Disk.{DiskState, DiskView, Durable, IsImage, EachImage, KeepsImage, Syncs, LosesPower, CutsPower, FailsSyncing, FailsWriting, moment, clean, overwritten, with_range, written, flushed}
 
 none : {X : Type 0} (x : X) → Contains [] x → ⊥
 none x c = absurd (omega (arith, c.1))
