@@ -1,5 +1,5 @@
 ghost use Rattle.std.specs.Prelude.{◌≡◌, ◌≤◌, ◌<◌, ◌+◌, ◌++◌, ◌∷◌, [], ◌↔◌, ℕ, length, true, Some, false, OnOk, OnErr, IsErr, IsErrOf, IfOk, IfErr, MatchResult, None, List, ◌⊎◌, vec_capacity, ◌^◌};
-ghost use Rattle.outside.specs.Disk.{EachImage, IfTold, SameRest, IsImage, clean, burnt_by};
+ghost use Rattle.outside.specs.Disk.{EachImage, IfTold, SameRest, IsImage, clean, burnt, burnt_by};
 ghost use Rattle.outside.specs.Faults.{Rose};
 ghost use Rattle.net_base.specs.Names.{IsIdentity};
 ghost use Rattle.disk_journal.specs.Journal.{IsReady, HasRoom, IsSound, IsYoung, IsOldOrNew, GivesUp, WasSpelt, journal_of, is_full_at, entry, refusal, placed, size_of, is_unformatted, formatted, opening_calls};
@@ -68,7 +68,8 @@ impl<D: Disk> Journal<D> {
     /// disk is written: at each moment a power cut leaves there what it might have left before the call.
     ///
     /// The identity's party and notary are below 16, and it has 1 to 16 nodes. A refusal leaves each byte as it was, synced,
-    /// but for [`OpenFault::Fault`]: what that leaves spells records that a power cut might have left before.
+    /// and the power on, but for [`OpenFault::Fault`]: what that leaves spells records that a power cut might have left
+    /// before.
     pub fn open(
         alloc: Global,
         disk: D,
@@ -99,6 +100,10 @@ impl<D: Disk> Journal<D> {
         // A fuse counts each write and sync.
         ensures fuse { (D.seen disk).tells ≡ true → IfOk result (λ r. r.0.disk.fuse ≡ burnt_by (opening_calls (D.seen disk).state.kept) (D.seen disk).fuse) }
         ensures power { IfOk result (λ r. ((D.seen disk).power ≡ true) × (r.0.disk.power ≡ true)) }
+
+        // A refusal that is no fault comes after the one sync alone, with the power on.
+        ensures refused_fuse { IfErr result (λ r. (r.why ≡ OpenFault.Fault → ⊥) → (D.seen r.disk).fuse ≡ burnt (D.seen disk).fuse) }
+        ensures refused_power { IfErr result (λ r. (r.why ≡ OpenFault.Fault → ⊥) → ((D.seen disk).power ≡ true) × ((D.seen r.disk).power ≡ true)) }
 
         // What was kept as the call began was one of the images then.
         ensures was { (D.seen disk).tells ≡ true → IsImage (D.seen disk).state.now (D.seen disk).state.kept }

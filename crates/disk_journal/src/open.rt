@@ -11,6 +11,7 @@ use outside::{Disk, Failed, write_synced};
 use std::alloc::Global;
 
 /// Syncs the disk and reads all of it.
+#[tactic(auto, using(outside::proofs::Moments::kept_image))]
 fn read_all<D: Disk>(alloc: Global, disk: &mut D) -> Result<Vec<u8>, OpenFault>
     ensures bytes { (D.seen disk.old).tells ≡ true → IfOk result (λ v. v.items ≡ (D.seen disk.old).state.kept) }
     ensures was { (D.seen disk.old).tells ≡ true → IsImage (D.seen disk.old).state.now (D.seen disk.old).state.kept }
@@ -20,6 +21,8 @@ fn read_all<D: Disk>(alloc: Global, disk: &mut D) -> Result<Vec<u8>, OpenFault>
     ensures memory { IsErrOf result OpenFault.Memory → IfTold (D.seen disk.old) (D.seen disk.new) (λ d e. (e.kept ≡ d.kept) × (e.now ≡ clean e.kept)) }
     ensures fuse { OnOk result ((D.seen disk.new).fuse ≡ burnt (D.seen disk.old).fuse) }
     ensures power { OnOk result (((D.seen disk.old).power ≡ true) × ((D.seen disk.new).power ≡ true)) }
+    ensures memory_fuse { IsErrOf result OpenFault.Memory → (D.seen disk.new).fuse ≡ burnt (D.seen disk.old).fuse }
+    ensures memory_power { IsErrOf result OpenFault.Memory → ((D.seen disk.old).power ≡ true) × ((D.seen disk.new).power ≡ true) }
     ensures only { IfErr result (λ why. GivesUp why) }
     ensures later { (D.seen disk.old).faults ≤ (D.seen disk.new).faults }
     ensures cause { IsErrOf result OpenFault.Fault → Rose (D.seen disk.old).faults (D.seen disk.new).faults }
@@ -137,6 +140,8 @@ fn begin<D: Disk>(alloc: Global, disk: &mut D, id: &Identity, bytes: &[u8]) -> R
     ensures memory { IsErrOf result OpenFault.Memory → (D.seen disk.new).state ≡ (D.seen disk.old).state }
     ensures fuse { OnOk result ((D.seen disk.new).fuse ≡ burnt_by (formatting_calls (is_shut bytes.now)) (D.seen disk.old).fuse) }
     ensures power { OnOk result (((D.seen disk.old).power ≡ true) × ((D.seen disk.new).power ≡ true)) }
+    ensures memory_fuse { IsErrOf result OpenFault.Memory → (D.seen disk.new).fuse ≡ (D.seen disk.old).fuse }
+    ensures memory_power { IsErrOf result OpenFault.Memory → (D.seen disk.new).power ≡ (D.seen disk.old).power }
     ensures only { IfErr result (λ why. GivesUp why) }
     ensures later { (D.seen disk.old).faults ≤ (D.seen disk.new).faults }
     ensures cause { IsErrOf result OpenFault.Fault → Rose (D.seen disk.old).faults (D.seen disk.new).faults }
@@ -164,6 +169,8 @@ pub fn prepare<D: Disk>(alloc: Global, disk: &mut D, id: &Identity) -> Result<Re
     ensures unwritten { IfTold (D.seen disk.old) (D.seen disk.new) (λ d e. is_unformatted d.kept ≡ false → EachImage d e (IsImage d.now) × IsImage d.now e.kept) }
     ensures fuse { (D.seen disk.old).tells ≡ true → OnOk result ((D.seen disk.new).fuse ≡ burnt_by (opening_calls (D.seen disk.old).state.kept) (D.seen disk.old).fuse) }
     ensures power { OnOk result (((D.seen disk.old).power ≡ true) × ((D.seen disk.new).power ≡ true)) }
+    ensures refused_fuse { IfErr result (λ why. (why ≡ OpenFault.Fault → ⊥) → (D.seen disk.new).fuse ≡ burnt (D.seen disk.old).fuse) }
+    ensures refused_power { IfErr result (λ why. (why ≡ OpenFault.Fault → ⊥) → ((D.seen disk.old).power ≡ true) × ((D.seen disk.new).power ≡ true)) }
 
     // What is kept was one of the images.
     ensures was { (D.seen disk.old).tells ≡ true → IsImage (D.seen disk.old).state.now (D.seen disk.old).state.kept }

@@ -97,6 +97,58 @@ fn a_cut_leaves_the_old_or_the_new(rt: HostRuntime) -> Result<(), Fail> {
     Ok(())
 }
 
+/// Whether an append was acknowledged whose first write was left whole by a cut, how long that left the disk, and the records
+/// after a shorter append.
+fn records_after_a_torn_append(alloc: Global) -> Result<Option<(bool, u64, RecordList)>, Fail> {
+    let (mut journal, _) = match Journal::open(alloc, MemDisk::new(alloc), NODE) {
+        Ok(opened) => opened,
+        Err(_) => return Ok(None),
+    };
+    journal.make_room(alloc, 3)?;
+    match journal.append(&[7, 8, 9]) {
+        Ok(()) => {}
+        Err(_) => return Ok(None),
+    }
+    journal.make_room(alloc, 8)?;
+    match journal.arm(1, 1) {
+        Ok(()) => {}
+        Err(_) => return Ok(None),
+    }
+    let done = journal.append(&[1; 8]).is_ok();
+    let mut disk = journal.into_disk();
+    disk.restore_power();
+    let left = disk.length().or(Err("length"))?;
+    let (mut journal, _) = match Journal::open(alloc, disk, NODE) {
+        Ok(opened) => opened,
+        Err(_) => return Ok(None),
+    };
+    journal.make_room(alloc, 2)?;
+    match journal.append(&[5, 6]) {
+        Ok(()) => {}
+        Err(_) => return Ok(None),
+    }
+    let disk = journal.into_disk();
+    let (_, list) = Journal::open(alloc, disk, NODE).or(Err("open again"))?;
+    Ok(Some((done, left, list)))
+}
+
+#[test]
+fn a_shorter_record_follows_a_torn_one(rt: HostRuntime) -> Result<(), Fail> {
+    let alloc = rt.alloc();
+    let wanted: [(u64, &[u8]); 2] = [(16, &[7, 8, 9]), (24, &[5, 6])];
+    let Some((done, left, list)) = records_after_a_torn_append(alloc)? else {
+        return Err("no journal".into());
+    };
+    assert!(rt; !done);
+    assert_eq!(rt; left, 38);
+    assert_eq!(rt; list.len(), 2);
+    for (record, (at, body)) in list.as_slice().iter().zip(&wanted) {
+        assert_eq!(rt; record.0, *at);
+        assert_eq!(rt; record.1.as_slice(), *body);
+    }
+    Ok(())
+}
+
 /// A disk that keeps these bytes, and nothing is pending.
 fn disk_with(alloc: Global, bytes: &[u8]) -> Option<MemDisk> {
     let mut disk = MemDisk::new(alloc);
@@ -236,6 +288,46 @@ fn a_foreign_journal_is_refused_and_left(rt: HostRuntime) -> Result<(), Fail> {
         let said = judged(alloc, &head, &[0, 0])?;
         assert_eq!(rt; said, (why, true));
     }
+    Ok(())
+}
+
+/// The header with the byte at this place one higher.
+fn header_raised(place: usize) -> [u8; 16] {
+    let mut head = header(1, 1, 3, 0, 0);
+    if place < 16 {
+        head[place] = head[place].wrapping_add(1);
+    }
+    head
+}
+
+#[test]
+fn each_fixed_byte_of_the_header_is_checked(rt: HostRuntime) -> Result<(), Fail> {
+    let alloc = rt.alloc();
+    // Byte 0 is the format gate, and bytes 10 to 12 name the node.
+    for place in [1, 2, 3, 4, 5, 6, 7, 8, 9, 13, 14, 15] {
+        let said = judged(alloc, &header_raised(place), &[0])?;
+        assert_eq!(rt; said, (Some(OpenFault::NotAJournal), true), "{place}");
+    }
+    Ok(())
+}
+
+/// What [`judged`] says of 65,536 empty records and these bytes behind them.
+fn judged_full(alloc: Global, end: &[u8]) -> Result<(Option<OpenFault>, bool), Fail> {
+    let mut tail = Vec::new(alloc);
+    for _ in 0..65_536 {
+        tail.extend_from_slice(&[1, 0, 0, 0, 0])?;
+    }
+    tail.extend_from_slice(end)?;
+    judged(alloc, &header(1, 1, 3, 0, 0), &tail)
+}
+
+#[test]
+fn a_journal_has_at_most_65_536_records(rt: HostRuntime) -> Result<(), Fail> {
+    let alloc = rt.alloc();
+    let full = judged_full(alloc, &[0])?;
+    assert_eq!(rt; full, (None, true));
+    let one_more = judged_full(alloc, &[1, 0, 0, 0, 0, 0])?;
+    assert_eq!(rt; one_more, (Some(OpenFault::Damaged { at: 327_696 }), true));
     Ok(())
 }
 

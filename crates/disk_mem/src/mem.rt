@@ -1,5 +1,5 @@
 ghost use Rattle.std.specs.Prelude.{◌≡◌, ◌≤◌, ◌<◌, ◌+◌, ◌↔◌, [], ℕ, length, take, drop, true, false, not, IsOk, Some, None, OnOk, OnErr, IfOk};
-ghost use Rattle.outside.specs.Disk.{CutsPower, IsImage, Syncs, written, burnt, blows, clean};
+ghost use Rattle.outside.specs.Disk.{CutsPower, KeepsImage, Syncs, written, burnt, blows, clean};
 ghost use Rattle.outside.specs.Faults.{HasCause, Rose};
 ghost use Rattle.disk_mem.specs.Mem.{CutsBy, answers, disk_of, wrote};
 
@@ -238,7 +238,11 @@ impl Disk for MemDisk {
             return Err(self.fail());
         }
         self.write(at, from);
-        if self.count_down() { Ok(()) } else { Err(Failed) }
+        if self.count_down() {
+            Ok(())
+        } else {
+            Err(Failed)
+        }
     }
 
     fn sync(&mut self) -> Result<(), Failed>
@@ -249,7 +253,7 @@ impl Disk for MemDisk {
         ensures dark { self.old.power ≡ false → self.new ≡ record self.old { faults = self.new.faults } }
         ensures blown { (outcome : ℕ) → self.old.power ≡ true → self.old.fuse ≡ Some (1, outcome) → CutsBy outcome self.old self.new }
         ensures cut { self.old.power ≡ true → OnErr result (CutsPower self.old.state self.new.state × (self.new ≡ record self.old { state = self.new.state; faults = self.new.faults; power = false; fuse = None })) }
-        ensures kept { IsImage self.old.state.now self.old.state.kept }
+        ensures kept { KeepsImage (disk_of self.old) }
         ensures cause { HasCause self.old.faults self.new.faults result }
     {
         if !self.powered {

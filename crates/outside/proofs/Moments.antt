@@ -1,10 +1,10 @@
 -- What a power cut might have left since a moment.
-use Rattle.std.proofs.Common.{Result, Ok, Err, OnOk, OnErr, ◌≡◌, ◌⊎◌, inl, inr, ⊎_elim, ℕ, ◌<◌, List, [], ◌∷◌, ◌++◌, length, drop, refl, sym, ◌∙◌, ap, subst, arith, append_assoc}
+use Rattle.std.proofs.Common.{Result, Ok, Err, OnOk, OnErr, true, ◌≡◌, ◌⊎◌, inl, inr, ⊎_elim, ℕ, ◌<◌, List, [], ◌∷◌, ◌++◌, length, drop, refl, sym, ◌∙◌, ap, subst, arith, append_assoc}
 use Rattle.std.proofs.lemmas.List.{drop_at, append-nil}
 use Rattle.std.proofs.lemmas.List.Elements.{Contains-push_cases, Contains-append_cases, Contains-append_left, Contains-push}
 use Rattle.std.proofs.lemmas.Grind.{same_number_lists}
 use Rattle.std.specs.List.{Contains}
-use Rattle.outside.specs.Disk.{DiskState, Durable, IsImage, EachImage, Syncs, LosesPower, CutsPower, FailsSyncing, FailsWriting, moment, clean, overwritten, with_range, written, flushed}
+use Rattle.outside.specs.Disk.{DiskState, DiskView, Durable, IsImage, EachImage, KeepsImage, Syncs, LosesPower, CutsPower, FailsSyncing, FailsWriting, moment, clean, overwritten, with_range, written, flushed}
 
 none : {X : Type 0} (x : X) → Contains [] x → ⊥
 none x c = absurd (omega (arith, c.1))
@@ -48,6 +48,23 @@ pub at_now : (d e : DiskState) (P : List ℕ → Type 0) → EachImage d e P →
 at_now d e P l c image =
     let there = subst (λ (x : List Durable). Contains x e.now) (sym (since_of d e l.since l.past)) (Contains-push l.since e.now) in
     l.each c (e.now, there, image)
+
+-- what is kept is one of the images of now, in both ways of saying it
+pub kept_image : (v : DiskView) → KeepsImage v → v.tells ≡ true → IsImage v.state.now v.state.kept
+kept_image v keeps tells =
+    let d = v.state in
+    let image = (keeps d.kept (record { tells = tells; kept = refl })).image in
+    let there = subst (λ (l : List Durable). Contains l image.0) (since_of d d [] (sym (append-nil d.past))) image.1 in
+    subst (λ (s : Durable). IsImage s d.kept) (sym (only d.now image.0 there)) image.2
+
+pub keeps_image : (v : DiskView) → (v.tells ≡ true → IsImage v.state.now v.state.kept) → KeepsImage v
+keeps_image v image bytes kept =
+    let d = v.state in
+    let there = subst (λ (l : List Durable). Contains l d.now) (sym (since_of d d [] (sym (append-nil d.past)))) (Contains-push [] d.now) in
+    record {
+      tells = kept.tells;
+      image = (d.now, there, subst (IsImage d.now) (sym kept.kept) (image kept.tells));
+    }
 
 -- nothing since
 pub started : (d : DiskState) (P : List ℕ → Type 0) → ((c : List ℕ) → IsImage d.now c → P c) → EachImage d d P

@@ -137,6 +137,10 @@ pub record Images (v : DiskView) (t : ℕ) (bytes : List ℕ) : Type 0 where
 abbrev pub moment_of : DiskView → ℕ
 moment_of v = moment v.state
 
+-- what a disk keeps is one of the images that a power cut may leave now
+abbrev pub KeepsImage : DiskView → Type 0
+KeepsImage v = (bytes : List ℕ) → Kept v bytes → Images v (moment_of v) bytes
+
 -- where the disk tells its content, it went on so
 abbrev pub IfTold : DiskView → DiskView → (DiskState → DiskState → Type 0) → Type 0
 IfTold old new R = old.tells ≡ true → R old.state new.state

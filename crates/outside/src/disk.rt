@@ -1,5 +1,5 @@
 ghost use Rattle.std.specs.Prelude.{◌≡◌, ◌≤◌, ◌<◌, ◌+◌, ◌⊎◌, ◌&&◌, not, ℕ, true, false, length, take, drop, IfOk, OnOk, OnErr, IsOk, IsErr, Some, if◌then◌else◌};
-ghost use Rattle.outside.specs.Disk.{IsImage, EachImage, CutsPower, FailsSyncing, FailsSyncingUncut, FailsWriting, FailsWritingUncut, Syncs, SameRest, IfTold, overwritten, clean, with_range, written, blows, burnt, burnt_by};
+ghost use Rattle.outside.specs.Disk.{IsImage, EachImage, KeepsImage, CutsPower, FailsSyncing, FailsSyncingUncut, FailsWriting, FailsWritingUncut, Syncs, SameRest, IfTold, overwritten, clean, with_range, written, blows, burnt, burnt_by};
 ghost use Rattle.outside.specs.Faults.{HasCause};
 
 use crate::fault::Failed;
@@ -80,7 +80,7 @@ pub trait Disk: Drop {
         ensures cut { (seen self.old).power ≡ true → (seen self.new).power ≡ false → IfTold (seen self.old) (seen self.new) CutsPower }
 
         // What is kept was one of the images.
-        ensures kept { (seen self.old).tells ≡ true → IsImage (seen self.old).state.now (seen self.old).state.kept }
+        ensures kept { KeepsImage (seen self.old) }
         ensures rest { SameRest (seen self.old) (seen self.new) }
         ensures writes { (seen self.new).room_writes ≡ (seen self.old).room_writes }
         ensures fuse { (seen self.new).fuse ≡ (if (seen self.old).power then burnt (seen self.old).fuse else (seen self.old).fuse) }

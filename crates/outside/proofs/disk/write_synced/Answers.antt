@@ -1,6 +1,6 @@
 use Rattle.std.proofs.Common.{◌≡◌, ◌⊎◌, ℕ, List, length, Result, Ok, Err, OnOk, OnErr, true, subst, ◌∙◌}
-use Rattle.outside.specs.Disk.{DiskState, DiskView, IsImage, FailsSyncing, Syncs, IfTold, overwritten, clean, with_range, written}
-use Rattle.outside.proofs.Moments.{failed_write, sync_leaves, settled_kept, sync_kept}
+use Rattle.outside.specs.Disk.{DiskState, DiskView, IsImage, KeepsImage, FailsSyncing, Syncs, IfTold, overwritten, clean, with_range, written}
+use Rattle.outside.proofs.Moments.{failed_write, sync_leaves, settled_kept, sync_kept, kept_image}
 use Rattle.outside.proofs.disk.write_synced.Goals as goal
 
 pub returns-in_err-write_at-clause-moments : goal.returns-in_err-write_at-clause-moments
@@ -24,12 +24,12 @@ done_all : {T E : Type 0} (old mid new : DiskView) (at : ℕ) (bytes : List ℕ)
 done_all old mid new at bytes (Err u) same wrote done = tt
 done_all old mid new at bytes (Ok u) same wrote done = λ tells. settled_kept (written old.state at bytes) new.state (subst (λ (x : DiskState). Syncs x new.state) (wrote tells) (done (same ∙ tells)))
 
-failed_all : {T E : Type 0} (old mid new : DiskView) (at : ℕ) (bytes : List ℕ) (r : Result T E) → mid.tells ≡ old.tells → (old.tells ≡ true → mid.state ≡ written old.state at bytes) → (mid.tells ≡ true → IsImage mid.state.now mid.state.kept) → OnErr r (IfTold mid new FailsSyncing)
+failed_all : {T E : Type 0} (old mid new : DiskView) (at : ℕ) (bytes : List ℕ) (r : Result T E) → mid.tells ≡ old.tells → (old.tells ≡ true → mid.state ≡ written old.state at bytes) → KeepsImage mid → OnErr r (IfTold mid new FailsSyncing)
     → OnErr r (IfTold old new (λ d e. (e.kept ≡ d.kept) ⊎ IsImage (with_range d.now at (length bytes)) e.kept))
-failed_all old mid new at bytes (Ok u) same wrote image failed = tt
-failed_all old mid new at bytes (Err u) same wrote image failed = λ tells.
+failed_all old mid new at bytes (Ok u) same wrote keeps failed = tt
+failed_all old mid new at bytes (Err u) same wrote keeps failed = λ tells.
     let w = written old.state at bytes in
-    sync_kept old.state at bytes (subst (λ (x : DiskState). IsImage x.now x.kept) (wrote tells) (image (same ∙ tells))) new.state (subst (λ (x : DiskState). FailsSyncing x new.state) (wrote tells) (failed (same ∙ tells)))
+    sync_kept old.state at bytes (subst (λ (x : DiskState). IsImage x.now x.kept) (wrote tells) (kept_image mid keeps (same ∙ tells))) new.state (subst (λ (x : DiskState). FailsSyncing x new.state) (wrote tells) (failed (same ∙ tells)))
 
 pub returns-clause-done : goal.returns-clause-done
 returns-clause-done g c = done_all (g.D.Disk.seen c.args.disk.now) (g.D.Disk.seen c.write_at.new.self) (g.D.Disk.seen c.sync.new.self) c.args.at c.args.from.now c.sync.result c.write_at.ensures.rest.tells c.in_ok-write_at.ensures.done c.sync.ensures.done
