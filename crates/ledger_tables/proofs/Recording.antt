@@ -9,11 +9,9 @@ use Rattle.net_base.specs.declared.names.StateRef.{StateRef}
 use Rattle.ledger_types.specs.declared.tx.SignedTx.{SignedTx}
 use Rattle.ledger_types.specs.Names.{hash_eq}
 use Rattle.ledger_types.specs.Signatures.{tx_id}
-use Rattle.ledger_types.specs.Stores.{is_stored, untagged}
-use Rattle.tx_store.specs.Stored.{all_stored, has_dependencies}
+use Rattle.ledger_types.specs.Stores.{is_stored, all_stored, has_dependencies, may_record, untagged}
 use Rattle.tx_store.proofs.Ordered.{Recorded}
 use Rattle.vault.specs.Holdings.{is_noted, may_note}
-use Rattle.ledger_tables.specs.Ledgers.{may_record}
 
 noted_is : (store : List Recorded) (id : Hash32) → is_noted (untagged store) id ≡ is_stored store id
 noted_is [] id = refl

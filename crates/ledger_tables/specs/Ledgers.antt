@@ -1,5 +1,5 @@
 -- What contracts see of a node's ledger, and what one change makes of it.
-use Rattle.std.specs.Prelude.{ℕ, ◌+◌, ◌<◌, ◌≤◌, ◌^◌, Bool, true, not, ◌&&◌, List, [], ◌∷◌, ◌++◌, Option, Some, None, IfSome, length, map, if◌then◌else◌}
+use Rattle.std.specs.Prelude.{ℕ, ◌+◌, ◌<◌, ◌≤◌, ◌^◌, Bool, List, [], ◌∷◌, ◌++◌, Option, Some, None, IfSome, length, map, if◌then◌else◌}
 use Rattle.net_base.specs.declared.values.Hash32.{Hash32}
 use Rattle.net_base.specs.declared.values.Party.{Party}
 use Rattle.ledger_types.specs.declared.tx.Tx.{Tx}
@@ -8,9 +8,8 @@ use Rattle.ledger_types.specs.declared.held.Held.{Held}
 use Rattle.ledger_types.specs.declared.notary.Entry.{Entry}
 use Rattle.ledger_types.specs.declared.change.LedgerChange.{LedgerChange}
 use Rattle.ledger_types.specs.Signatures.{tx_id}
-use Rattle.ledger_types.specs.Stores.{is_stored}
 use Rattle.ledger_types.specs.Vaults.{Lock, locks_of, released}
-use Rattle.tx_store.specs.Stored.{Stored, has_dependencies}
+use Rattle.tx_store.specs.Stored.{Stored}
 use Rattle.vault.specs.Holdings.{Holding, held_after, locked_in, freed_of, IsVault}
 use Rattle.notary_book.specs.Booked.{Booked}
 
@@ -26,11 +25,6 @@ pub record HasVault (me : Party) (recorded : List (Hash32 × Tx)) (held : List H
   pub is : IsVault me recorded locks held
 
 -- ---- what a change asks
-
--- whether a transaction may be recorded next: its id is new, and all that it depends on is recorded
-abbrev pub may_record : List (Hash32 × SignedTx) → Option SignedTx → Bool
-may_record store None = true
-may_record store (Some stx) = not (is_stored store (tx_id stx.tx)) && has_dependencies store stx.tx
 
 -- where there is a transaction, the store has fewer than 2^32 with it
 abbrev pub HasPlace : Option SignedTx → List (Hash32 × SignedTx) → Type 0

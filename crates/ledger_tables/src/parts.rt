@@ -5,10 +5,10 @@ ghost use Rattle.net_base.specs.declared.values.Hash32.{Hash32 as Id};
 ghost use Rattle.ledger_types.specs.declared.tx.Tx.{Tx as Recorded};
 ghost use Rattle.ledger_types.specs.Txs.{IsSignedTx};
 ghost use Rattle.ledger_types.specs.Requests.{IsEntry};
-ghost use Rattle.ledger_types.specs.Stores.{untagged, is_stored};
+ghost use Rattle.ledger_types.specs.Stores.{untagged, is_stored, may_record};
 ghost use Rattle.ledger_types.specs.Vaults.{Lock};
 ghost use Rattle.vault.specs.Holdings.{IsVault};
-ghost use Rattle.ledger_tables.specs.Ledgers.{may_record, recorded_in, outputs_in, held_with, freed_at_end, released_at_end, HasPlace, HasRecordRoom, HasEntryRoom};
+ghost use Rattle.ledger_tables.specs.Ledgers.{recorded_in, outputs_in, held_with, freed_at_end, released_at_end, HasPlace, HasRecordRoom, HasEntryRoom};
 
 use ledger_types::{Entry, SignedTx};
 use net_base::Hash32;

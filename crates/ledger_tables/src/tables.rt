@@ -5,10 +5,10 @@ ghost use Rattle.std.specs.List.{list_all, AllByRecursion};
 ghost use Rattle.ledger_types.specs.Txs.{IsTx, IsSignedTx};
 ghost use Rattle.ledger_types.specs.Requests.{IsEntry};
 ghost use Rattle.ledger_types.specs.Names.{ref_eq, has_repeat};
-ghost use Rattle.ledger_types.specs.Stores.{untagged};
-ghost use Rattle.ledger_types.specs.Vaults.{Lock};
-ghost use Rattle.vault.specs.Holdings.{has_coin, references_of, IsVault};
-ghost use Rattle.ledger_tables.specs.Ledgers.{HasVault, may_record, recorded_in, outputs_in, HasPlace, held_with, held_by, locks_by, HasRecordRoom, HasEntryRoom};
+ghost use Rattle.ledger_types.specs.Stores.{untagged, may_record};
+ghost use Rattle.ledger_types.specs.Vaults.{Lock, has_coin};
+ghost use Rattle.vault.specs.Holdings.{references_of, IsVault};
+ghost use Rattle.ledger_tables.specs.Ledgers.{HasVault, recorded_in, outputs_in, HasPlace, held_with, held_by, locks_by, HasRecordRoom, HasEntryRoom};
 
 use crate::parts::{
     add_entry, is_new, make_entry_room, make_record_room, record_next, release_ended,

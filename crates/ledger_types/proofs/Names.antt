@@ -1,5 +1,5 @@
 -- Ids and references that are told apart.
-use Rattle.std.proofs.Common.{◌≡◌, true, ◌==◌, refl}
+use Rattle.std.proofs.Common.{◌≡◌, Bool, true, false, ◌==◌, refl, sym, ◌∙◌, ap}
 use Rattle.std.proofs.lemmas.Bool.{and_parts, and_from}
 use Rattle.std.proofs.lemmas.Bool.Decides.{Decides-eqb}
 use Rattle.std.proofs.lemmas.Slice.Eq.{bytes_eq-Decides}
@@ -22,3 +22,21 @@ ref_exact r s h =
     let id = hash_exact r.id s.id both.0 in
     let index = (Decides-eqb r.index s.index).0 both.1 in
     (λ i. record { id = id i; index = index i })
+
+-- a test that holds of equal values alone, and of each value and itself, doesn't mind the order
+swapped : {X : Type 0} (same : X → X → Bool) → ((x y : X) → same x y ≡ true → x ≡ y) → ((x : X) → same x x ≡ true) → (x y : X) → same x y ≡ same y x
+swapped {X} same exact own x y = by (same x y) (same y x) refl refl
+  where
+    turned : (a b : X) → a ≡ b → same b a ≡ true
+    turned a b e = ap (λ z. same z a) (sym e) ∙ own a
+
+    by : (a b : Bool) → same x y ≡ a → same y x ≡ b → same x y ≡ same y x
+    by true b e f = e ∙ sym (turned x y (exact x y e))
+    by false true e f = turned y x (exact y x f) ∙ sym f
+    by false false e f = e ∙ sym f
+
+pub hash_swapped : (a b : Hash32) → hash_eq a b ≡ hash_eq b a
+hash_swapped = swapped hash_eq hash_exact hash_same
+
+pub ref_swapped : (r s : StateRef) → ref_eq r s ≡ ref_eq s r
+ref_swapped = swapped ref_eq ref_exact ref_same

@@ -86,6 +86,10 @@ is_free h = is_none h.state.encumbrance && is_none h.locked
 abbrev pub is_coin : Held → Bool
 is_coin h = is_cash h.state.body && is_free h
 
+-- whether the reference names a coin of some token
+abbrev pub has_coin : List Held → StateRef → Bool
+has_coin states r = list_any (λ h. ref_eq h.reference r && is_coin h) states
+
 -- whether a held state is a coin of the token
 abbrev pub is_coin_of : Token → Held → Bool
 is_coin_of token h = is_cash_of token h.state.body && is_free h

@@ -25,11 +25,11 @@ use Rattle.session_wire.proofs.Keys.{key_exact, key_same}
 use Rattle.net_model.specs.Environment.{Environment, party, identity}
 use Rattle.ledger_types.specs.Stores.{is_stored, resolved_of, untagged}
 use Rattle.ledger_types.specs.Signatures.{tx_id}
-use Rattle.ledger_types.specs.Vaults.{vault_of, reserved}
+use Rattle.ledger_types.specs.Vaults.{vault_of, has_coin, reserved}
 use Rattle.ledger_types.specs.Notary.{repeats, reply}
 use Rattle.net_model.specs.State.{NodeState, Change, Effect, nothing, with_ids, came_on, flow_of}
 use Rattle.net_model.specs.Steps.{Done, opening, booked_by, vault_at, answering, live_at, place, node_step, stamp_in, body_in}
-use Rattle.net_model.specs.Fits.{IsNextOf, AcceptsInit, GoesOn, FitsEvent, names_coin, FitsBooked, FitsChange, Fits, keys_differ, is_counted, IsSound, StepsFit}
+use Rattle.net_model.specs.Fits.{IsNextOf, AcceptsInit, GoesOn, FitsEvent, FitsBooked, FitsChange, Fits, keys_differ, is_counted, IsSound, StepsFit}
 use Rattle.net_model.proofs.Basics.{from_map}
 use Rattle.net_model.proofs.Booked.{added}
 use Rattle.net_model.proofs.Recorded.{resolved_there}
@@ -53,7 +53,7 @@ initiator_other nodes me sessions key h =
 
 module _ {F : Type 0} (w : Environment F) (me : ℕ) (s : NodeState F) (stamp : ℕ) where
   plain_fits : (before : List Session) (owner : Option ℕ) → FitsChange w me s stamp before owner nothing
-  plain_fits before owner = record { opened = tt; sent = tt; taken = tt; recorded = tt; locked = refl; once = refl; booked = tt }
+  plain_fits before owner = record { opened = tt; sent = tt; taken = tt; recorded = refl; locked = refl; once = refl; booked = tt }
 
   module _ (sound : IsSound me s) where
     pub not_counted : (next : ℕ) (ss : List Session) → list_all (is_counted me next) ss ≡ true → find (λ x. key_eq (record { initiator = party me; number = next }) x.key) ss ≡ None
@@ -89,7 +89,7 @@ module _ {F : Type 0} (w : Environment F) (me : ℕ) (s : NodeState F) (stamp : 
           };
           sent = (record { session = new; stands = there; outgoing = own_direction; next = refl; lawful = refl }, tt);
           taken = tt;
-          recorded = tt;
+          recorded = refl;
           locked = refl;
           once = refl;
           booked = tt;
@@ -121,7 +121,7 @@ module _ {F : Type 0} (w : Environment F) (me : ℕ) (s : NodeState F) (stamp : 
     sends_fit : (f : ℕ) (key : Key) (value : Value) (session : Session) → owned f key s.sessions ≡ Some session → FitsChange w me s stamp s.sessions (Some f) (record nothing { sent = item_on (party me) session (body_of.Data value) ∷ [] })
     sends_fit f key value session h =
         let there = owned_there f (session_of key s.sessions) session h in
-        record { opened = tt; sent = (continues session s.sessions (body_of.Data value) (late_data value) (begun_at key session there) (own_key key session there), tt); taken = tt; recorded = tt; locked = refl; once = refl; booked = tt }
+        record { opened = tt; sent = (continues session s.sessions (body_of.Data value) (late_data value) (begun_at key session there) (own_key key session there), tt); taken = tt; recorded = refl; locked = refl; once = refl; booked = tt }
 
     -- the number of a found item
     first_between : (n : ℕ) (bodies : List Body) (found : ℕ × Body) → first_item n bodies ≡ Some found → (n ≤ found.0) × (found.0 < n + length bodies)
@@ -151,10 +151,10 @@ module _ {F : Type 0} (w : Environment F) (me : ℕ) (s : NodeState F) (stamp : 
     takes_fit : (f : ℕ) (key : Key) (session : Session) (next : Option ℕ × Body) → owned f key s.sessions ≡ Some session → next_item session session.ending ≡ Some next → FitsChange w me s stamp s.sessions (Some f) (record nothing { taken = option_map (λ n. (session.key, n + 1)) next.0 })
     takes_fit f key session next h i =
         let there = own_key key session (owned_there f (session_of key s.sessions) session h) in
-        record { opened = tt; sent = tt; taken = takes_part key session session.ending next there i; recorded = tt; locked = refl; once = refl; booked = tt }
+        record { opened = tt; sent = tt; taken = takes_part key session session.ending next there i; recorded = refl; locked = refl; once = refl; booked = tt }
 
     records_fit : (f : ℕ) (stx : SignedTx) (states : Resolved) → is_stored (with_ids s.stored) (tx_id stx.tx) ≡ false → resolved_of (with_ids s.stored) stx.tx ≡ Some states → FitsChange w me s stamp s.sessions (Some f) (record nothing { recorded = Some stx })
-    records_fit f stx states new there = record { opened = tt; sent = tt; taken = tt; recorded = (new, resolved_there (with_ids s.stored) stx.tx states there); locked = refl; once = refl; booked = tt }
+    records_fit f stx states new there = record { opened = tt; sent = tt; taken = tt; recorded = and_from _ _ (not_from_false _ new) (resolved_there (with_ids s.stored) stx.tx states there); locked = refl; once = refl; booked = tt }
 
     booked_part : (now : ℕ) (q : Request) (o : Option Entry) → booked_by q (reply w.mark s.entries q (identity w me) (record { 0 = now })) ≡ o → FitsBooked w me s.entries o
     booked_part now q None h = tt
@@ -164,7 +164,7 @@ module _ {F : Type 0} (w : Environment F) (me : ℕ) (s : NodeState F) (stamp : 
         (a.here, ap (λ x. find (repeats x) s.entries) (sym same) ∙ a.new)
 
     answers_fit : (f now : ℕ) (q : Request) → FitsChange w me s stamp s.sessions (Some f) (record nothing { booked = booked_by q (reply w.mark s.entries q (identity w me) (record { 0 = now })) })
-    answers_fit f now q = record { opened = tt; sent = tt; taken = tt; recorded = tt; locked = refl; once = refl; booked = booked_part now q _ refl }
+    answers_fit f now q = record { opened = tt; sent = tt; taken = tt; recorded = refl; locked = refl; once = refl; booked = booked_part now q _ refl }
 
     -- ---- the last items of a flow
 
@@ -228,7 +228,7 @@ module _ {F : Type 0} (w : Environment F) (me : ℕ) (s : NodeState F) (stamp : 
           opened = tt;
           sent = last_fit body late s.sessions (sessions_of f s.sessions) (stand_filter Q s.sessions s.sessions (stand_self s.sessions sound.keys)) (differ_filter Q s.sessions sound.keys) (all_filter (λ x. not (length x.sent == 0)) Q s.sessions sound.begun);
           taken = tt;
-          recorded = tt;
+          recorded = refl;
           locked = refl;
           once = refl;
           booked = tt;
@@ -240,8 +240,8 @@ module _ {F : Type 0} (w : Environment F) (me : ℕ) (s : NodeState F) (stamp : 
           opened = tt;
           sent = tt;
           taken = tt;
-          recorded = tt;
-          locked = subst (λ (stored : List SignedTx). list_all (names_coin (vault_of (party me) (untagged (with_ids stored)) s.locked)) (map (λ h. h.reference) list) ≡ true) (sym (append-nil s.stored)) (reserved_coins (party me) s.stored s.locked token amount list is);
+          recorded = refl;
+          locked = subst (λ (stored : List SignedTx). list_all (has_coin (vault_of (party me) (untagged (with_ids stored)) s.locked)) (map (λ h. h.reference) list) ≡ true) (sym (append-nil s.stored)) (reserved_coins (party me) s.stored s.locked token amount list is);
           once = reserved_once (party me) s.stored s.locked token amount list is sound.ids;
           booked = tt;
         }
@@ -293,9 +293,9 @@ module _ {F : Type 0} (w : Environment F) (me : ℕ) (s : NodeState F) (stamp : 
         AcceptsInit (length s.flows) key (answering key (length s.flows) class (body_of.Init class first) o) (answering key (length s.flows) class (body_of.Init class first) o).change.came
         × FitsChange w me s stamp (came_on (event.Answer key) (option_to_list (answering key (length s.flows) class (body_of.Init class first) o).change.came) (flow_of (answering key (length s.flows) class (body_of.Init class first) o).flow) s.sessions) (flow_of (answering key (length s.flows) class (body_of.Init class first) o).flow) (answering key (length s.flows) class (body_of.Init class first) o).change
     answering_fits key class first (Some made) h =
-        ((refl, refl, refl, (refl, refl, refl)), record { opened = tt; sent = answer_sends key (Some (length s.flows)) (body_of.Init class first) body_of.Confirm h refl; taken = tt; recorded = tt; locked = refl; once = refl; booked = tt })
+        ((refl, refl, refl, (refl, refl, refl)), record { opened = tt; sent = answer_sends key (Some (length s.flows)) (body_of.Init class first) body_of.Confirm h refl; taken = tt; recorded = refl; locked = refl; once = refl; booked = tt })
     answering_fits key class first None h =
-        ((refl, refl, refl, refl), record { opened = tt; sent = answer_sends key None (body_of.Init class first) (body_of.Reject 5) h refl; taken = tt; recorded = tt; locked = refl; once = refl; booked = tt })
+        ((refl, refl, refl, refl), record { opened = tt; sent = answer_sends key None (body_of.Init class first) (body_of.Reject 5) h refl; taken = tt; recorded = refl; locked = refl; once = refl; booked = tt })
 
     -- ---- any event
 
@@ -342,7 +342,7 @@ module _ {F : Type 0} (w : Environment F) (me : ℕ) (s : NodeState F) (stamp : 
         let p = and_parts (direction == direction_in (party me) key) _ l in let q = and_parts (number == length session.came) _ p.1 in let r = and_parts (is_lawful direction number b) _ q.1 in
         fits_on ev (event.Arrive key direction number) e _ i m (record {
           event = record { session = session; stands = k; incoming = eqb-true _ _ p.0; expected = eqb-true _ _ q.0; body = b; lawful = r.0; alone = refl };
-          change = record { opened = tt; sent = tt; taken = tt; recorded = tt; locked = refl; once = refl; booked = tt };
+          change = record { opened = tt; sent = tt; taken = tt; recorded = refl; locked = refl; once = refl; booked = tt };
         })
     does_fit now ev body e (acts f at i j g) = goes_fits ev f at e i j (gives_fits now at at.waiting e g) (gives_alone now at e g)
 

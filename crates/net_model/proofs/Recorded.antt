@@ -1,6 +1,5 @@
 -- What resolves among recorded transactions is recorded.
 use Rattle.std.proofs.Common.{◌≡◌, List, [], ◌∷◌, ◌++◌, Option, Some, None, true, false, cond, ◌||◌, find, option_map, option_and_then, slice_get, refl, ap, ◌∙◌}
-use Rattle.std.specs.List.{list_all}
 use Rattle.std.proofs.lemmas.Bool.{and_from}
 use Rattle.net_base.specs.declared.values.Hash32.{Hash32}
 use Rattle.net_base.specs.declared.names.StateRef.{StateRef}
@@ -9,7 +8,7 @@ use Rattle.ledger_types.specs.declared.tx.Tx.{Tx}
 use Rattle.ledger_types.specs.declared.tx.Resolved.{Resolved}
 use Rattle.ledger_types.specs.declared.tx.SignedTx.{SignedTx}
 use Rattle.ledger_types.specs.Names.{hash_eq}
-use Rattle.ledger_types.specs.Stores.{stored_of, is_stored, state_of, states_of, resolved_of}
+use Rattle.ledger_types.specs.Stores.{stored_of, is_stored, refs_of, all_stored, has_dependencies, state_of, states_of, resolved_of}
 use Rattle.ledger_types.specs.Tears.{joined}
 use Rattle.net_model.proofs.Basics.{from_map, from_then, find_before}
 use Rattle.net_model.proofs.Lists.{all_append}
@@ -19,7 +18,7 @@ module _ (store : List (Hash32 × SignedTx)) where
   IsThere r = is_stored store r.id ≡ true
 
   abbrev pub AreThere : List StateRef → Type 0
-  AreThere refs = list_all (λ r. is_stored store r.id) refs ≡ true
+  AreThere refs = all_stored store refs ≡ true
 
   found_in : (id : Hash32) (stx : SignedTx) (xs : List (Hash32 × SignedTx)) → stored_of xs id ≡ Some stx → is_stored xs id ≡ true
   found_in id stx [] h = cc
@@ -40,10 +39,10 @@ module _ (store : List (Hash32 × SignedTx)) where
   states_there (r ∷ refs) states h = both_there r refs states (state_of store r) (states_of store refs) refl (λ rest k. states_there refs rest k) h
 
   -- each transaction that a transaction names is recorded where it resolves
-  pub resolved_there : (tx : Tx) (states : Resolved) → resolved_of store tx ≡ Some states → AreThere (tx.inputs ++ tx.references)
+  pub resolved_there : (tx : Tx) (states : Resolved) → resolved_of store tx ≡ Some states → has_dependencies store tx ≡ true
   resolved_there tx states h =
-      from_then (AreThere (tx.inputs ++ tx.references)) (λ inputs. option_map (λ references. record { inputs = inputs; references = references }) (states_of store tx.references)) (states_of store tx.inputs) states h (λ inputs is k.
-      from_map (λ (_ : Resolved). AreThere (tx.inputs ++ tx.references)) (λ references. record { inputs = inputs; references = references }) (states_of store tx.references) states k (λ references js.
+      from_then (AreThere (refs_of tx)) (λ inputs. option_map (λ references. record { inputs = inputs; references = references }) (states_of store tx.references)) (states_of store tx.inputs) states h (λ inputs is k.
+      from_map (λ (_ : Resolved). AreThere (refs_of tx)) (λ references. record { inputs = inputs; references = references }) (states_of store tx.references) states k (λ references js.
       all_append (λ (r : StateRef). is_stored store r.id) tx.inputs tx.references (states_there tx.inputs inputs is) (states_there tx.references references js)))
 
 -- ---- what resolves goes on to resolve once more is recorded

@@ -3,7 +3,6 @@ use Rattle.std.proofs.Common.{◌≡◌, ℕ, zero, suc, ◌+◌, ◌≤◌, ◌
 use Rattle.std.specs.Prelude.{⊤}
 use Rattle.std.specs.List.{list_all, list_any}
 use Rattle.std.proofs.lemmas.Bool.{and_parts, and_from, or_cases, or_parts, or_left, or_right, or_from, both_ways, not-true, not_from_false, eqb-true, eq-eqb, ltb-true, lt-ltb, ne_eqb, false_from_ne_true}
-use Rattle.std.proofs.lemmas.Slice.Eq.{bytes_eq-Decides}
 use Rattle.net_base.specs.declared.names.Key.{Key}
 use Rattle.net_base.specs.declared.values.Hash32.{Hash32}
 use Rattle.net_base.specs.declared.values.Party.{Party}
@@ -20,16 +19,17 @@ use Rattle.flow_machine.specs.declared.flows.Checkpoint.{Checkpoint}
 use Rattle.flow_machine.specs.declared.flows.FlowState.{FlowState}
 use Rattle.flow_machine.specs.declared.flows.FlowState.TheVariants as state
 use Rattle.ledger_types.specs.Names.{hash_eq}
+use Rattle.ledger_types.proofs.Names.{hash_swapped}
 use Rattle.session_wire.specs.Sessions.{Sent, Session, changed_at, key_eq, new_session, opened_on, sent_on, session_of, taken_on, with_came, with_sent, with_taken}
 use Rattle.session_wire.specs.Rules.{is_init_of, is_no_peer}
 use Rattle.session_wire.proofs.Keys.{key_exact, key_same}
 use Rattle.net_model.specs.Environment.{Environment, party}
-use Rattle.ledger_types.specs.Stores.{is_stored}
+use Rattle.ledger_types.specs.Stores.{is_stored, may_record}
 use Rattle.ledger_types.specs.Signatures.{tx_id}
 use Rattle.net_model.specs.State.{NodeState, FlowPart, no_flow, now_live, now_ended, now_failed, Effect, Record, with_ids, apply_effect, came_on, sessions_on, flow_of, flows_on, placed, fresh}
 use Rattle.net_model.specs.Steps.{checkpoint_of}
 use Rattle.net_model.specs.Runs.{IsLocalFrom}
-use Rattle.net_model.specs.Fits.{AnswersFirst, AcceptsInit, FitsEvent, FitsOpened, FitsRecorded, Fits, keys_differ, ids_differ, is_counted, IsSound, FitsKeepSound, FreshIsSound}
+use Rattle.net_model.specs.Fits.{AnswersFirst, AcceptsInit, FitsEvent, FitsOpened, Fits, keys_differ, ids_differ, is_counted, IsSound, FitsKeepSound, FreshIsSound}
 use Rattle.net_model.proofs.Basics.{get_set}
 use Rattle.net_model.proofs.Effects.{step_taken}
 use Rattle.net_model.proofs.Fitting.{step_fits, not_counted, initiator_other}
@@ -241,9 +241,6 @@ module _ {F : Type 0} (w : Environment F) (me : ℕ) (s : NodeState F) (sound : 
 
   -- ---- ids
 
-  hash_turned : (a b : Hash32) → hash_eq a b ≡ false → hash_eq b a ≡ false
-  hash_turned a b h = false_from_ne_true _ (λ k. both_ways (hash_eq a b) h ((bytes_eq-Decides a.0 b.0).1 (sym ((bytes_eq-Decides b.0 a.0).0 k))))
-
   not_last : (id : Hash32) (xs : List SignedTx) (stx : SignedTx) → is_stored (with_ids xs) id ≡ false → hash_eq id (tx_id stx.tx) ≡ false → is_stored (with_ids (xs ++ stx ∷ [])) id ≡ false
   not_last id [] stx h k = or_from _ _ k refl
   not_last id (x ∷ xs) stx h k = let p = or_parts (hash_eq id (tx_id x.tx)) (is_stored (with_ids xs) id) h in or_from _ _ p.0 (not_last id xs stx p.1 k)
@@ -252,11 +249,11 @@ module _ {F : Type 0} (w : Environment F) (me : ℕ) (s : NodeState F) (sound : 
   ids_append [] stx h k = refl
   ids_append (x ∷ xs) stx h k =
       let p = and_parts (not (is_stored (with_ids xs) (tx_id x.tx))) (ids_differ xs) h in let q = or_parts (hash_eq (tx_id stx.tx) (tx_id x.tx)) (is_stored (with_ids xs) (tx_id stx.tx)) k in
-      and_from _ _ (not_from_false _ (not_last (tx_id x.tx) xs stx (not-true _ p.0) (hash_turned (tx_id stx.tx) (tx_id x.tx) q.0))) (ids_append xs stx p.1 q.1)
+      and_from _ _ (not_from_false _ (not_last (tx_id x.tx) xs stx (not-true _ p.0) (hash_swapped (tx_id x.tx) (tx_id stx.tx) ∙ q.0))) (ids_append xs stx p.1 q.1)
 
-  ids_on : (o : Option SignedTx) → FitsRecorded s.stored o → ids_differ (s.stored ++ option_to_list o) ≡ true
+  ids_on : (o : Option SignedTx) → may_record (with_ids s.stored) o ≡ true → ids_differ (s.stored ++ option_to_list o) ≡ true
   ids_on None h = ap ids_differ (append-nil s.stored) ∙ sound.ids
-  ids_on (Some stx) h = ids_append s.stored stx sound.ids h.0
+  ids_on (Some stx) h = ids_append s.stored stx sound.ids (not-true _ (and_parts _ _ h).0)
 
   begun_only : (ss : List Session) → list_all (waits []) ss ≡ true → list_all begun ss ≡ true
   begun_only ss h = passes_weaken (waits []) begun ss (λ x k. ⊎_elim (λ l. l) (λ l. cc) (or_cases (begun x) false k)) h

@@ -1,27 +1,24 @@
 -- Which record fits after a state: the rules that a journal keeps, whether or not it is a run's.
-use Rattle.std.specs.Prelude.{◌≡◌, ℕ, ◌+◌, ◌<◌, ◌≤◌, ◌^◌, ◌==◌, ◌&&◌, ◌||◌, nat_lt, not, List, [], ◌∷◌, ◌++◌, Option, Some, None, Bool, true, false, ⊤, filter, find, option_to_list, length}
+use Rattle.std.specs.Prelude.{◌≡◌, ℕ, ◌+◌, ◌<◌, ◌≤◌, ◌^◌, ◌==◌, ◌&&◌, ◌||◌, nat_lt, not, List, [], ◌∷◌, ◌++◌, Option, Some, None, Bool, true, false, ⊤, find, option_to_list, length}
 use Rattle.std.specs.List.{list_all, list_any}
 use Rattle.net_base.specs.declared.names.Key.{Key}
 use Rattle.net_base.specs.declared.values.Party.{Party}
-use Rattle.net_base.specs.declared.names.StateRef.{StateRef}
 use Rattle.net_base.specs.declared.causes.Cause.{Cause}
 use Rattle.net_base.specs.declared.causes.Event.{Event}
 use Rattle.net_base.specs.declared.causes.Event.TheVariants as event
-use Rattle.ledger_types.specs.declared.tx.Tx.{Tx}
 use Rattle.ledger_types.specs.declared.tx.SignedTx.{SignedTx}
 use Rattle.ledger_types.specs.declared.notary.Entry.{Entry}
-use Rattle.ledger_types.specs.declared.held.Held.{Held}
 use Rattle.session_wire.specs.declared.body.Body.{Body}
 use Rattle.session_wire.specs.declared.body.Body.TheVariants as body_of
 use Rattle.session_wire.specs.declared.change.SentItem.{SentItem}
 use Rattle.flow_machine.specs.declared.flows.Checkpoint.{Checkpoint}
 use Rattle.session_wire.specs.Sessions.{Sent, Session, key_eq, opened_on, session_of}
 use Rattle.session_wire.specs.Rules.{direction_in, next_key, is_new_key, is_lawful, sessions_of, OpensNext, FitsSent, FitsTaken}
-use Rattle.ledger_types.specs.Names.{ref_eq}
+use Rattle.ledger_types.specs.Names.{ref_eq, has_repeat}
 use Rattle.net_model.specs.Environment.{Environment, party, identity}
-use Rattle.ledger_types.specs.Stores.{is_stored, untagged}
+use Rattle.ledger_types.specs.Stores.{is_stored, may_record, untagged}
 use Rattle.ledger_types.specs.Signatures.{tx_id}
-use Rattle.ledger_types.specs.Vaults.{vault_of, is_coin}
+use Rattle.ledger_types.specs.Vaults.{vault_of, has_coin}
 use Rattle.ledger_types.specs.Notary.{repeats, is_notary}
 use Rattle.net_model.specs.State.{NodeState, FlowPart, no_flow, now_live, now_ended, now_failed, Change, Effect, nothing, with_ids, came_on, flow_of, apply_effect, fresh}
 use Rattle.net_model.specs.Steps.{live_at, node_step}
@@ -93,24 +90,6 @@ abbrev pub FitsOpened : {F : Type 0} → Environment F → ℕ → NodeState F �
 FitsOpened w me s sessions owner sent None = ⊤
 FitsOpened w me s sessions owner sent (Some opened) = OpensOwned w me s sessions owner sent opened.0 opened.1
 
--- whether each transaction that a transaction names is recorded
-abbrev pub has_ancestors : List SignedTx → Tx → Bool
-has_ancestors stored tx = list_all (λ r. is_stored (with_ids stored) r.id) (tx.inputs ++ tx.references)
-
--- the recorded transaction is new, and its ancestors are recorded
-abbrev pub FitsRecorded : List SignedTx → Option SignedTx → Type 0
-FitsRecorded stored None = ⊤
-FitsRecorded stored (Some stx) = (is_stored (with_ids stored) (tx_id stx.tx) ≡ false) × (has_ancestors stored stx.tx ≡ true)
-
--- whether a reference names a coin of a vault
-abbrev pub names_coin : List Held → StateRef → Bool
-names_coin vault r = list_any (λ h. ref_eq r h.reference) (filter is_coin vault)
-
--- whether no reference stands twice
-abbrev pub are_distinct : List StateRef → Bool
-are_distinct [] = true
-are_distinct (r ∷ rs) = not (list_any (ref_eq r) rs) && are_distinct rs
-
 -- the added entry is the notary's, and repeats none
 abbrev pub FitsBooked : {F : Type 0} → Environment F → ℕ → List Entry → Option Entry → Type 0
 FitsBooked w me book None = ⊤
@@ -122,9 +101,9 @@ pub record FitsChange {F : Type 0} (w : Environment F) (me : ℕ) (s : NodeState
   pub sent : FitsSent (party me) stamp (opened_on change.opened owner before) change.sent
   -- the session stands before the record
   pub taken : FitsTaken s.sessions change.taken
-  pub recorded : FitsRecorded s.stored change.recorded
-  pub locked : list_all (names_coin (vault_of (party me) (untagged (with_ids (s.stored ++ option_to_list change.recorded))) s.locked)) change.locked ≡ true
-  pub once : are_distinct change.locked ≡ true
+  pub recorded : may_record (with_ids s.stored) change.recorded ≡ true
+  pub locked : list_all (has_coin (vault_of (party me) (untagged (with_ids (s.stored ++ option_to_list change.recorded))) s.locked)) change.locked ≡ true
+  pub once : has_repeat ref_eq change.locked ≡ false
   pub booked : FitsBooked w me s.entries change.booked
 
 -- the record of this cause and effect fits after the state

@@ -311,7 +311,7 @@ fits_from w me s cause e still h =
 -- what is said of the ledger of a change that leaves it alone
 still_fits : {F : Type 0} (w : Environment F) (me : ℕ) (s : NodeState F) (stamp : ℕ) (before : List Session) (owner : Option ℕ) (c : Change) → leaves_ledger c ≡ true → FitsOpened w me s (opened_on c.opened owner before) owner c.sent c.opened → FitsSent (party me) stamp (opened_on c.opened owner before) c.sent → FitsTaken s.sessions c.taken → FitsChange w me s stamp before owner c
 still_fits w me s stamp before owner c still opened sent taken =
-    subst (λ (x : Change). FitsChange w me s stamp before owner x) (sym (unledgered c still)) (record { opened = opened; sent = sent; taken = taken; recorded = tt; locked = refl; once = refl; booked = tt })
+    subst (λ (x : Change). FitsChange w me s stamp before owner x) (sym (unledgered c still)) (record { opened = opened; sent = sent; taken = taken; recorded = refl; locked = refl; once = refl; booked = tt })
 
 pub fits_to : {F : Type 0} (w : Environment F) (me : ℕ) (s : NodeState F) (cause : Cause) (e : Effect F) → fits w.nodes (party me) s (record { cause = cause; effect = e }) ≡ true → Fits w me s cause e
 fits_to w me s cause e h =

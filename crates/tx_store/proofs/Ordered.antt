@@ -10,9 +10,9 @@ use Rattle.net_base.specs.declared.names.StateRef.{StateRef}
 use Rattle.ledger_types.specs.declared.tx.SignedTx.{SignedTx}
 use Rattle.ledger_types.specs.Names.{hash_eq}
 use Rattle.ledger_types.specs.Signatures.{tx_id}
-use Rattle.ledger_types.specs.Stores.{stored_of, is_stored}
+use Rattle.ledger_types.specs.Stores.{stored_of, is_stored, refs_of, all_stored, has_dependencies}
 use Rattle.ledger_types.proofs.Names.{hash_exact}
-use Rattle.tx_store.specs.Stored.{refs_of, all_stored, has_dependencies, may_follow, may_all_follow, is_in_order, is_named, leads_back}
+use Rattle.tx_store.specs.Stored.{may_follow, may_all_follow, is_in_order, is_named, leads_back}
 
 abbrev pub Recorded : Type 0
 Recorded = Hash32 × SignedTx

@@ -1,16 +1,15 @@
 -- What contracts see of a store of transactions, and what is always so of it.
 use Rattle.std.specs.Prelude.{ℕ, Bool, true, false, ◌&&◌, not, List, [], ◌∷◌, ◌++◌, Option, Some, None, map, find, is_none, fold, if◌then◌else◌}
-use Rattle.std.specs.List.{list_all, AllByRecursion}
+use Rattle.std.specs.List.{AllByRecursion}
 use Rattle.net_base.specs.declared.values.Hash32.{Hash32}
 use Rattle.net_base.specs.declared.names.StateRef.{StateRef}
-use Rattle.ledger_types.specs.declared.tx.Tx.{Tx}
 use Rattle.ledger_types.specs.declared.tx.SignedTx.{SignedTx}
 use Rattle.ledger_types.specs.declared.tx.Resolved.{Resolved}
 use Rattle.ledger_types.specs.Names.{hash_eq, has_hash}
 use Rattle.ledger_types.specs.Signatures.{tx_id}
 use Rattle.ledger_types.specs.States.{IsTxState}
 use Rattle.ledger_types.specs.Txs.{IsSignedTx}
-use Rattle.ledger_types.specs.Stores.{stored_of, is_stored, state_of}
+use Rattle.ledger_types.specs.Stores.{stored_of, is_stored, refs_of, has_dependencies, state_of}
 
 -- what contracts see of a store: its transactions with their ids in order of recording, and for how many more there is room
 pub record Stored : Type 0 where
@@ -24,18 +23,6 @@ AreWithin list = AllByRecursion (λ p. IsSignedTx p.1) list
 -- the states that a transaction names are each within their limits
 abbrev pub IsResolved : Resolved → Type 0
 IsResolved states = AllByRecursion IsTxState states.inputs × AllByRecursion IsTxState states.references
-
--- the references of a transaction: its inputs, and then the states that it refers to
-abbrev pub refs_of : Tx → List StateRef
-refs_of tx = tx.inputs ++ tx.references
-
--- whether every transaction that these references name is recorded
-abbrev pub all_stored : List (Hash32 × SignedTx) → List StateRef → Bool
-all_stored store refs = list_all (λ r. is_stored store r.id) refs
-
--- whether every transaction that a transaction depends on directly is recorded
-abbrev pub has_dependencies : List (Hash32 × SignedTx) → Tx → Bool
-has_dependencies store tx = all_stored store (refs_of tx)
 
 -- whether a transaction may be recorded behind these: under its own id, which isn't recorded yet, and after all that it depends on
 abbrev pub may_follow : List (Hash32 × SignedTx) → Hash32 × SignedTx → Bool

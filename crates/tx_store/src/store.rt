@@ -6,9 +6,9 @@ ghost use Rattle.std.specs.Map.Iter.{deref_pair};
 ghost use Rattle.net_base.specs.declared.values.Hash32.{Hash32 as Id};
 ghost use Rattle.ledger_types.specs.Txs.{IsSignedTx};
 ghost use Rattle.ledger_types.specs.Signatures.{tx_id};
-ghost use Rattle.ledger_types.specs.Stores.{stored_of, is_stored, states_of, resolved_of, missing_ids};
+ghost use Rattle.ledger_types.specs.Stores.{stored_of, is_stored, refs_of, all_stored, has_dependencies, states_of, resolved_of, missing_ids};
 ghost use Rattle.tx_store.specs.declared.fault.ResolveFault.TheVariants.{Memory};
-ghost use Rattle.tx_store.specs.Stored.{AreWithin, IsResolved, refs_of, all_stored, has_dependencies, is_in_order, leads_back, found_with, found_in};
+ghost use Rattle.tx_store.specs.Stored.{AreWithin, IsResolved, is_in_order, leads_back, found_with, found_in};
 ghost use Rattle.tx_store.specs.Faults.{fault_of, state_or_fault};
 
 use crate::fault::ResolveFault;

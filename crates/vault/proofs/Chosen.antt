@@ -1,20 +1,19 @@
 -- The coins that a reservation names are coins of the vault, each once.
-use Rattle.std.proofs.Common.{◌≡◌, ◌≤◌, ◌-◌, ◌==◌, ℕ, zero, suc, Bool, true, false, cond, ◌&&◌, ◌||◌, List, [], ◌∷◌, Option, Some, None, Result, Ok, Err, IfOk, length, take, filter, option_map, refl, sym, ◌∙◌, ap, subst, arith, if◌then◌else◌}
+use Rattle.std.proofs.Common.{◌≡◌, ◌≤◌, ◌-◌, ◌==◌, ℕ, zero, suc, Bool, true, false, cond, ◌&&◌, List, [], ◌∷◌, Option, Some, None, Result, Ok, Err, IfOk, length, take, filter, option_map, refl, sym, ◌∙◌, ap, subst, arith, if◌then◌else◌}
 use Rattle.std.specs.List.{list_all, AllByRecursion}
-use Rattle.std.proofs.lemmas.Bool.{and_parts, and_from, or_right}
+use Rattle.std.proofs.lemmas.Bool.{and_parts, and_from}
 use Rattle.std.proofs.lemmas.List.{length-take}
 use Rattle.std.proofs.lemmas.List.Folds.{list_all-map}
 use Rattle.net_base.specs.Forms.{ListWithin}
 use Rattle.net_base.specs.declared.values.Party.{Party}
 use Rattle.net_base.specs.declared.names.Token.{Token}
-use Rattle.net_base.proofs.Lists.{all_take, all_kept, passes_weaken}
+use Rattle.net_base.proofs.Lists.{all_take, all_kept}
 use Rattle.ledger_types.specs.declared.held.Held.{Held}
 use Rattle.ledger_types.specs.Names.{ref_eq, has_repeat}
-use Rattle.ledger_types.specs.Vaults.{is_coin, is_coin_of, cash_amount, coins_of, least_prefix, reserved, IsHeld}
-use Rattle.ledger_types.proofs.Names.{ref_same}
-use Rattle.ledger_types.proofs.Coins.{coin_of_token}
+use Rattle.ledger_types.specs.Vaults.{is_coin_of, has_coin, cash_amount, coins_of, least_prefix, reserved, IsHeld}
+use Rattle.ledger_types.proofs.Coins.{coins_there}
 use Rattle.vault.specs.declared.fault.ReserveFault.{ReserveFault}
-use Rattle.vault.specs.Holdings.{is_own, is_own_coin, references_of, has_coin}
+use Rattle.vault.specs.Holdings.{is_own, is_own_coin, references_of}
 use Rattle.vault.proofs.Distinct.{once_kept, once_front}
 
 -- some first ones of a list
@@ -56,15 +55,6 @@ test_front test (suc n) [] all = refl
 test_front test (suc n) (h ∷ hs) all = let both = and_parts (test h) (list_all test hs) all in and_from _ _ both.0 (test_front test n hs both.1)
 
 -- ---- coins of the vault
-
-coins_there : (token : Token) (states : List Held) → list_all (λ h. has_coin states h.reference) (coins_of token states) ≡ true
-coins_there token [] = refl
-coins_there token (x ∷ xs) =
-    by (is_coin_of token x) refl (passes_weaken (λ h. has_coin xs h.reference) (λ h. has_coin (x ∷ xs) h.reference) (coins_of token xs) (λ h t. or_right (ref_eq x.reference h.reference && is_coin x) (has_coin xs h.reference) t) (coins_there token xs))
-  where
-    by : (b : Bool) → is_coin_of token x ≡ b → list_all (λ h. has_coin (x ∷ xs) h.reference) (coins_of token xs) ≡ true → list_all (λ h. has_coin (x ∷ xs) h.reference) (cond b (x ∷ coins_of token xs) (coins_of token xs)) ≡ true
-    by true e more = and_from _ _ (ap (λ b. b || has_coin xs x.reference) (and_from _ _ (ref_same x.reference) (coin_of_token token x e))) more
-    by false e more = more
 
 coins_in : (token : Token) (amount : ℕ) (states list : List Held) → reserved token amount states ≡ Some list → list_all (has_coin states) (references_of list) ≡ true
 coins_in token amount states list is =

@@ -11,9 +11,8 @@ use Rattle.ledger_types.specs.declared.tx.Tx.{Tx}
 use Rattle.ledger_types.specs.declared.held.Held.{Held}
 use Rattle.ledger_types.specs.Names.{hash_eq, ref_eq, has_ref, has_repeat}
 use Rattle.ledger_types.specs.Vaults.{Lock, is_relevant, outputs_from, is_consumed, all_outputs, vault_of}
-use Rattle.ledger_types.proofs.Names.{hash_exact}
+use Rattle.ledger_types.proofs.Names.{hash_exact, hash_swapped}
 use Rattle.vault.specs.Holdings.{references_of, is_noted, IsVault}
-use Rattle.vault.proofs.Names.{hash_swapped}
 use Rattle.vault.proofs.Passing.{true_or_false}
 use Rattle.vault.proofs.Locking.{repeat_more}
 

@@ -1,6 +1,5 @@
 pub mod Marking
 pub mod Coins
-pub mod Names
 pub mod Passing
 pub mod Limits
 pub mod Chosen

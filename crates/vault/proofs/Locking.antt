@@ -6,9 +6,8 @@ use Rattle.std.proofs.lemmas.List.Folds.{list_any-append}
 use Rattle.net_base.specs.declared.names.StateRef.{StateRef}
 use Rattle.ledger_types.specs.Names.{ref_eq, has_ref, has_repeat}
 use Rattle.ledger_types.specs.Vaults.{Lock, locked_by, locks_of, released}
-use Rattle.ledger_types.proofs.Names.{ref_same, ref_exact}
+use Rattle.ledger_types.proofs.Names.{ref_same, ref_exact, ref_swapped}
 use Rattle.vault.specs.Holdings.{is_flow, are_apart}
-use Rattle.vault.proofs.Names.{ref_swapped}
 use Rattle.vault.proofs.Passing.{true_or_false}
 
 -- what the locks lock

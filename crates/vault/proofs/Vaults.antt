@@ -15,10 +15,9 @@ use Rattle.ledger_types.specs.declared.state.TxState.{TxState}
 use Rattle.ledger_types.specs.declared.tx.Tx.{Tx}
 use Rattle.ledger_types.specs.declared.held.Held.{Held}
 use Rattle.ledger_types.specs.Names.{hash_eq, ref_eq, has_ref, has_repeat}
-use Rattle.ledger_types.specs.Vaults.{Lock, is_relevant, locked_by, held, outputs_from, is_consumed, all_outputs, vault_of, is_cash, is_free, is_coin, locks_of, released}
-use Rattle.ledger_types.proofs.Names.{ref_exact}
-use Rattle.vault.specs.Holdings.{held_after, has_coin, locked_in, is_flow, freed_of, is_noted, has_sources, may_note, are_apart, IsVault}
-use Rattle.vault.proofs.Names.{hash_swapped}
+use Rattle.ledger_types.specs.Vaults.{Lock, is_relevant, locked_by, held, outputs_from, is_consumed, all_outputs, vault_of, is_cash, is_free, is_coin, has_coin, locks_of, released}
+use Rattle.ledger_types.proofs.Names.{ref_exact, hash_swapped}
+use Rattle.vault.specs.Holdings.{held_after, locked_in, is_flow, freed_of, is_noted, has_sources, may_note, are_apart, IsVault}
 use Rattle.vault.proofs.Passing.{filter_twice, filter_changed, map_same, all_filter, true_or_false}
 use Rattle.vault.proofs.Distinct.{once_more}
 use Rattle.vault.proofs.Locking.{absent_unlocked, locked_more, locked_less, apart_more, apart_less}

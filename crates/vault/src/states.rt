@@ -2,8 +2,8 @@
 
 ghost use Rattle.std.specs.Prelude.{◌≡◌, ◌≤◌, ◌<◌, ◌+◌, ◌-◌, ◌++◌, ◌∷◌, [], not, vec_len, vec_capacity, length, map, filter, take, IfOk, if◌then◌else◌};
 ghost use Rattle.ledger_types.specs.Names.{has_ref};
-ghost use Rattle.ledger_types.specs.Vaults.{is_relevant, is_cash, is_cash_of, cash_amount, is_free, coins_of, balance_of, outputs_from};
-ghost use Rattle.vault.specs.Holdings.{has_coin, locked_in, freed_of};
+ghost use Rattle.ledger_types.specs.Vaults.{is_relevant, is_cash, is_cash_of, cash_amount, is_free, has_coin, coins_of, balance_of, outputs_from};
+ghost use Rattle.vault.specs.Holdings.{locked_in, freed_of};
 
 use coin_select::Coin;
 use ledger_types::{Held, StateData, TxState};

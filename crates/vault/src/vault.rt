@@ -7,8 +7,8 @@ ghost use Rattle.net_base.specs.declared.values.Hash32.{Hash32 as Id};
 ghost use Rattle.ledger_types.specs.declared.tx.Tx.{Tx as Recorded};
 ghost use Rattle.ledger_types.specs.States.{IsTxState};
 ghost use Rattle.ledger_types.specs.Names.{ref_eq, has_repeat};
-ghost use Rattle.ledger_types.specs.Vaults.{Lock, balance_of, reserved, IsHeld, locks_of, released};
-ghost use Rattle.vault.specs.Holdings.{AreHeld, is_own, is_own_coin, references_of, held_after, has_coin, locked_in, freed_of, may_note, IsVault};
+ghost use Rattle.ledger_types.specs.Vaults.{Lock, has_coin, balance_of, reserved, IsHeld, locks_of, released};
+ghost use Rattle.vault.specs.Holdings.{AreHeld, is_own, is_own_coin, references_of, held_after, locked_in, freed_of, may_note, IsVault};
 ghost use Rattle.vault.specs.Faults.{Refuses};
 
 use crate::fault::ReserveFault;

@@ -3,7 +3,7 @@
 ghost use Rattle.std.specs.Prelude.{◌≡◌, true, false};
 ghost use Rattle.std.specs.List.{list_all};
 ghost use Rattle.ledger_types.specs.Names.{ref_eq, has_repeat};
-ghost use Rattle.vault.specs.Holdings.{has_coin};
+ghost use Rattle.ledger_types.specs.Vaults.{has_coin};
 
 use crate::Tables;
 use crate::tests::{output, record, spell, token};

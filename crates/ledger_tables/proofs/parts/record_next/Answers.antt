@@ -4,10 +4,8 @@ use Rattle.net_base.specs.declared.values.Hash32.{Hash32}
 use Rattle.ledger_types.specs.declared.tx.Tx.{Tx}
 use Rattle.ledger_types.specs.declared.tx.SignedTx.{SignedTx}
 use Rattle.ledger_types.specs.Signatures.{tx_id}
-use Rattle.ledger_types.specs.Stores.{is_stored, untagged}
-use Rattle.tx_store.specs.Stored.{has_dependencies}
+use Rattle.ledger_types.specs.Stores.{is_stored, has_dependencies, may_record, untagged}
 use Rattle.vault.specs.Holdings.{may_note, IsVault}
-use Rattle.ledger_tables.specs.Ledgers.{may_record}
 use Rattle.ledger_tables.proofs.Recording.{noted_next, untagged_more}
 use Rattle.ledger_tables.proofs.parts.record_next.Goals as goal
 

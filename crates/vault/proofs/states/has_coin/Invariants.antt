@@ -1,5 +1,5 @@
 use Rattle.std.proofs.Common.{◌≡◌, take, false}
-use Rattle.vault.specs.Holdings.{has_coin}
+use Rattle.ledger_types.specs.Vaults.{has_coin}
 use Rattle.vault.proofs.states.has_coin.Given as goal
 
 abbrev pub invariant-loop-held : goal.invariant-loop-held

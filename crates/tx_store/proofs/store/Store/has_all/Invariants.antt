@@ -1,5 +1,5 @@
 use Rattle.std.proofs.Common.{◌≡◌, take, true}
-use Rattle.tx_store.specs.Stored.{all_stored}
+use Rattle.ledger_types.specs.Stores.{all_stored}
 use Rattle.tx_store.proofs.store.Store.has_all.Given as goal
 
 abbrev pub invariant-loop-r : goal.invariant-loop-r
