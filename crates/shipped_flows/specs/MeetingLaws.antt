@@ -15,7 +15,6 @@ use Rattle.flow_machine.specs.declared.acts.Place.{Place}
 use Rattle.flow_machine.specs.declared.acts.Resumed.TheVariants as resumed
 use Rattle.shipped_flows.specs.declared.ping.Ping.{Ping}
 use Rattle.shipped_flows.specs.declared.ping.PingPhase.TheVariants as ping_phase
-use Rattle.shipped_flows.specs.declared.echo.Echo.{Echo}
 use Rattle.shipped_flows.specs.declared.echo.EchoPhase.TheVariants as echo_phase
 use Rattle.shipped_flows.specs.declared.set.ShippedFlow.{ShippedFlow}
 use Rattle.shipped_flows.specs.Shared.{party_and}
