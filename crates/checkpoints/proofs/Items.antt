@@ -1,5 +1,5 @@
 -- A list with one item changed or added.
-use Rattle.std.proofs.Common.{◌≡◌, ℕ, zero, suc, ◌+◌, ◌≤◌, ◌<◌, List, [], ◌∷◌, ◌++◌, length, take, drop, slice_set, refl, ap, arith}
+use Rattle.std.proofs.Common.{◌≡◌, ℕ, zero, suc, ◌+◌, ◌-◌, ◌≤◌, ◌<◌, List, [], ◌∷◌, ◌++◌, length, take, drop, slice_set, refl, ap, arith}
 
 -- an item changed, as what stands before it, the new one and what stands behind it
 pub set_parts : {X : Type 0} (xs : List X) (k : ℕ) (y : X) → k < length xs → slice_set xs k y ≡ take k xs ++ y ∷ drop (suc k) xs
@@ -20,3 +20,10 @@ length_parts [] zero y le = omega arith
 length_parts [] (suc k) y le = absurd (omega (arith, le))
 length_parts (x ∷ xs) zero y le = omega arith
 length_parts (x ∷ xs) (suc k) y le = omega (arith, length_parts xs k y (omega (arith, le)))
+
+-- there are no more than what there were and the changed place are within
+pub length_within : {X : Type 0} (xs : List X) (k most : ℕ) (y : X) → k ≤ length xs → k < most → length xs ≤ most → length (take k xs ++ y ∷ drop (suc k) xs) ≤ most
+length_within [] zero most y le lt few = omega (arith, lt)
+length_within [] (suc k) most y le lt few = absurd (omega (arith, le))
+length_within (x ∷ xs) zero most y le lt few = omega (arith, few)
+length_within (x ∷ xs) (suc k) most y le lt few = omega (arith, lt, length_within xs k (most - 1) y (omega (arith, le)) (omega (arith, lt)) (omega (arith, few)))

@@ -1,6 +1,6 @@
 //! The table of a node's flows.
 
-ghost use Rattle.std.specs.Prelude.{◌≡◌, ◌+◌, ◌++◌, ◌∷◌, ◌<◌, ◌≤◌, ℕ, suc, List, [], Bool, take, drop, length, option_map, slice_get, vec_len, vec_capacity, if◌then◌else◌, Result, Ok, Err, OnOk, IfSome, MatchResult, min};
+ghost use Rattle.std.specs.Prelude.{◌≡◌, ◌+◌, ◌-◌, ◌^◌, ◌++◌, ◌∷◌, ◌<◌, ◌≤◌, ℕ, suc, List, [], Bool, take, drop, length, option_map, slice_get, vec_len, vec_capacity, if◌then◌else◌, Result, Ok, Err, OnOk, IfSome, MatchResult, min};
 ghost use Rattle.std.specs.List.{AllByRecursion};
 ghost use Rattle.checkpoints.specs.Tables.{is_live, live_numbers, where_true, IsNumbered, with_flow, IsRising};
 ghost use Rattle.checkpoints.specs.Views.{state_of};
@@ -40,7 +40,7 @@ impl<F> Model for Flows<F> {
 
     ghost Value = { Table F };
 
-    ghost view = { λ t. record { flows = t.states.items; room = min (min (vec_capacity t.states - vec_len t.states) (vec_capacity t.live - vec_len t.live)) (2 ^ 32 - 1 - vec_len t.states) } };
+    ghost view = { λ t. record { flows = t.states.items; room = min (vec_capacity t.states - vec_len t.states) (vec_capacity t.live - vec_len t.live) } };
 
     ghost invariant = { λ t. (t.live.items ≡ live_numbers t.states.items) × (AreNumberedFrom 0 t.states.items × (length t.states.items < 2 ^ 32)) };
 }
@@ -82,23 +82,22 @@ impl<F: Drop> Flows<F> {
     ///
     /// # Errors
     ///
-    /// `AllocError` for want of memory, and where there are 2^32 - 1 flows, more than which cannot be counted. The flows stay.
+    /// `AllocError` for want of memory. The flows stay.
     pub fn make_room(&mut self) -> Result<(), AllocError>
         ensures flows { self.new.flows ≡ self.old.flows }
         ensures room { OnOk result (0 < self.new.room) }
         ensures keeps { self.old.room ≤ self.new.room }
     {
-        if self.states.len() >= u32::MAX as usize {
-            return Err(AllocError);
-        }
         self.states.reserve(1)?;
         self.live.reserve(1)
     }
 
-    /// The flow of the number is now this one. The number is at most `count()`; there it is a new flow. A live one has it as its own.
+    /// The flow of the number is now this one. The number is at most `count()`; there it is a new flow. It is below 2^32 - 1, so that the flows
+    /// can be counted then. A live one has it as its own.
     pub fn set(&mut self, flow: u32, state: FlowState<F>)
         requires room { 0 < self.old.room }
         requires place { flow ≤ length self.old.flows }
+        requires last { flow < 2 ^ 32 - 1 }
         requires own { IsNumbered flow state }
         ensures flows { self.new.flows ≡ with_flow flow state self.old.flows }
         ensures room { self.old.room ≤ self.new.room + 1 }

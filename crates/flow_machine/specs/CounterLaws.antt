@@ -1,5 +1,5 @@
 -- The laws of the counting flow, proved.
-use Rattle.std.specs.Prelude.{◌≡◌, ℕ, zero, suc, ◌+◌, ◌-◌, ◌<◌, ◌≤◌, ◌^◌, ◌==◌, ◌&&◌, nat_le, nat_lt, List, [], ◌∷◌, ◌++◌, length, true, false, refl, Some, None, Option, Ok, IfOk, codes}
+use Rattle.std.specs.Prelude.{◌≡◌, ℕ, zero, suc, ◌+◌, ◌-◌, ◌<◌, ◌≤◌, ◌^◌, ◌==◌, ◌&&◌, nat_le, nat_lt, List, [], ◌∷◌, ◌++◌, length, Bool, true, false, refl, Some, None, Option, Result, Ok, Err, IfOk, if◌then◌else◌, codes}
 use Rattle.std.specs.List.{list_all}
 use Rattle.std.proofs.Common.{arith, ap, subst}
 use Rattle.std.proofs.lemmas.Bool.{eqb-true, and_parts, leb-true}
@@ -12,13 +12,14 @@ use Rattle.net_base.specs.Laws.{Laws}
 use Rattle.net_base.specs.Combining.{mapped_laws, pair_laws}
 use Rattle.net_base.specs.Fields.{below_laws, u32_laws}
 use Rattle.net_base.specs.Kinds.{between_laws}
-use Rattle.flow_machine.specs.Flows.{Falls, LoadHolds, is_fair, OversHold, is_fail, OverFails, ArgsAreShort, SpellsContent, AreWithin, KeepsLimits, cost}
+use Rattle.flow_machine.specs.Flows.{Falls, LoadHolds, is_fair, OversHold, is_fail, OverFails, ArgsAreShort, KnownByName, SpellsContent, AreWithin, KeepsLimits, cost}
 use Rattle.flow_machine.specs.Limits.{IsResumed}
 use Rattle.flow_machine.specs.Tags.{KeepsTags, BeginsBare, AreBare, act_tags}
 use Rattle.flow_machine.specs.declared.acts.Act.{Act}
 use Rattle.flow_machine.specs.declared.acts.Place.{Place}
 use Rattle.flow_machine.specs.declared.acts.Resumed.{Resumed}
 use Rattle.flow_machine.specs.declared.acts.Resumed.TheVariants as resumed
+use Rattle.flow_machine.specs.declared.flow_set.WordFault.{WordFault}
 use Rattle.flow_machine.specs.declared.flow_set.WordFault.TheVariants as word
 use Rattle.flow_machine.specs.declared.flow_set.MakeFault.TheVariants as make
 use Rattle.flow_machine.specs.declared.counter.Counter.{Counter}
@@ -221,3 +222,29 @@ made_short class args at =
 
 pub args_are_short : ArgsAreShort machine
 args_are_short = record { worded = worded_short; made = made_short }
+
+-- ---- words
+
+-- by a test of the name: what passes is of a known class, and the rest is told by its name
+pub known_by : {X : Type 0} (test : Bool) (one other rest more : Result X WordFault) → (one ≡ Err word.UnknownClass → ⊥) → (rest ≡ Err word.UnknownClass → more ≡ Err word.UnknownClass)
+    → (if test then one else rest) ≡ Err word.UnknownClass → (if test then other else more) ≡ Err word.UnknownClass
+known_by true one other rest more known goes e = absurd (known e)
+known_by false one other rest more known goes e = goes e
+
+-- what is there by a test, or else are bad arguments, is of a known class
+pub known_if : {X : Type 0} (test : Bool) (x : X) → (if test then Ok x else Err word.BadArgs) ≡ Err word.UnknownClass → ⊥
+known_if true x e = absurd cc
+known_if false x e = absurd cc
+
+spelt_known : (count : Option ℕ) → spelt_count count ≡ Err word.UnknownClass → ⊥
+spelt_known None e = absurd cc
+spelt_known (Some n) e = known_if (nat_lt n (2 ^ 32)) (1, to_be_bytes w32 n) e
+
+words_known : (args : List (List ℕ)) → count_words args ≡ Err word.UnknownClass → ⊥
+words_known [] e = absurd cc
+words_known (k ∷ []) e = spelt_known (number_of k) e
+words_known (k ∷ l ∷ more) e = absurd cc
+
+pub known_by_name : KnownByName machine
+unfolding worded
+known_by_name class args more e = known_by (bytes_eq class (codes "count")) (count_words args) (count_words more) (Err word.UnknownClass) (Err word.UnknownClass) (words_known args) (λ unknown. unknown) e

@@ -79,6 +79,12 @@ is_fail other = false
 abbrev pub OverFails : {F : Type 0} → Machine F → Type 0
 OverFails {F} m = (frame : F) (with : Resumed) (at : Place) → m.over frame ≡ true → (is_fail (m.next frame with at).1 ≡ true) × (m.over (m.next frame with at).0 ≡ true)
 
+-- ---- words
+
+-- whether a class is unknown is told by its name, whatever the arguments are
+abbrev pub KnownByName : {F : Type 0} → Machine F → Type 0
+KnownByName m = (class : List ℕ) (args more : List (List ℕ)) → m.worded class args ≡ Err word.UnknownClass → m.worded class more ≡ Err word.UnknownClass
+
 -- ---- bytes and limits
 
 -- words give at most 65,535 bytes of arguments, and a flow is made of no more

@@ -22,7 +22,7 @@ pub record Machine (F : Type 0) : Type 0 where
   pub content : F → List ℕ
   -- a bound on what a frame may still cause
   pub weight : F → ℕ
-  -- the frames that wait on Return or Fail
+  -- whether a frame is at its end, where it returns or fails
   pub over : F → Bool
   -- the tags that a frame holds
   pub tags : F → List Tag

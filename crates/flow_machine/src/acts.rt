@@ -10,9 +10,10 @@ pub enum Act<F> {
     /// Opens a session with another party's flow of the class: `Opened`; `Refused` with 48 where the party is this node's or
     /// no node's, with 57 where the flow has 64 sessions.
     Open { to: Party, class: u16, first: Value },
-    /// Sends a value in a session: `Sent`.
+    /// Sends a value in a session: `Sent`; `Refused` with 58 where the flow doesn't own it.
     Send { key: Key, value: Value },
-    /// Takes the next item of a session, once there is one: `Got`, `Rejected`, `Failed` or `Ended`.
+    /// Takes the next item of a session, once there is one: `Got`, `Rejected`, `Failed` or `Ended`; `Refused` with 58 where the flow
+    /// doesn't own the session.
     Receive { key: Key },
     /// Like `Receive`, but with `Lapsed` where the moment has come, in milliseconds, and no item is there.
     ReceiveBy { key: Key, until: u64 },
@@ -32,7 +33,9 @@ pub enum Act<F> {
     Sign { id: Hash32 },
     /// Has the node's book decide a request: `Answer`.
     Notarise { request: Boxed<Request> },
-    /// Records a transaction that was accepted and has the tags that it needs: `Recorded`, or `Refused`.
+    /// Records a transaction that was accepted and has the tags that it needs: `Recorded`, also where its id is stored already and nothing
+    /// more is done; `Refused` with 31 to 33 by its verdict, 34 where a tag is missing, 35 where a state that it names cannot be had, 41
+    /// where it names another notary.
     Record { stx: Boxed<SignedTx> },
     /// Ends the frame with this value: the frame below is resumed with `Returned`, and at the bottom the flow has ended.
     Return { value: Value },

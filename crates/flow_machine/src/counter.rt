@@ -69,7 +69,7 @@ impl Phase {
     ghost use Rattle.flow_machine.specs.Counter.{place_of, phase_of};
 
     /// The number of the act that it waits on: 0 Fail, 1 Sleep, 2 Return.
-    fn place(self) -> u8
+    pub fn place(self) -> u8
         ensures { result ≡ place_of self }
     {
         match self {
@@ -79,8 +79,8 @@ impl Phase {
         }
     }
 
-    /// The phase of such a number.
-    fn of_place(place: u8) -> Phase
+    /// The phase of such a number; of one above 2 it is `Returning`.
+    pub fn of_place(place: u8) -> Phase
         ensures { result ≡ phase_of place }
     {
         match place {
@@ -128,7 +128,7 @@ impl Spelt for Counter {
 #[tactic(auto, unfolding(crate::specs::Counter::worded, crate::specs::Counter::made, crate::specs::Counter::next, crate::specs::Counter::weight))]
 impl FlowSet for Counter {
     ghost use Rattle.flow_machine.specs.Counter.{machine};
-    ghost use Rattle.flow_machine.specs.CounterLaws.{spells_content, keeps_limits, falls, load_holds, overs_hold, over_fails, keeps_tags, begins_bare, args_are_short};
+    ghost use Rattle.flow_machine.specs.CounterLaws.{spells_content, keeps_limits, falls, load_holds, overs_hold, over_fails, keeps_tags, begins_bare, args_are_short, known_by_name};
 
     ghost machine = { machine };
 
@@ -149,6 +149,8 @@ impl FlowSet for Counter {
     ghost begins_bare = { begins_bare };
 
     ghost args_are_short = { args_are_short };
+
+    ghost known_by_name = { known_by_name };
 
     fn read_words(
         alloc: Global,

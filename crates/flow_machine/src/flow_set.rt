@@ -2,7 +2,7 @@
 
 ghost use Rattle.std.specs.Prelude.{◌≡◌, map, string_bytes, IfOk};
 ghost use Rattle.flow_machine.specs.Machine.{Machine};
-ghost use Rattle.flow_machine.specs.Flows.{GivesWords, GivesMade, GivesBegun, Falls, LoadHolds, OversHold, OverFails, ArgsAreShort, SpellsContent, KeepsLimits};
+ghost use Rattle.flow_machine.specs.Flows.{GivesWords, GivesMade, GivesBegun, Falls, LoadHolds, OversHold, OverFails, ArgsAreShort, KnownByName, SpellsContent, KeepsLimits};
 ghost use Rattle.flow_machine.specs.Tags.{KeepsTags, BeginsBare};
 
 use super::{Act, Place, Resumed};
@@ -110,13 +110,13 @@ pub trait FlowSet: Spelt + Drop {
     /// What is given within the limits makes frames and acts within the limits.
     ghost keeps_limits: { KeepsLimits Self.within machine };
 
-    /// The weight falls at each resume, by at least the cost of the new act.
+    /// From a frame that isn't over the weight falls at each resume, by at least the cost of the new act.
     ghost falls: { Falls machine };
 
     /// What an Init may cause is at least the weight and the cost of what answers it.
     ghost load_holds: { LoadHolds machine };
 
-    /// Exactly the frames that wait on Return or Fail are over.
+    /// Of the frames that begin or follow a result exactly those that wait on Return or Fail are over, and none that a Sub carries.
     ghost overs_hold: { OversHold machine };
 
     /// A frame that is over fails.
@@ -130,6 +130,9 @@ pub trait FlowSet: Spelt + Drop {
 
     /// Arguments have at most 65,535 bytes.
     ghost args_are_short: { ArgsAreShort machine };
+
+    /// Whether a class is unknown is told by its name, whatever the arguments are.
+    ghost known_by_name: { KnownByName machine };
 }
 
 /// An equal frame.
@@ -171,7 +174,8 @@ pub fn load_holds<F: FlowSet>()
     ensures { LoadHolds F.machine }
 {}
 
-/// The law of every flow set that exactly the frames that wait on Return or Fail are over, and none that a Sub carries.
+/// The law of every flow set that of the frames that begin or follow a result exactly those that wait on Return or Fail are over, and none
+/// that a Sub carries.
 pub fn over_is_exact<F: FlowSet>()
     ensures { OversHold F.machine }
 {}
@@ -194,4 +198,9 @@ pub fn begins_bare<F: FlowSet>()
 /// The law of every flow set that the words of a flow give at most 65,535 bytes of arguments, and that longer ones make none.
 pub fn args_are_short<F: FlowSet>()
     ensures { ArgsAreShort F.machine }
+{}
+
+/// The law of every flow set that words whose class is unknown are so with any other arguments: a class is known by its name alone.
+pub fn classes_are_known_by_name<F: FlowSet>()
+    ensures { KnownByName F.machine }
 {}

@@ -75,6 +75,7 @@ fn the_counting_flow_keeps_the_laws() {
     tags_are_kept::<Counter>();
     begins_bare::<Counter>();
     args_are_short::<Counter>();
+    classes_are_known_by_name::<Counter>();
 }
 
 /// A frame that returns 0, as it stands in a checkpoint: 10 bytes of machine 1, place 2, with 0 sleeps left of 0.

@@ -321,6 +321,7 @@ fn only_accepts<F>(step: &Step<F>) -> bool
 /// The flow is this one now, if one changed.
 fn set_flow<F: Drop>(flows: &mut Flows<F>, after: Option<FlowAfter<F>>)
     requires room { 0 < flows.old.room }
+    requires few { length flows.old.flows < 2 ^ 32 - 1 }
     requires place { IfSome after (λ flow. (flow.number ≤ length flows.old.flows) × IsNumbered flow.number flow.state) }
     ensures { flows.new.flows ≡ flows_after after flows.old.flows }
 {

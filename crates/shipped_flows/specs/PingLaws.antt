@@ -1,5 +1,5 @@
 -- The laws of ping frames, proved.
-use Rattle.std.specs.Prelude.{◌≡◌, ℕ, zero, suc, ◌+◌, ◌*◌, ◌-◌, ◌<◌, ◌≤◌, ◌^◌, ◌&&◌, not, nat_le, List, [], ◌∷◌, ◌++◌, length, Bool, true, false, refl, Some, None, Option, Ok, IfOk, IfSome}
+use Rattle.std.specs.Prelude.{◌≡◌, ℕ, zero, suc, ◌+◌, ◌*◌, ◌-◌, ◌<◌, ◌≤◌, ◌^◌, ◌&&◌, not, nat_le, List, [], ◌∷◌, ◌++◌, length, Bool, true, false, refl, Some, None, Option, Ok, Err, IfOk, IfSome}
 use Rattle.std.proofs.Common.{arith, ap, subst}
 use Rattle.std.proofs.lemmas.Bool.{and_parts, leb-true}
 use Rattle.std.specs.Int.{w32, w64}
@@ -18,6 +18,7 @@ use Rattle.flow_machine.specs.declared.acts.Place.{Place}
 use Rattle.flow_machine.specs.declared.acts.Resumed.{Resumed}
 use Rattle.flow_machine.specs.declared.acts.Resumed.TheVariants as resumed
 use Rattle.ledger_types.specs.declared.value.Value.TheVariants as value
+use Rattle.flow_machine.specs.declared.flow_set.WordFault.TheVariants as word
 use Rattle.flow_machine.specs.declared.flow_set.MakeFault.TheVariants as make
 use Rattle.flow_machine.specs.Machine.{Machine}
 use Rattle.flow_machine.specs.Limits.{IsResumed, IsPlace}
@@ -307,6 +308,18 @@ worded_short [] = tt
 worded_short (p ∷ []) = tt
 worded_short (p ∷ k ∷ []) = spelt_short (word_below (2 ^ 8) p) (word_below (2 ^ 32) k)
 worded_short (p ∷ k ∷ l ∷ more) = tt
+
+spelt_known : (to count : Option ℕ) → spelt_args to count ≡ Err word.UnknownClass → ⊥
+spelt_known None count e = absurd cc
+spelt_known (Some to) None e = absurd cc
+spelt_known (Some to) (Some count) e = absurd cc
+
+-- words are never of an unknown class
+pub worded_known : (args : List (List ℕ)) → worded args ≡ Err word.UnknownClass → ⊥
+worded_known [] e = absurd cc
+worded_known (p ∷ []) e = absurd cc
+worded_known (p ∷ k ∷ []) e = spelt_known (word_below (2 ^ 8) p) (word_below (2 ^ 32) k) e
+worded_known (p ∷ k ∷ l ∷ more) e = absurd cc
 
 -- it is made of few bytes
 pub begun_short : {F : Type 0} (args : List ℕ) (at : Place) (g : Ping × Act F) → Begun args at g → length args ≤ 65535

@@ -1,5 +1,5 @@
 -- The laws of probe frames, proved.
-use Rattle.std.specs.Prelude.{◌≡◌, ℕ, zero, suc, ◌<◌, ◌≤◌, ◌^◌, not, List, [], ◌∷◌, ◌++◌, length, Bool, true, false, refl, Some, None, Option, Ok, IfOk}
+use Rattle.std.specs.Prelude.{◌≡◌, ℕ, zero, suc, ◌<◌, ◌≤◌, ◌^◌, not, List, [], ◌∷◌, ◌++◌, length, Bool, true, false, refl, Some, None, Option, Ok, Err, IfOk}
 use Rattle.std.proofs.Common.{arith, ap, subst}
 use Rattle.std.specs.Int.{w16}
 use Rattle.net_base.specs.declared.names.Key.{Key}
@@ -16,6 +16,7 @@ use Rattle.flow_machine.specs.declared.acts.Act.{Act}
 use Rattle.flow_machine.specs.declared.acts.Place.{Place}
 use Rattle.flow_machine.specs.declared.acts.Resumed.{Resumed}
 use Rattle.flow_machine.specs.declared.acts.Resumed.TheVariants as resumed
+use Rattle.flow_machine.specs.declared.flow_set.WordFault.TheVariants as word
 use Rattle.flow_machine.specs.declared.flow_set.MakeFault.TheVariants as make
 use Rattle.flow_machine.specs.Machine.{Machine}
 use Rattle.flow_machine.specs.Limits.{IsResumed, IsPlace}
@@ -226,6 +227,18 @@ worded_short [] = tt
 worded_short (p ∷ []) = tt
 worded_short (p ∷ c ∷ []) = spelt_short (word_below (2 ^ 8) p) (word_below (2 ^ 16) c)
 worded_short (p ∷ c ∷ d ∷ more) = tt
+
+spelt_known : (to class : Option ℕ) → spelt_args to class ≡ Err word.UnknownClass → ⊥
+spelt_known None class e = absurd cc
+spelt_known (Some to) None e = absurd cc
+spelt_known (Some to) (Some class) e = absurd cc
+
+-- words are never of an unknown class
+pub worded_known : (args : List (List ℕ)) → worded args ≡ Err word.UnknownClass → ⊥
+worded_known [] e = absurd cc
+worded_known (p ∷ []) e = absurd cc
+worded_known (p ∷ c ∷ []) e = spelt_known (word_below (2 ^ 8) p) (word_below (2 ^ 16) c) e
+worded_known (p ∷ c ∷ d ∷ more) e = absurd cc
 
 -- it is made of few bytes
 pub begun_short : {F : Type 0} (args : List ℕ) (at : Place) (g : Probe × Act F) → Begun args at g → length args ≤ 65535

@@ -15,7 +15,7 @@ use Rattle.flow_machine.specs.declared.acts.Place.{Place}
 use Rattle.flow_machine.specs.declared.acts.Resumed.{Resumed}
 use Rattle.flow_machine.specs.declared.flow_set.MakeFault.{MakeFault}
 use Rattle.flow_machine.specs.declared.counter.Counter.{Counter}
-use Rattle.flow_machine.specs.Flows.{Falls, LoadHolds, is_fair, OversHold, OverFails, ArgsAreShort, SpellsContent, AreWithin, KeepsLimits, cost}
+use Rattle.flow_machine.specs.Flows.{Falls, LoadHolds, is_fair, OversHold, OverFails, ArgsAreShort, KnownByName, SpellsContent, AreWithin, KeepsLimits, cost}
 use Rattle.flow_machine.specs.Limits.{IsResumed, IsPlace}
 use Rattle.flow_machine.specs.Tags.{KeepsTags, BeginsBare, AreBare, act_tags}
 use Rattle.flow_machine.specs.Counter as counter
@@ -351,3 +351,12 @@ made_short class args at =
 
 pub args_are_short : ArgsAreShort machine
 args_are_short = record { worded = worded_short; made = made_short }
+
+-- ---- words
+
+pub known_by_name : KnownByName machine
+unfolding worded
+known_by_name class args more e =
+    counter_law.known_by (bytes_eq class (codes "ping")) (ping.worded args) (ping.worded more) (if bytes_eq class (codes "probe") then probe.worded args else counter.worded class args) (if bytes_eq class (codes "probe") then probe.worded more else counter.worded class more) (ping_law.worded_known args)
+    (λ rest. counter_law.known_by (bytes_eq class (codes "probe")) (probe.worded args) (probe.worded more) (counter.worded class args) (counter.worded class more) (probe_law.worded_known args) (counter_law.known_by_name class args more) rest)
+    e

@@ -3,7 +3,7 @@
 ghost use Rattle.std.specs.Prelude.{◌≡◌};
 ghost use Rattle.net_base.specs.Parts.{Gives, Writes};
 ghost use Rattle.flow_machine.specs.Acts.{act_with};
-ghost use Rattle.flow_machine.specs.Counter.{IsCounter, content, place_of, phase_of};
+ghost use Rattle.flow_machine.specs.Counter.{IsCounter, content};
 ghost use Rattle.shipped_flows.specs.Count.{count_at};
 ghost use Rattle.shipped_flows.specs.Shipped.{of_count};
 
@@ -12,28 +12,6 @@ use flow_machine::{Act, Counter, Phase};
 use net_base::{PartFault, Reader, Spelt, Writer, read_below, read_between};
 use std::alloc::{AllocError, Global};
 
-/// The number of the act that a counting frame waits on: 0 Fail, 1 Sleep, 2 Return.
-fn place(phase: Phase) -> u8
-    ensures { result ≡ place_of phase }
-{
-    match phase {
-        Phase::Failing => 0,
-        Phase::Sleeping => 1,
-        Phase::Returning => 2,
-    }
-}
-
-/// The phase of such a number.
-fn phase(place: u8) -> Phase
-    ensures { result ≡ phase_of place }
-{
-    match place {
-        0 => Phase::Failing,
-        1 => Phase::Sleeping,
-        _ => Phase::Returning,
-    }
-}
-
 /// Reads a frame.
 #[tactic(auto, unfolding(crate::specs::Count::count_at))]
 pub(crate) fn read_count(alloc: Global, from: &mut Reader) -> Result<Counter, PartFault>
@@ -41,7 +19,7 @@ pub(crate) fn read_count(alloc: Global, from: &mut Reader) -> Result<Counter, Pa
 {
     let _machine = read_between(from, 1, 2)?;
     Ok(Counter {
-        phase: phase(read_below(from, 3)?),
+        phase: Phase::of_place(read_below(from, 3)?),
         left: Spelt::read_part(alloc, from)?,
         all: Spelt::read_part(alloc, from)?,
     })
@@ -57,7 +35,7 @@ pub(crate) fn write_count(
     ensures { Writes (content frame.now) result out.old out.new }
 {
     out.put_u8(alloc, 1)?;
-    out.put_u8(alloc, place(frame.phase))?;
+    out.put_u8(alloc, frame.phase.place())?;
     frame.left.write_part(alloc, out)?;
     frame.all.write_part(alloc, out)?;
     Ok(())

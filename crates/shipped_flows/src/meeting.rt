@@ -3,8 +3,9 @@
 ghost use Rattle.shipped_flows.specs.Shipped.{machine};
 ghost use Rattle.shipped_flows.specs.Meeting.{PingReturnsItsCount};
 
-/// The law that a ping of K, once its session is open, and the echo that its Init begins there hand numbers to and fro until the ping returns K. It does
-/// nothing when it runs.
+/// The law of a ping that is made of a party and a count K: it opens a session with that party by a number, and in whichever session is opened so, the ping and the
+/// flow that its Init begins hand numbers to and fro, which both send and receive in that session alone, until the ping returns K, in K
+/// turns. Where and when each of the two is resumed may differ each time. It does nothing when it runs.
 #[tactic(auto, using(crate::specs::MeetingLaws::ping_returns_its_count))]
 pub fn a_ping_returns_its_count()
     ensures { PingReturnsItsCount machine }

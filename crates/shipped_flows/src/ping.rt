@@ -4,8 +4,8 @@ ghost use Rattle.flow_machine.specs.Flows.{GivesWords};
 ghost use Rattle.std.specs.Int.{w32};
 ghost use Rattle.shipped_flows.specs.Shared.{party_and};
 
-use crate::shared::{is_peer, read_flagged, u8_word, u32_of, u32_word};
-use flow_machine::{Act, MakeFault, Place, Resumed, WordFault};
+use crate::shared::{is_peer, read_flagged, u8_word, u32_word};
+use flow_machine::{Act, MakeFault, Place, Resumed, WordFault, u32_of};
 use ledger_types::Value;
 use net_base::{
     ByteList, Key, PartFault, Party, Reader, Spelt, Writer, read_below, read_between, write_option,

@@ -122,7 +122,7 @@ fn resume_count(
 #[tactic(auto, unfolding(crate::specs::Shipped::worded, crate::specs::Shipped::made, crate::specs::Shipped::begun, crate::specs::Shipped::next, crate::specs::Shipped::weight))]
 impl FlowSet for ShippedFlow {
     ghost use Rattle.shipped_flows.specs.Shipped.{machine};
-    ghost use Rattle.shipped_flows.specs.ShippedLaws.{spells_content, keeps_limits, falls, load_holds, overs_hold, over_fails, keeps_tags, begins_bare, args_are_short};
+    ghost use Rattle.shipped_flows.specs.ShippedLaws.{spells_content, keeps_limits, falls, load_holds, overs_hold, over_fails, keeps_tags, begins_bare, args_are_short, known_by_name};
 
     ghost machine = { machine };
 
@@ -143,6 +143,8 @@ impl FlowSet for ShippedFlow {
     ghost begins_bare = { begins_bare };
 
     ghost args_are_short = { args_are_short };
+
+    ghost known_by_name = { known_by_name };
 
     fn read_words(
         alloc: Global,

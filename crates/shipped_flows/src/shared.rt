@@ -1,7 +1,7 @@
 //! What the machines share: numbers in words and in arguments, peers, and fields that may be absent.
 
 ghost use Rattle.std.specs.Prelude.{◌≡◌, ◌^◌, Some, None};
-ghost use Rattle.std.specs.Int.{from_be_bytes, w16, w32};
+ghost use Rattle.std.specs.Int.{from_be_bytes, w16};
 ghost use Rattle.net_base.specs.Parts.{Gives};
 ghost use Rattle.shipped_flows.specs.Shared.{word_below, sized, is_peer, flagged_at};
 
@@ -45,16 +45,6 @@ pub(crate) fn u16_of(bytes: &[u8]) -> Option<u16>
 {
     match bytes {
         [a, b] => Some(u16::from_be_bytes([*a, *b])),
-        _ => None,
-    }
-}
-
-/// The number that four bytes spell, the high one first; `None` exactly where there aren't four.
-pub(crate) fn u32_of(bytes: &[u8]) -> Option<u32>
-    ensures { result ≡ sized 4 w32 bytes.now }
-{
-    match bytes {
-        [a, b, c, d] => Some(u32::from_be_bytes([*a, *b, *c, *d])),
         _ => None,
     }
 }

@@ -3,12 +3,12 @@
 
 use super::*;
 use flow_machine::{
-    Act, Counter, FlowSet, MakeFault, Phase, Place, Resumed, WordFault, args_are_short,
-    begins_bare, copy_frame, frames_are_spelt, limits_are_kept, load_holds, over_frames_fail,
-    over_is_exact, tags_are_kept, weight_falls,
+    Act, Checkpoint, Counter, FlowSet, MakeFault, Phase, Place, Resumed, WordFault, args_are_short,
+    begins_bare, classes_are_known_by_name, copy_frame, frames_are_spelt, limits_are_kept,
+    load_holds, over_frames_fail, over_is_exact, tags_are_kept, weight_falls,
 };
 use ledger_types::Value;
-use net_base::{ByteList, DecodeFault, Key, Moment, Party, Writer, decode_whole, encode};
+use net_base::{ByteList, DecodeFault, Key, Moment, Party, Reader, Writer, decode_whole, encode};
 use std::alloc::{AllocError, Global};
 use std::mem;
 use std::test::Fail;
@@ -341,6 +341,69 @@ fn more_frames_in_bytes(rt: HostRuntime) -> Result<(), Fail> {
     Ok(())
 }
 
+/// Flow 5, of class 1, at step 3: its counting frame waits for a ping to return, which sends 258 in session 3 of node 0.
+const CHECKPOINT: [u8; 61] = [
+    0, 0, 0, 5, 0, 0, 0, 3, 0, 1, 2, 0, 0, 0, 0, 3, 1, 0, 0, 0, 0, 0, 0, 1, 2, 2, 0, 10, 1, 1, 0,
+    0, 0, 1, 0, 0, 1, 2, 0, 21, 2, 3, 1, 0, 0, 0, 1, 1, 0, 0, 0, 0, 3, 0, 0, 0, 0, 0, 0, 1, 2,
+];
+
+/// The act and the top frame of the checkpoint that the bytes begin with, and its spelling.
+fn checkpoint_again(
+    alloc: Global,
+    bytes: &[u8],
+) -> Result<(Shown, ShippedFlow, ByteList), DecodeFault> {
+    let checkpoint: Checkpoint<ShippedFlow> = Checkpoint::decode(alloc, &mut Reader::new(bytes))?;
+    let waits = look(&checkpoint.waiting);
+    let top = *checkpoint.stack.top();
+    let mut out = Writer::new(alloc);
+    let written = checkpoint.encode(alloc, &mut out);
+    mem::forget(checkpoint);
+    match written {
+        Ok(()) => Ok((waits, top, out.into_bytes())),
+        Err(_) => Err(DecodeFault::Memory),
+    }
+}
+
+#[test]
+fn a_checkpoint_in_bytes(rt: HostRuntime) -> Result<(), Fail> {
+    let (waits, top, again) = checkpoint_again(rt.alloc(), &CHECKPOINT)?;
+    assert_eq!(rt; waits, Shown::Sends(session(), 258));
+    assert!(rt; top == ping(PingPhase::Sending, 1, Some(session()), 258));
+    assert_eq!(rt; again.as_slice(), CHECKPOINT.as_slice());
+    let mut bytes = CHECKPOINT;
+    bytes[40] = 10;
+    let fault = checkpoint_again(rt.alloc(), &bytes).err();
+    assert_eq!(rt; fault, Some(DecodeFault::Malformed { at: 0 }));
+    Ok(())
+}
+
+/// The frame that the act which the bytes begin with calls, if it calls one, and the act's spelling.
+fn act_again(alloc: Global, bytes: &[u8]) -> Result<(Option<ShippedFlow>, ByteList), DecodeFault> {
+    let act: Act<ShippedFlow> = Act::decode(alloc, &mut Reader::new(bytes))?;
+    let called = match &act {
+        Act::Sub { frame } => Some(*frame),
+        _ => None,
+    };
+    let mut out = Writer::new(alloc);
+    let written = act.encode(alloc, &mut out);
+    mem::forget(act);
+    match written {
+        Ok(()) => Ok((called, out.into_bytes())),
+        Err(_) => Err(DecodeFault::Memory),
+    }
+}
+
+#[test]
+fn an_act_in_bytes(rt: HostRuntime) -> Result<(), Fail> {
+    let bytes = [6, 0, 6, 10, 1, 1, 1, 2, 0];
+    let (called, again) = act_again(rt.alloc(), &bytes)?;
+    assert!(rt; called == Some(probe(ProbePhase::Opening, None)));
+    assert_eq!(rt; again.as_slice(), bytes.as_slice());
+    let fault = act_again(rt.alloc(), &[6, 0, 7, 10, 1, 1, 1, 2, 0]).err();
+    assert_eq!(rt; fault, Some(DecodeFault::Malformed { at: 0 }));
+    Ok(())
+}
+
 #[test]
 fn bytes_that_are_no_frame(rt: HostRuntime) {
     let alloc = rt.alloc();
@@ -363,5 +426,6 @@ fn the_set_keeps_the_laws() {
     tags_are_kept::<ShippedFlow>();
     begins_bare::<ShippedFlow>();
     args_are_short::<ShippedFlow>();
+    classes_are_known_by_name::<ShippedFlow>();
     a_ping_returns_its_count();
 }

@@ -1,8 +1,8 @@
-use Rattle.std.proofs.Common.{arith, ◌≡◌, ◌≤◌, ◌<◌, ◌+◌, ◌++◌, ◌^◌, List, Bool, length, subst, sym, ap, ◌∙◌}
+use Rattle.std.proofs.Common.{arith, ◌≡◌, ◌≤◌, ◌<◌, ◌-◌, ◌++◌, ◌∷◌, ◌^◌, suc, take, drop, List, Bool, length, subst, sym, ap, ◌∙◌}
 use Rattle.flow_machine.specs.declared.flows.FlowState.{FlowState}
 use Rattle.checkpoints.specs.Tables.{Table, live_numbers, where_true, IsRising, AreNumberedFrom}
 use Rattle.checkpoints.proofs.Live.{live_rises, marked, numbered_with}
-use Rattle.checkpoints.proofs.Items.{length_parts}
+use Rattle.checkpoints.proofs.Items.{length_within}
 use Rattle.checkpoints.proofs.table.Flows.set.Goals as goal
 
 pub mark-requires-clause-rising : goal.mark-requires-clause-rising
@@ -17,6 +17,5 @@ invariant_of-self g c =
     let now = sym c.put_at.ensures.items in
     let lives = marked flow state flows c.self.inside.live.items c.mark.new.live.items le c.self.invariant.0 (λ lower upper there is all_lower all_upper. subst (λ (b : Bool). c.mark.new.live.items ≡ lower ++ (where_true b flow ++ upper)) c.goes_on-live.ensures (c.mark.ensures.marked lower upper there is all_lower all_upper)) in
     let numbered = numbered_with 0 flow flow state flows (omega arith) c.self.invariant.1.0 c.requires.own le in
-    let fits : length flows + 1 < 2 ^ 32 = omega (arith, c.requires.room, ap (λ (t : Table _). t.room) c.self.view_is) in
-    let longer = length_parts flows flow state le in
-    (lives ∙ ap live_numbers now, (subst (AreNumberedFrom 0) now numbered, subst (λ (l : List (FlowState _)). length l < 2 ^ 32) now (omega (arith, fits, longer))))
+    let few : length (take flow flows ++ state ∷ drop (suc flow) flows) ≤ 2 ^ 32 - 1 = length_within flows flow (2 ^ 32 - 1) state le c.requires.last (omega (arith, c.self.invariant.1.1)) in
+    (lives ∙ ap live_numbers now, (subst (AreNumberedFrom 0) now numbered, subst (λ (l : List (FlowState _)). length l < 2 ^ 32) now (omega (arith, few))))
