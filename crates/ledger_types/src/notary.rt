@@ -23,7 +23,7 @@ pub struct Request {
     /// That party's flow that asks.
     pub flow: u32,
     pub torn: TornTx,
-    /// The party's tag over the transaction's id.
+    /// The party's tag over the transaction's id; a notary refuses another.
     pub tag: Tag,
 }
 

@@ -108,7 +108,7 @@ pub struct Tx {
     pub references: RefList,
 }
 
-/// A transaction with tags over its id, at most 16, strictly ascending by party.
+/// A transaction with tags, at most 16, strictly ascending by party. That they are over its id is not asked of a spelling.
 #[derive(Debug, Drop)]
 pub struct SignedTx {
     pub tx: Tx,
