@@ -1,18 +1,11 @@
 //! What is said of single states and commands.
 
 ghost use Rattle.std.specs.Prelude.{◌≡◌};
-ghost use Rattle.ledger_types.specs.Names.{token_eq};
 ghost use Rattle.cash_contract.specs.Clauses.{is_worthless, is_void, amount_in, issued_by, exited_by, token_in, token_of, is_unbacked, is_unsigned_cash, is_unsigned_exit, spends};
 ghost use Rattle.std.specs.List.{list_any};
 
 use ledger_types::{Deed, StateData, TxState};
 use net_base::{PartySet, Token};
-
-fn same_token(a: &Token, b: &Token) -> bool
-    ensures { result ≡ token_eq a.now b.now }
-{
-    a.issuer == b.issuer && a.code == b.code
-}
 
 /// Whether the state is Cash of amount 0.
 pub(crate) fn is_worthless(body: &StateData) -> bool
@@ -44,7 +37,7 @@ pub(crate) fn amount_in(token: &Token, body: &StateData) -> u64
             token: other,
             amount,
             ..
-        } if same_token(other, token) => *amount,
+        } if other == token => *amount,
         _ => 0,
     }
 }
@@ -57,7 +50,7 @@ pub(crate) fn issued_by(token: &Token, deed: &Deed) -> u64
         Deed::CashIssue {
             token: other,
             amount,
-        } if same_token(other, token) => *amount,
+        } if other == token => *amount,
         _ => 0,
     }
 }
@@ -70,7 +63,7 @@ pub(crate) fn exited_by(token: &Token, deed: &Deed) -> u64
         Deed::CashExit {
             token: other,
             amount,
-        } if same_token(other, token) => *amount,
+        } if other == token => *amount,
         _ => 0,
     }
 }
@@ -114,7 +107,7 @@ fn is_unsigned_cash(token: &Token, signers: PartySet, body: &StateData) -> bool
             token: other,
             owner,
             ..
-        } => same_token(other, token) && !signers.contains(*owner),
+        } => other == token && !signers.contains(*owner),
         _ => false,
     }
 }
@@ -145,7 +138,7 @@ pub(crate) fn spends(token: &Token, deed: &Deed) -> bool
 {
     match deed {
         Deed::CashMove => true,
-        Deed::CashExit { token: other, .. } => same_token(other, token),
+        Deed::CashExit { token: other, .. } => other == token,
         _ => false,
     }
 }

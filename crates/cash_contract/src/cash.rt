@@ -12,12 +12,12 @@ use tx_rules::first_true;
 
 /// The contract of Cash states, number 1. It refuses, by the first of these clauses that applies:
 ///
-/// 1. An output has amount 0.
+/// 1. An output Cash has amount 0.
 /// 2. A `CashIssue` or a `CashExit` has amount 0.
-/// 3. For some token the inputs and what is issued have another sum than the outputs and what is exited.
+/// 3. For some token the sum of the Cash inputs and what is issued differs from the sum of the Cash outputs and what is exited.
 /// 4. A `CashIssue` isn't signed by the token's issuer.
-/// 5. A `CashExit` isn't signed by the issuer and by every owner of an input of its token.
-/// 6. The owner of an input signs neither a `CashMove` nor a `CashExit` of its token.
+/// 5. A `CashExit` isn't signed by the issuer and by every owner of a Cash input of its token.
+/// 6. The owner of a Cash input signs neither a `CashMove` nor a `CashExit` of its token.
 #[derive(Clone, Copy, Debug, PartialEq, Eq)]
 pub struct Cash;
 

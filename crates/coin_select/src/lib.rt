@@ -1,5 +1,5 @@
-//! Selecting coins for a payment, as the vault of a Corda node does (Corda 4 documentation, "Vault", "soft locking").
-//! No function here takes memory.
+//! Selecting coins for a payment: unconsumed states whose sum reaches an amount (Corda 4 documentation, "Vault", "soft
+//! locking"). The order in which they are taken and the limit of 64 are this project's. No function here takes memory.
 #![tactic(auto)]
 
 ghost use Rattle.std.specs.Prelude.{◌≡◌, ◌<◌, IfOk, IfErr};

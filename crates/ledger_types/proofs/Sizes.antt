@@ -1,12 +1,12 @@
--- How many bytes the spellings of transactions, requests, answers and values have at most.
-use Rattle.std.proofs.Common.{◌≡◌, ◌+◌, ◌*◌, ◌<◌, ◌≤◌, ℕ, List, [], ◌∷◌, ◌++◌, length, Option, Some, None, ap, ◌∙◌, length-append, add_comm, arith}
+-- How many bytes the spellings of transactions, requests, answers, entries and values have at most.
+use Rattle.std.proofs.Common.{◌≡◌, ◌+◌, ◌*◌, ◌<◌, ◌≤◌, ℕ, zero, suc, List, [], ◌∷◌, ◌++◌, length, Option, Some, None, Result, Ok, Err, ap, ◌∙◌, length-append, add_comm, arith}
 use Rattle.std.specs.Prelude.{IfSome}
 use Rattle.std.specs.List.{flat_map, AllByRecursion}
 use Rattle.std.specs.Int.{w16, w32, w64}
 use Rattle.std.proofs.lemmas.List.Concat.{flat_map-cons}
 use Rattle.std.proofs.Math.Nat.{suc-mul, mul-le-mul_right}
 use Rattle.net_base.specs.declared.names.Tag.{Tag}
-use Rattle.net_base.specs.Reading.{number}
+use Rattle.net_base.specs.Reading.{number, Puts}
 use Rattle.net_base.specs.Forms.{list8, bytes16, option_of, ListWithin}
 use Rattle.net_base.specs.Fields.{wide16, wide32, wide64}
 use Rattle.net_base.specs.Values.{IsHash, hash, IsParty, party, IsMoment, moment}
@@ -21,7 +21,7 @@ use Rattle.ledger_types.specs.declared.value.Value.TheVariants as v
 use Rattle.ledger_types.specs.States.{IsStateData, state_data, IsTxState, tx_state}
 use Rattle.ledger_types.specs.Txs.{IsDeed, deed, IsCommand, command, IsWindow, window, IsTx, tx, IsTagList, IsSignedTx, signed_tx}
 use Rattle.ledger_types.specs.Torn.{IsTornPart, torn_part, IsTornGroup, shown_of, torn_group, shown_in, IsTornTx, torn_tx}
-use Rattle.ledger_types.specs.Requests.{IsRequest, request, IsConflictItem, conflict_item, IsNotaryAnswer, notary_answer}
+use Rattle.ledger_types.specs.Requests.{IsRequest, request, IsConflictItem, conflict_item, IsNotaryAnswer, notary_answer, IsEntry, entry}
 use Rattle.ledger_types.specs.Values.{IsValue, value}
 
 -- spellings within the limits have at most so many bytes
@@ -77,6 +77,11 @@ option_fits within spelling n fits (Some v) h = omega (arith, fits v h)
 -- two parts, one behind the other
 pub joined : (a b : List ℕ) (m n : ℕ) → length a ≤ m → length b ≤ n → length (a ++ b) ≤ m + n
 joined a b m n ha hb = omega (arith, length-append a b, ha, hb)
+
+-- what was put, or nothing, is as short as its bytes
+pub put_fits : {U E : Type 0} (bytes old new : List ℕ) (result : Result U E) (n : ℕ) → Puts bytes result old new → length bytes ≤ n → length new ≤ length old + n
+put_fits bytes old new (Ok done) n puts few = omega (arith, ap length puts, length-append old bytes, few)
+put_fits bytes old new (Err e) n puts few = omega (arith, ap length puts)
 
 hash_fits : Fits IsHash hash 32
 hash_fits h is = omega (arith, is)
@@ -151,7 +156,7 @@ tx_fits t h =
 tags_fit : Fits IsTagList (λ (tags : List Tag). list8 tag tags) 1041
 tags_fit tags h = list_fits IsTag tag 65 16 tag_fits tags (h.0, h.1.0)
 
--- a signed_tx transaction in at most 6,059
+-- with 16 tags in at most 6,059
 pub signed_fits : Fits IsSignedTx signed_tx 6059
 signed_fits s h = joined (tx s.tx) (list8 tag s.tags) 5018 1041 (tx_fits s.tx h.0) (tags_fit s.tags h.1)
 
@@ -160,32 +165,49 @@ part_fits p h =
     let bytes = joined (number w16 (length p.bytes)) p.bytes 2 64 (number16_fits (length p.bytes)) h.1 in
     joined (hash p.nonce) (bytes16 p.bytes) 32 66 (hash_fits p.nonce h.0) bytes
 
-group_fits : (g : TornGroup) → IsTornGroup g → length (torn_group g) ≤ 33 + shown_of g * 98
-group_fits (Hidden root) h = let fits = hash_fits root h in omega (arith, fits)
-group_fits (Shown parts) h = let items = items_fit IsTornPart torn_part 98 part_fits parts h.1 in omega (arith, items)
+-- whether a group shows its parts, as a number
+abbrev is_shown : TornGroup → ℕ
+is_shown (Hidden root) = 0
+is_shown (Shown parts) = 1
 
-groups_fit : (gs : List TornGroup) → AllByRecursion IsTornGroup gs → length (flat_map torn_group gs) ≤ length gs * 33 + shown_in gs * 98
-groups_fit [] all = omega arith
+-- how many groups show their parts
+abbrev count_shown : List TornGroup → ℕ
+count_shown [] = 0
+count_shown (g ∷ gs) = is_shown g + count_shown gs
+
+-- a group that shows its parts has 2 bytes beside them, a hidden one 33
+group_fits : (g : TornGroup) → IsTornGroup g → (length (torn_group g) + is_shown g * 31 ≤ 33 + shown_of g * 98) × (shown_of g ≤ is_shown g * 64)
+group_fits (Hidden root) h = let fits = hash_fits root h in (omega (arith, fits), omega arith)
+group_fits (Shown parts) h = let items = items_fit IsTornPart torn_part 98 part_fits parts h.1 in (omega (arith, items), omega (arith, h.0))
+
+groups_fit : (gs : List TornGroup) → AllByRecursion IsTornGroup gs → (length (flat_map torn_group gs) + count_shown gs * 31 ≤ length gs * 33 + shown_in gs * 98) × (shown_in gs ≤ count_shown gs * 64)
+groups_fit [] all = (omega arith, omega arith)
 groups_fit (g ∷ gs) all =
     let rest = groups_fit gs all.1 in
     let one = group_fits g all.0 in
     let parts = ap length (flat_map-cons torn_group g gs) in
     let both = length-append (torn_group g) (flat_map torn_group gs) in
-    omega (arith, rest, one, parts, both)
+    (omega (arith, rest.0, one.0, parts, both), omega (arith, rest.1, one.1))
 
--- a transaction of which not all is shown in at most 9,738
-pub torn_fits : Fits IsTornTx torn_tx 9738
+-- at most 9 groups with 96 parts: where all 96 are shown, two groups show them
+most_shown : (bytes groups parts k : ℕ) → bytes + k * 31 ≤ groups * 33 + parts * 98 → parts ≤ k * 64 → groups ≤ 9 → parts ≤ 96 → bytes ≤ 9643
+most_shown bytes groups parts zero all each few some = omega (arith, all, each, few, some)
+most_shown bytes groups parts (suc zero) all each few some = omega (arith, all, each, few, some)
+most_shown bytes groups parts (suc (suc k)) all each few some = omega (arith, all, few, some)
+
+-- a transaction of which not all is shown in at most 9,676
+pub torn_fits : Fits IsTornTx torn_tx 9676
 torn_fits t h =
     let groups = groups_fit t.groups h.1.0.1 in
-    let all : length (list8 torn_group t.groups) ≤ 9706 = omega (arith, groups, h.1.0.0, h.1.1) in
-    joined (hash t.id) (list8 torn_group t.groups) 32 9706 (hash_fits t.id h.0) all
+    let bytes = most_shown (length (flat_map torn_group t.groups)) (length t.groups) (shown_in t.groups) (count_shown t.groups) groups.0 groups.1 h.1.0.0 h.1.1 in
+    joined (hash t.id) (list8 torn_group t.groups) 32 9644 (hash_fits t.id h.0) (omega (arith, bytes))
 
--- a request in at most 9,808
-pub request_fits : Fits IsRequest request 9808
+-- a request in at most 9,746
+pub request_fits : Fits IsRequest request 9746
 request_fits r h =
-    joined (party r.party) _ 1 9807 (party_fits r.party h.0)
-    (joined (number w32 r.flow) _ 4 9803 (number32_fits r.flow)
-    (joined (torn_tx r.torn) (tag r.tag) 9738 65 (torn_fits r.torn h.1.1.0) (tag_fits r.tag h.1.1.1)))
+    joined (party r.party) _ 1 9745 (party_fits r.party h.0)
+    (joined (number w32 r.flow) _ 4 9741 (number32_fits r.flow)
+    (joined (torn_tx r.torn) (tag r.tag) 9676 65 (torn_fits r.torn h.1.1.0) (tag_fits r.tag h.1.1.1)))
 
 -- an item of a conflict in 69
 conflict_item_fits : Fits IsConflictItem conflict_item 69
@@ -201,6 +223,13 @@ answer_fits (Conflict list) h =
     omega (arith, items, h.0)
 answer_fits (OutsideWindow now) h = let fits = moment_fits now h in omega (arith, fits)
 answer_fits other h = omega arith
+
+-- an entry of a notary's book in at most 17,573
+pub entry_fits : Fits IsEntry entry 17573
+entry_fits e h =
+    let inputs = list_fits IsStateRef state_ref 36 64 ref_fits e.inputs h.1.0 in
+    joined (request e.request) _ 9746 7827 (request_fits e.request h.0)
+    (joined (list8 state_ref e.inputs) (notary_answer e.answer) 2305 5522 inputs (answer_fits e.answer h.1.1))
 
 -- a value in at most 9,809
 pub value_fits : Fits IsValue value 9809

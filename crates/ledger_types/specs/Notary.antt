@@ -76,7 +76,7 @@ answer_shown mark me entries q now v =
     else if list_any (signs q.torn.id) entries then answer.Signed (tag_by mark me q.torn.id)
     else answer_unsigned mark me q.torn.id now v.window (conflicts entries q.torn.id v)
 
--- what a notary answers to a request that no entry repeats: that the tear-off is bad, or that it names another notary; else the answer to a good one
+-- what a notary answers to a request that no entry repeats: that the tear-off is bad, or that it names no notary or another one; else the answer to a good one
 abbrev pub answer_torn : (Party → Hash32 → Hash32) → Party → List Entry → Request → Moment → Option Visible → NotaryAnswer
 answer_torn mark me entries q now None = answer.BadTear
 answer_torn mark me entries q now (Some v) = if is_party me v.notary then answer_shown mark me entries q now v else answer.WrongNotary

@@ -10,7 +10,7 @@ pub struct LedgerChange {
     pub recorded: Option<SignedTx>,
     /// States that are soft-locked.
     pub locked: RefList,
-    /// The number of the flow whose transition it is.
+    /// The number of the flow whose transition it is, or 0 where no flow changes.
     pub owner: u32,
     /// Whether that flow ends, which releases its soft locks.
     pub ended: bool,

@@ -1,5 +1,8 @@
 //! The values of the ledger: states, transactions and tear-offs, what a notary is asked and answers, and
 //! what flows hand to one another, each with its one spelling in bytes; and the id of a transaction.
+//!
+//! A limit or an order that a type's comment names is one of its spelling and no invariant of the type: `encode` asks for it,
+//! and what `decode` gives keeps it.
 #![tactic(auto)]
 
 mod change;

@@ -1,6 +1,6 @@
 //! What a notary is asked, answers and books.
 
-ghost use Rattle.std.specs.Prelude.{◌≡◌, ◌<◌, IfOk};
+ghost use Rattle.std.specs.Prelude.{◌≡◌, ◌<◌, ◌≤◌, ◌+◌, length, IfOk};
 ghost use Rattle.net_base.specs.Parts.{Decodes};
 ghost use Rattle.net_base.specs.Reading.{Puts};
 ghost use Rattle.component_merkle.specs.Merkle.{digest_of};
@@ -23,7 +23,7 @@ pub struct Request {
     /// That party's flow that asks.
     pub flow: u32,
     pub torn: TornTx,
-    /// The party's tag over the transaction's id.
+    /// The party's tag over the transaction's id; a notary refuses another.
     pub tag: Tag,
 }
 
@@ -294,10 +294,11 @@ impl NotaryAnswer {
 }
 
 impl Entry {
-    /// Writes the spelling at the end of `out`, which want of memory leaves as it was.
+    /// Writes the spelling, at most 17,573 bytes, at the end of `out`, which want of memory leaves as it was.
     pub fn encode(&self, alloc: Global, out: &mut Writer) -> Result<(), AllocError>
         requires { IsEntry self.now }
-        ensures { Puts (entry self.now) result out.old out.new }
+        ensures text { Puts (entry self.now) result out.old out.new }
+        ensures short { length out.new ≤ length out.old + 17573 }
     {
         encode(alloc, self, out)
     }

@@ -1,3 +1,5 @@
+mod limits;
+
 use super::*;
 use hex::FromHex;
 use net_base::{
@@ -395,6 +397,18 @@ fn windows_contracts_and_consumers(rt: HostRuntime) -> Result<(), Fail> {
     window.known();
     for (now, holds) in [(2, false), (3, true), (4, true), (5, false)] {
         assert_eq!(rt; window.holds(Moment(now)), holds, "{now}");
+    }
+    for (from, until, inside) in [
+        (5, 5, [false, false, false, false, false]),
+        (5, 9, [false, true, true, true, false]),
+    ] {
+        let window = Window {
+            from: Some(Moment(from)),
+            until: Some(Moment(until)),
+        };
+        for (now, holds) in [4, 5, 6, 8, 9].iter().zip(inside) {
+            assert_eq!(rt; window.holds(Moment(*now)), holds, "{from} {until} {now}");
+        }
     }
     let open = Window {
         from: None,

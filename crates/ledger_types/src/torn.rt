@@ -28,7 +28,7 @@ pub type PartList = ListOf<TornPart>;
 pub enum TornGroup {
     /// Only the group's value is told.
     Hidden { root: Hash32 },
-    /// Every component is shown, at most 64.
+    /// The components, at most 64: all of them, where the groups give the tear-off's id.
     Shown { parts: PartList },
 }
 
@@ -36,7 +36,7 @@ pub enum TornGroup {
 pub type TornList = ListOf<TornGroup>;
 
 /// A tear-off: a transaction of which only some component groups are shown (Corda 4 documentation,
-/// "Transaction tear-offs"). It has at most 9 groups, with at most 96 shown components together.
+/// "Transaction tear-offs"). It is spelt with at most 9 groups, and at most 96 shown components together.
 #[derive(Debug, Drop)]
 pub struct TornTx {
     pub id: Hash32,

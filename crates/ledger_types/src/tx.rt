@@ -1,6 +1,6 @@
 //! Transactions.
 
-ghost use Rattle.std.specs.Prelude.{◌≡◌, ◌<◌, IfOk};
+ghost use Rattle.std.specs.Prelude.{◌≡◌, ◌<◌, ◌≤◌, ◌+◌, length, IfOk};
 ghost use Rattle.net_base.specs.Parts.{Decodes};
 ghost use Rattle.net_base.specs.Reading.{Puts};
 ghost use Rattle.ledger_types.specs.Windows.{has_begun, is_before_end, window_holds};
@@ -108,7 +108,7 @@ pub struct Tx {
     pub references: RefList,
 }
 
-/// A transaction with tags over its id, at most 16, strictly ascending by party.
+/// A transaction with tags, at most 16, strictly ascending by party. That they are over its id is not asked of a spelling.
 #[derive(Debug, Drop)]
 pub struct SignedTx {
     pub tx: Tx,
@@ -290,10 +290,11 @@ impl Spelt for Tx {
 }
 
 impl Tx {
-    /// Writes the spelling at the end of `out`, which want of memory leaves as it was.
+    /// Writes the spelling, at most 5,018 bytes, at the end of `out`, which want of memory leaves as it was.
     pub fn encode(&self, alloc: Global, out: &mut Writer) -> Result<(), AllocError>
         requires { IsTx self.now }
-        ensures { Puts (tx self.now) result out.old out.new }
+        ensures text { Puts (tx self.now) result out.old out.new }
+        ensures short { length out.new ≤ length out.old + 5018 }
     {
         encode(alloc, self, out)
     }
@@ -352,10 +353,11 @@ impl Spelt for SignedTx {
 }
 
 impl SignedTx {
-    /// Writes the spelling at the end of `out`, which want of memory leaves as it was.
+    /// Writes the spelling, at most 6,059 bytes, at the end of `out`, which want of memory leaves as it was.
     pub fn encode(&self, alloc: Global, out: &mut Writer) -> Result<(), AllocError>
         requires { IsSignedTx self.now }
-        ensures { Puts (signed_tx self.now) result out.old out.new }
+        ensures text { Puts (signed_tx self.now) result out.old out.new }
+        ensures short { length out.new ≤ length out.old + 6059 }
     {
         encode(alloc, self, out)
     }

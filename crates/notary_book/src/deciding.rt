@@ -202,8 +202,6 @@ impl Book {
     ///    first, at most 80.
     /// 7. `OutsideWindow` where there is a time window that doesn't hold the moment.
     /// 8. `Signed` with the notary's tag.
-    ///
-    /// It is built on look-ups in the book's indices, and goes through no entries.
     #[tactic(auto, unfolding(ledger_types::specs::Notary::reply))]
     pub fn decide<S: Signer>(
         &self,
@@ -219,6 +217,7 @@ impl Book {
         ensures fresh { IfOk result (λ d. d.fresh ≡ (reply (S.mark_of signer.now) self.now.entries request.now me.now now).fresh) }
         ensures limits { IsParty me.now.party → IfOk result (λ d. IsNotaryAnswer d.answer) }
     {
+        // Each look-up is in the book's indices, so no list of entries is gone through.
         match self.find_repeated(request) {
             Some(entry) => Ok(Decision {
                 answer: entry.answer.copy(alloc)?,

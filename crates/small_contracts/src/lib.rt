@@ -1,7 +1,7 @@
 //! The contracts that govern time locks, facts and Ious.
 //!
-//! Each says by which of its clauses it refuses a transaction (Corda 4 documentation, "Contracts"). No function here takes
-//! memory.
+//! A contract accepts or refuses a transaction (Corda 4 documentation, "Contracts"). What the clauses of these are, and their
+//! numbers, are this project's; each says by which of its clauses it refuses. No function here takes memory.
 #![tactic(auto)]
 
 mod commands;

@@ -1,17 +1,10 @@
 //! What a lender is owed and paid, in 128 bits.
 
 ghost use Rattle.std.specs.Prelude.{◌≡◌};
-ghost use Rattle.ledger_types.specs.Names.{token_eq};
 ghost use Rattle.small_contracts.specs.Ious.{paid_by, owed_by, paid_in, owed_in};
 
 use ledger_types::{StateData, TxState};
 use net_base::{Party, Token};
-
-fn same_token(a: &Token, b: &Token) -> bool
-    ensures { result ≡ token_eq a.now b.now }
-{
-    a.issuer == b.issuer && a.code == b.code
-}
 
 fn paid_by(party: Party, token: &Token, body: &StateData) -> u64
     ensures { result ≡ paid_by party token.now body.now }
@@ -21,7 +14,7 @@ fn paid_by(party: Party, token: &Token, body: &StateData) -> u64
             token: other,
             amount,
             owner,
-        } if owner.0 == party.0 && same_token(other, token) => *amount,
+        } if owner.0 == party.0 && other == token => *amount,
         _ => 0,
     }
 }
@@ -35,7 +28,7 @@ fn owed_by(party: Party, token: &Token, body: &StateData) -> u64
             token: other,
             amount,
             ..
-        } if lender.0 == party.0 && same_token(other, token) => *amount,
+        } if lender.0 == party.0 && other == token => *amount,
         _ => 0,
     }
 }

@@ -186,7 +186,7 @@ impl Store {
         requires few { length self.old.list + 1 < 2 ^ 32 }
         ensures fresh { result ≡ not (is_stored self.old.list (tx_id stx.tx)) }
         ensures list { self.new.list ≡ (if result then self.old.list ++ (tx_id stx.tx, stx) ∷ [] else self.old.list) }
-        ensures room { self.old.room ≤ self.new.room + 1 }
+        ensures room { self.old.room ≤ self.new.room + (if result then 1 else 0) }
     {
         let id = stx.tx.id();
         if self.has(&id) {

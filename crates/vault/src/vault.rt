@@ -23,6 +23,7 @@ use std::marker::Model;
 
 /// The unconsumed states that are relevant to a party, in order of recording and then of place, each with the flow that has it
 /// soft-locked, and each within its limits. What was consumed is not kept: the list is of unconsumed states alone.
+// Each call but `new`, `make_room` and `keeps_limits` goes through the states; `reserve` until it has found 64 coins.
 #[derive(Drop)]
 pub struct Vault {
     party: Party,
@@ -64,7 +65,7 @@ impl Vault {
     }
 
     /// Notes a recorded transaction: what it consumes goes, and its relevant outputs come, none of them locked. It takes no
-    /// memory. It goes through the states.
+    /// memory.
     ///
     /// Where the states were the party's vault over some recorded transactions and locks, and this transaction may be recorded
     /// behind them, they are its vault over these and this one.
@@ -89,7 +90,7 @@ impl Vault {
         ListOf::from_slice(alloc, self.states.as_slice())
     }
 
-    /// The sum of the Cash of a token, locked or not. It goes through the states.
+    /// The sum of the Cash of a token, locked or not.
     pub fn balance(&self, token: &Token) -> u128
         ensures { result ≡ balance_of token.now self.now.held }
     {
@@ -114,7 +115,7 @@ impl Vault {
     }
 
     /// Names the first coins of a token that are worth the amount, of the first 64, and no more than are needed. It locks
-    /// nothing, and goes through the states until it has found 64 coins.
+    /// nothing.
     ///
     /// Each of the coins is unconsumed Cash of the token that the party owns, that nothing encumbers and no flow has locked.
     /// Where no state is held twice, none is named twice: so `lock` may be asked to lock all of them.
@@ -139,15 +140,14 @@ impl Vault {
         self.first_worth(alloc, token, amount)
     }
 
-    /// Whether the reference names a coin of some token: unconsumed Cash that nothing encumbers and no flow has locked. It
-    /// goes through the states.
+    /// Whether the reference names a coin of some token: unconsumed Cash that nothing encumbers and no flow has locked.
     pub fn is_coin(&self, reference: &StateRef) -> bool
         ensures { result ≡ has_coin self.now.held reference.now }
     {
         has_coin(self.states.as_slice(), reference)
     }
 
-    /// Soft-locks coins for a flow. `is_coin` tells which states are coins. It takes no memory, and goes through the states.
+    /// Soft-locks coins for a flow. `is_coin` tells which states are coins. It takes no memory.
     pub fn lock(&mut self, flow: u32, list: &RefList)
         requires coins { list_all (has_coin self.old.held) list.now ≡ true }
         requires once { has_repeat ref_eq list.now ≡ false }
@@ -159,7 +159,7 @@ impl Vault {
         lock_each(&mut self.states, flow, list.as_slice());
     }
 
-    /// Releases all that a flow has locked. It takes no memory, and goes through the states.
+    /// Releases all that a flow has locked. It takes no memory.
     pub fn release(&mut self, flow: u32)
         ensures party { self.new.party ≡ self.old.party }
         ensures held { self.new.held ≡ map (freed_of flow) self.old.held }

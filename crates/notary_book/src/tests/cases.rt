@@ -4,6 +4,7 @@ use super::{BAD, PAY, answer, node, reply_to, request_of};
 use crate::Book;
 use ledger_types::{ConflictItem, Entry, NotaryAnswer, RefKind, consumer_hash};
 use net_base::{Hash32, Moment, Tag};
+use signing::{KeyedDigest, Signer};
 use std::alloc::Global;
 use std::test::Fail;
 
@@ -65,10 +66,11 @@ fn is_twice(answer: &NotaryAnswer, consumer: &Hash32) -> bool {
     }
 }
 
-/// Makes a tag one over another id, or one whose mark doesn't check.
+/// Makes a tag one over another id, which checks, or one whose mark doesn't check.
 fn spoil(tag: &mut Tag, is_of_another: bool) {
     if is_of_another {
         tag.of = Hash32([9; 32]);
+        tag.mark = KeyedDigest.mark(tag.by, &tag.of);
     } else {
         tag.mark = Hash32([9; 32]);
     }
