@@ -19,6 +19,7 @@ pub mod QuietingSteps
 pub mod QuietingRounds
 pub mod QuietingRuns
 pub mod Quieting
+pub mod Lowering
 pub mod Lengthening
 pub mod Reaching
 pub mod Standing

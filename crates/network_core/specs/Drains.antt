@@ -1,7 +1,9 @@
 -- A drain: rounds of turns, posts and deliveries, until nothing is left to do.
 use Rattle.std.specs.Prelude.{◌≡◌, ◌⊎◌, Bool, ℕ, zero, suc, ◌+◌, ◌-◌, ◌<◌, ◌≤◌, ◌==◌, if◌then◌else◌, true, false, List, [], ◌∷◌, length, slice_get, Option, Some, None, Result, Ok, Err}
+use Rattle.std.proofs.Common.{inl, inr}
 use Rattle.flow_machine.specs.Machine.{Machine}
 use Rattle.net_model.specs.Environment.{Environment}
+use Rattle.net_model.specs.Left.{left}
 use Rattle.session_wire.specs.Sessions.{Session}
 use Rattle.node_tables.specs.Journals.{Reads, state_of}
 use Rattle.node_core.specs.Seen.{NodeSeen, picked_at}
@@ -11,7 +13,7 @@ use Rattle.network_core.specs.declared.net.Turning.{Turning}
 use Rattle.network_core.specs.declared.net.Turning.TheVariants as turning
 use Rattle.network_core.specs.declared.net.Hearing.{Hearing}
 use Rattle.network_core.specs.declared.net.Hearing.TheVariants as heard_as
-use Rattle.network_core.specs.Worlds.{World, NodeWorld, NetSeen, KeepsWorld, Choice, states_of, came_at}
+use Rattle.network_core.specs.Worlds.{World, NodeWorld, NetSeen, KeepsWorld, Choice, states_of, came_at, Coherent}
 use Rattle.network_core.specs.Answers.{Parts}
 use Rattle.network_core.specs.Serves.{WorldPlace, WorldTurns, WorldPosts, WorldHands}
 
@@ -153,6 +155,24 @@ abbrev pub Drains : {F E : Type 0} → Environment F → World → Result Bool E
 Drains e w (Ok true) v = DrainStops e (Some (outcome.Refused 9)) w v
 Drains e w (Ok false) v = IsDrained e w v
 Drains e w (Err fault) v = DrainStops e None w v
+
+-- ---- how many rounds there can be
+
+-- how many records the front of a round committed before what stopped it
+abbrev pub in_front : {F : Type 0} (e : Environment F) (o : Option Outcome) (w v : World) → RoundStops e o w v → ℕ
+in_front e o w v (inl turns) = turns.1 + turns.5.0
+in_front e o w v (inr (inl posts)) = posts.1
+in_front e o w v (inr (inr hands)) = hands.2 + (hands.5.1 + hands.5.5.1)
+
+-- a drain of this world has at most so many rounds in which a record was committed; where it was stopped, so many with the records of the last one
+pub record RoundsAtMost {F : Type 0} (e : Environment F) (w : World) (most : ℕ) : Type 0 where
+  pub rounds : (r : ℕ) (u : World) → Rounds e r w u → r ≤ most
+  pub drained : (v : World) (drain : IsDrained e w v) → drain.0 ≤ most
+  pub stopped : (o : Option Outcome) (v : World) (drain : DrainStops e o w v) → drain.0 + in_front e o drain.1 v drain.3 ≤ most
+
+-- from a coherent world there are at most as many as the network of its journals may still do, whichever journal a power cut leaves of a node that is down
+abbrev pub RoundsAreBounded : {F : Type 0} → Machine F → Type 0
+RoundsAreBounded {F} m = (e : Environment F) → e.machine ≡ m → (w : World) → Coherent e w → (lists : List (List (List ℕ))) → Choice w lists → RoundsAtMost e w (left e (states_of e lists))
 
 -- ---- turns, posts and deliveries in any order
 

@@ -1,7 +1,9 @@
 ghost use Rattle.network_core.specs.Acknowledged.{AcknowledgedStandsOnce};
 ghost use Rattle.network_core.specs.Begins.{NewDisksAreCoherent};
-ghost use Rattle.network_core.specs.Drains.{DrainsByTurns};
+ghost use Rattle.network_core.specs.Drains.{DrainsByTurns, RoundsAreBounded};
 ghost use Rattle.network_core.specs.Worlds.{CoherentIsFaithful};
+
+use flow_machine::FlowSet;
 
 /// The law that whichever journals a power cut leaves of a coherent world, they are those of one run of the network, which leads to the
 /// states that these journals make.
@@ -19,6 +21,12 @@ pub fn new_disks_are_coherent<F>()
 /// ran out of memory, and else the last one alone did.
 pub fn drains_by_turns<F>()
     ensures { DrainsByTurns F }
+{}
+
+/// The law of every flow set that from a coherent world a drain has at most as many rounds in which a record is committed as `left` says of the
+/// network of the world's journals at its start, whichever journal a power cut leaves of a node that is down.
+pub fn rounds_are_bounded<F: FlowSet>()
+    ensures { RoundsAreBounded F.machine }
 {}
 
 /// The law that what a node that is up has in its journal stands once in the merged journals of every world that steps lead to from there,

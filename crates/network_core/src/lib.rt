@@ -16,6 +16,7 @@ mod steps;
 pub use begin::BeginRefused;
 pub use laws::{
     acknowledged_stands_once, coherent_is_faithful, drains_by_turns, new_disks_are_coherent,
+    rounds_are_bounded,
 };
 pub use net::Net;
 pub use steps::{Outcome, Step};

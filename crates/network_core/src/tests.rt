@@ -1,6 +1,6 @@
 use super::{
     BeginRefused, Net, Outcome, Step, acknowledged_stands_once, coherent_is_faithful,
-    drains_by_turns, new_disks_are_coherent,
+    drains_by_turns, new_disks_are_coherent, rounds_are_bounded,
 };
 use disk_mem::MemDisk;
 use flow_machine::{Counter, FlowSet};
@@ -137,6 +137,7 @@ fn a_node_runs(rt: HostRuntime) -> Result<(), Fail> {
     coherent_is_faithful::<Counter>();
     drains_by_turns::<Counter>();
     new_disks_are_coherent::<Counter>();
+    rounds_are_bounded::<Counter>();
     let mut net = begin::<Counter>(alloc, 1)?;
     assert_eq!(rt; net.nodes().len(), 1);
     let rows = [
