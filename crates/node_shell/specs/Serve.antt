@@ -24,7 +24,7 @@ use Rattle.node_shell.specs.declared.replies.Reply.TheVariants.{Silence, Quit, T
 
 -- ---- the text of a reply
 
--- the name of a refusal
+-- the name of a refusal; empty for a code that is none's
 abbrev pub name_of : ℕ → List ℕ
 name_of code =
     if code == 1 then codes "Syntax"
@@ -38,7 +38,9 @@ name_of code =
     else if code == 9 then codes "Full"
     else if code == 10 then codes "Backwards"
     else if code == 11 then codes "NoFlow"
-    else codes "Journal"
+    else if code == 12 then codes "NoTransaction"
+    else if code == 13 then codes "Journal"
+    else []
 
 -- what an outcome prints: one line, with its end
 abbrev pub outcome_text : Outcome → List ℕ
