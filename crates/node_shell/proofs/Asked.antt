@@ -1,7 +1,6 @@
 -- What a command comes to.
 use Rattle.std.proofs.Common.{◌≡◌, inl, inr, ℕ, true, false, List, [], Option, Some, None, Result, Ok, Err, refl, sym, ap, subst}
 use Rattle.std.specs.Prelude.{IfOk, IsErr}
-use Rattle.net_base.specs.declared.names.Identity.{Identity}
 use Rattle.flow_machine.specs.Machine.{Machine}
 use Rattle.flow_machine.specs.declared.flow_set.WordFault.{WordFault}
 use Rattle.net_model.specs.Environment.{Environment, environment}
@@ -163,8 +162,3 @@ module _ {F : Type 0} (m : Machine F) (f : Reads F) where
   pub line_responds : (old new : NetSeen) (line : List ℕ) (ws : List (List ℕ)) (reply : Option Reply) → has_no_answer line ≡ false → is_readable line ≡ true → ws ≡ words_of line
       → CommandResponds m f (command_of ws) ws old reply new → LineResponds m f line old reply new
   line_responds old new line ws reply some plain is h = rw (some, plain) (subst (λ (t : List (List ℕ)). CommandResponds m f (command_of t) t old reply new) is h)
-
-  -- want of memory before the words were read
-  pub line_unbegun : {E : Type 0} (net : NetSeen) (line : List ℕ) (result : Result Reply E) → has_no_answer line ≡ false → is_readable line ≡ true → IsErr result → LineResponds m f line net (given result) net
-  line_unbegun net line (Ok reply) some plain is = cc
-  line_unbegun net line (Err fault) some plain is = rw (some, plain) (unbegun m f net (step_of m (command_of (words_of line)) (words_of line)) (command_of (words_of line)) (words_of line))

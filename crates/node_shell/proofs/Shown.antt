@@ -189,10 +189,7 @@ up_not_none true None h is none = let e : false ≡ true = h.0 refl in cc
 up_not_none false None h is none = cc
 up_not_none b (Some x) h is none = cc
 
--- what is asked of the node at a place, which is down or up
-pub seen_none : (net : NetSeen) (p : ℕ) (reply : Reply) (asks : List (List ℕ) → Type 0) → slice_get net.nodes p ≡ None → IsRefused 2 reply → AtSeen net p reply asks
-seen_none net p reply asks none is = rw none is
-
+-- what is asked of a node that is down, and of one that is up
 pub seen_down : (net : NetSeen) (p : ℕ) (reply : Reply) (asks : List (List ℕ) → Type 0) (n : NodeSeen) → slice_get net.nodes p ≡ Some n → n.journal ≡ None → IsRefused 3 reply → AtSeen net p reply asks
 seen_down net p reply asks n at down is = rw (at, down) is
 
