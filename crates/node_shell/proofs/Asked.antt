@@ -1,7 +1,6 @@
 -- What a command comes to.
-use Rattle.std.proofs.Common.{◌≡◌, inl, inr, ℕ, true, false, List, [], Option, Some, None, Result, Ok, Err, refl, ap, subst}
-use Rattle.std.specs.Prelude.{IfOk, IsErr, drop, slice_index_or}
-use Rattle.net_base.specs.declared.names.Identity.{Identity}
+use Rattle.std.proofs.Common.{◌≡◌, inl, inr, ℕ, true, false, List, Option, Some, None, Result, Ok, Err, refl, sym, ap, subst}
+use Rattle.std.specs.Prelude.{IfOk, IsErr}
 use Rattle.flow_machine.specs.Machine.{Machine}
 use Rattle.flow_machine.specs.declared.flow_set.WordFault.{WordFault}
 use Rattle.net_model.specs.Environment.{Environment, environment}
@@ -10,13 +9,16 @@ use Rattle.network_core.specs.declared.steps.Outcome.{Outcome}
 use Rattle.network_core.specs.declared.steps.Step.{Step}
 use Rattle.network_core.specs.declared.steps.Step.TheVariants as step
 use Rattle.network_core.specs.Served.{Serve}
+use Rattle.network_core.specs.Answers.{Answered}
 use Rattle.network_core.specs.Worlds.{World, NetSeen, KeepsWorld}
 use Rattle.shell_words.specs.declared.commands.Command.{Command}
 use Rattle.shell_words.specs.declared.commands.Command.TheVariants as command
-use Rattle.shell_words.specs.Script.{command_of, words_of, has_no_answer, is_readable, has_mark}
+use Rattle.shell_words.specs.Script.{command_of, words_of, has_no_answer, is_readable}
 use Rattle.node_shell.specs.declared.replies.Reply.{Reply}
 use Rattle.node_shell.specs.declared.replies.Reply.TheVariants.{Told}
-use Rattle.node_shell.specs.Serve.{step_of, start_step, unmarked, place_of, Answers, AtNode, IsRefused, word_code, Comes, LineComes, StepComes, Serves, Leaves, InWorld}
+use Rattle.node_shell.specs.Serve.{step_of, start_step, started_by, place_of, Answers, Comes, LineComes, StepComes, Serves, Leaves}
+use Rattle.node_shell.specs.Responds.{StartsNone, IsShown, StepResponds, Responds, CommandResponds, LineResponds, given, came_to, ran_out}
+use Rattle.node_shell.proofs.Shown.{shown_answers}
 
 -- nothing was done
 pub still : {F : Type 0} (e : Environment F) (s : Option Step) (w : World) → Leaves e s w w
@@ -24,16 +26,49 @@ still e None w = refl
 still e (Some s) w = inl refl
 
 -- a step was made
-pub step_comes : {F E : Type 0} (e : Environment F) (w : World) (asked : Command) (ws : List (List ℕ)) (s : Step) (result : Result Reply E) (v : World) → step_of e asked ws ≡ Some s → StepComes e w s result v → Comes e w asked ws result v
+pub step_comes : {F E : Type 0} (e : Environment F) (w : World) (asked : Command) (ws : List (List ℕ)) (s : Step) (result : Result Reply E) (v : World) → step_of e.machine asked ws ≡ Some s → StepComes e w s result v → Comes e w asked ws result v
 step_comes e w asked ws s (Ok reply) v is h = rw is h
 step_comes e w asked ws s (Err fault) v is h = rw is (inr h)
 
-answer_serves : {F : Type 0} (e : Environment F) (w : World) (asked : Command) (ws : List (List ℕ)) (reply : Reply) → step_of e asked ws ≡ None → Answers e w asked ws reply → Serves e w asked ws reply w
-answer_serves e w asked ws reply is h = rw is (h, refl)
-
-answer_comes : {F E : Type 0} (e : Environment F) (w : World) (asked : Command) (ws : List (List ℕ)) (result : Result Reply E) → step_of e asked ws ≡ None → IfOk result (λ reply. Answers e w asked ws reply) → Comes e w asked ws result w
+answer_comes : {F E : Type 0} (e : Environment F) (w : World) (asked : Command) (ws : List (List ℕ)) (result : Result Reply E) → step_of e.machine asked ws ≡ None → IfOk result (λ reply. Answers e w asked ws reply) → Comes e w asked ws result w
 answer_comes e w asked ws (Ok reply) is h = rw is (h, refl)
 answer_comes e w asked ws (Err fault) is h = rw is refl
+
+all_ok : {E : Type 0} {P Q : Reply → Type 0} (result : Result Reply E) → ((reply : Reply) → P reply → Q reply) → IfOk result P → IfOk result Q
+all_ok (Ok reply) to h = to reply h
+all_ok (Err fault) to h = h
+
+-- what a step answers does not depend on how want of memory is told
+abbrev ok_outcome : (E : Type 0) → Outcome → Result Outcome E
+ok_outcome E o = Ok o
+
+abbrev err_outcome : {E : Type 0} → E → Result Outcome E
+err_outcome fault = Err fault
+
+module _ {F : Type 0} (E : Type 0) (m : Machine F) (f : Reads F) (old new : NetSeen) where
+  as_told : (s : Step) (o : Outcome) → Answered m f s old (ok_outcome E o) new → Answered m f s old (came_to o) new
+  as_told (step.Clock to) o h = h
+  as_told (step.Start node class args) o h = h
+  as_told (step.Turn node pick) o h = h
+  as_told (step.Post node) o h = h
+  as_told (step.Deliver node at) o h = h
+  as_told (step.Repeat node at) o h = h
+  as_told (step.Lose node at) o h = h
+  as_told (step.Cut node calls kind) o h = h
+  as_told (step.Boot node) o h = h
+  as_told step.Drain o h = h
+
+  as_untold : (s : Step) (fault : E) → Answered m f s old (err_outcome fault) new → Answered m f s old ran_out new
+  as_untold (step.Clock to) fault h = h
+  as_untold (step.Start node class args) fault h = h
+  as_untold (step.Turn node pick) fault h = h
+  as_untold (step.Post node) fault h = h
+  as_untold (step.Deliver node at) fault h = h
+  as_untold (step.Repeat node at) fault h = h
+  as_untold (step.Lose node at) fault h = h
+  as_untold (step.Cut node calls kind) fault h = h
+  as_untold (step.Boot node) fault h = h
+  as_untold step.Drain fault h = h
 
 module _ {F : Type 0} (m : Machine F) (f : Reads F) where
   -- an outcome is told
@@ -49,28 +84,65 @@ module _ {F : Type 0} (m : Machine F) (f : Reads F) where
       → KeepsWorld m f old new (λ e w v. Comes e w (command_of ws) ws result v)
   asked_as old new asked ws result is keeps = subst (λ (a : Command). KeepsWorld m f old new (λ e w v. Comes e w a ws result v)) is keeps
 
-  pub made : {E : Type 0} (old new : NetSeen) (asked : Command) (ws : List (List ℕ)) (s : Step) (result : Result Reply E) → ((id : Identity) → step_of (environment m f id) asked ws ≡ Some s)
+  pub made : {E : Type 0} (old new : NetSeen) (asked : Command) (ws : List (List ℕ)) (s : Step) (result : Result Reply E) → step_of m asked ws ≡ Some s
       → KeepsWorld m f old new (λ e w v. StepComes e w s result v) → KeepsWorld m f old new (λ e w v. Comes e w asked ws result v)
   made old new asked ws s result is keeps id w shows coherent =
       let k = keeps id w shows coherent in
-      (k.0, k.1, k.2, step_comes (environment m f id) w asked ws s result k.0 (is id) k.3)
+      (k.0, k.1, k.2, step_comes (environment m f id) w asked ws s result k.0 is k.3)
 
-  pub answered : {E : Type 0} (net : NetSeen) (asked : Command) (ws : List (List ℕ)) (result : Result Reply E) → ((id : Identity) → step_of (environment m f id) asked ws ≡ None)
-      → InWorld m f net (λ e w. IfOk result (λ reply. Answers e w asked ws reply)) → KeepsWorld m f net net (λ e w v. Comes e w asked ws result v)
-  answered net asked ws result is given id w shows coherent =
-      (w, shows, coherent, answer_comes (environment m f id) w asked ws result (is id) (given id w shows coherent))
+  pub answered : {E : Type 0} (net : NetSeen) (asked : Command) (ws : List (List ℕ)) (result : Result Reply E) → step_of m asked ws ≡ None
+      → IfOk result (IsShown m f net asked ws) → KeepsWorld m f net net (λ e w v. Comes e w asked ws result v)
+  answered net asked ws result is shown id w shows coherent =
+      let e = environment m f id in
+      (w, shows, coherent, answer_comes e w asked ws result is (all_ok result (shown_answers e net w shows coherent asked ws) shown))
 
   -- a start of a flow whose words are known
-  pub started : {E : Type 0} (old new : NetSeen) (node : ℕ) (ws : List (List ℕ)) (class : ℕ) (args : List ℕ) (result : Result Reply E) → unmarked (has_mark (drop 3 ws)) (m.worded (slice_index_or ws 2 []) (drop 3 ws)) ≡ Ok (class, args)
+  pub started : {E : Type 0} (old new : NetSeen) (node : ℕ) (ws : List (List ℕ)) (class : ℕ) (args : List ℕ) (result : Result Reply E) → started_by m ws ≡ Ok (class, args)
       → KeepsWorld m f old new (λ e w v. StepComes e w (step.Start (place_of node) class args) result v) → KeepsWorld m f old new (λ e w v. Comes e w (command.Start node) ws result v)
   started old new node ws class args result is keeps =
-      made old new (command.Start node) ws (step.Start (place_of node) class args) result (λ id. ap (λ x. start_step (place_of node) x) is) keeps
+      made old new (command.Start node) ws (step.Start (place_of node) class args) result (ap (λ x. start_step (place_of node) x) is) keeps
 
   -- words that start no flow
-  pub unstarted : (net : NetSeen) (node : ℕ) (ws : List (List ℕ)) (fault : WordFault) (reply : Reply) → unmarked (has_mark (drop 3 ws)) (m.worded (slice_index_or ws 2 []) (drop 3 ws)) ≡ Err fault
-      → InWorld m f net (λ e w. AtNode w (place_of node) reply (λ x. IsRefused (word_code fault) reply)) → KeepsWorld m f net net (λ e w v. Serves e w (command.Start node) ws reply v)
-  unstarted net node ws fault reply is given id w shows coherent =
-      (w, shows, coherent, answer_serves (environment m f id) w (command.Start node) ws reply (ap (λ x. start_step (place_of node) x) is) (rw is (given id w shows coherent)))
+  none_shown : (net : NetSeen) (node : ℕ) (ws : List (List ℕ)) (fault : WordFault) (reply : Reply) → started_by m ws ≡ Err fault → StartsNone net (place_of node) (Err fault) reply → IsShown m f net (command.Start node) ws reply
+  none_shown net node ws fault reply is given = subst (λ x. StartsNone net (place_of node) x reply) (sym is) given
+
+  pub unstarted : (net : NetSeen) (node : ℕ) (ws : List (List ℕ)) (fault : WordFault) (reply : Reply) → started_by m ws ≡ Err fault → StartsNone net (place_of node) (Err fault) reply
+      → KeepsWorld m f net net (λ e w v. Serves e w (command.Start node) ws reply v)
+  unstarted net node ws fault reply is shown id w shows coherent =
+      let e = environment m f id in
+      let none : step_of m (command.Start node) ws ≡ None = ap (λ x. start_step (place_of node) x) is in
+      (w, shows, coherent, rw none (shown_answers e net w shows coherent (command.Start node) ws reply (none_shown net node ws fault reply is shown), refl))
+
+  -- ---- over any network
+
+  -- an outcome is told, and want of memory is
+  pub told_so : {E : Type 0} (old new : NetSeen) (s : Step) (answer : Result Outcome E) (o : Outcome) → answer ≡ Ok o → Answered m f s old answer new → StepResponds m f s old (Some (Told o)) new
+  told_so {E} old new s answer o is h = (o, as_told E m f old new s o (subst (λ r. Answered m f s old r new) is h), refl)
+
+  pub untold_so : {E G : Type 0} (old new : NetSeen) (s : Step) (result : Result Reply E) (fault : G) → IsErr result → Answered m f s old (err_outcome fault) new → StepResponds m f s old (given result) new
+  untold_so old new s (Ok reply) fault is h = cc
+  untold_so {G = G} old new s (Err why) fault is h = inr (as_untold G m f old new s fault h)
+
+  pub asked_responds : (old new : NetSeen) (asked : Command) (ws : List (List ℕ)) (reply : Option Reply) → asked ≡ command_of ws → CommandResponds m f asked ws old reply new → CommandResponds m f (command_of ws) ws old reply new
+  asked_responds old new asked ws reply is h = subst (λ (a : Command). CommandResponds m f a ws old reply new) is h
+
+  pub shown_responds : {E : Type 0} (net : NetSeen) (asked : Command) (ws : List (List ℕ)) (result : Result Reply E) → step_of m asked ws ≡ None → IfOk result (IsShown m f net asked ws) → CommandResponds m f asked ws net (given result) net
+  shown_responds net asked ws (Ok reply) is h = rw is (h, refl)
+  shown_responds net asked ws (Err fault) is h = rw is (tt, refl)
+
+  pub start_responds : (old new : NetSeen) (node : ℕ) (ws : List (List ℕ)) (class : ℕ) (args : List ℕ) (reply : Option Reply) → started_by m ws ≡ Ok (class, args)
+      → StepResponds m f (step.Start (place_of node) class args) old reply new → CommandResponds m f (command.Start node) ws old reply new
+  start_responds old new node ws class args reply is h = subst (λ x. Responds m f (start_step (place_of node) x) (command.Start node) ws old reply new) (sym is) h
+
+  pub none_responds : (net : NetSeen) (node : ℕ) (ws : List (List ℕ)) (fault : WordFault) (reply : Reply) → started_by m ws ≡ Err fault → StartsNone net (place_of node) (Err fault) reply
+      → CommandResponds m f (command.Start node) ws net (Some reply) net
+  none_responds net node ws fault reply is shown =
+      subst (λ x. Responds m f (start_step (place_of node) x) (command.Start node) ws net (Some reply) net) (sym is) (none_shown net node ws fault reply is shown, refl)
+
+  -- want of memory before a step was begun
+  pub unbegun : (net : NetSeen) (s : Option Step) (asked : Command) (ws : List (List ℕ)) → Responds m f s asked ws net None net
+  unbegun net None asked ws = (tt, refl)
+  unbegun net (Some s) asked ws = inl refl
 
 -- ---- a line
 
@@ -86,3 +158,7 @@ module _ {F : Type 0} (m : Machine F) (f : Reads F) where
       let k = keeps id w shows coherent in
       let e = environment m f id in
       (k.0, k.1, k.2, line_comes e w line result k.0 some plain (subst (λ (t : List (List ℕ)). Comes e w (command_of t) t result k.0) is k.3))
+
+  pub line_responds : (old new : NetSeen) (line : List ℕ) (ws : List (List ℕ)) (reply : Option Reply) → has_no_answer line ≡ false → is_readable line ≡ true → ws ≡ words_of line
+      → CommandResponds m f (command_of ws) ws old reply new → LineResponds m f line old reply new
+  line_responds old new line ws reply some plain is h = rw (some, plain) (subst (λ (t : List (List ℕ)). CommandResponds m f (command_of t) t old reply new) is h)

@@ -1,10 +1,12 @@
 -- A whole run: the nodes open and the script is played, or one does not open.
-use Rattle.std.proofs.Common.{◌≡◌, ◌⊎◌, inl, inr, ⊎_elim, ℕ, List, [], ◌∷◌, ◌++◌, length, map, Option, Some, refl, sym, ◌∙◌, ap, subst, arith, append_assoc}
+use Rattle.std.proofs.Common.{◌≡◌, ◌⊎◌, inl, inr, ⊎_elim, ℕ, true, false, List, [], ◌∷◌, ◌++◌, length, map, Option, Some, refl, sym, ◌∙◌, ap, subst, arith, append_assoc}
 use Rattle.std.specs.Prelude.{codes, decimal, None, ◌<◌, ◌≤◌}
 use Rattle.std.specs.List.{slice_get}
 use Rattle.std.proofs.lemmas.Option.{slice_get_within}
-use Rattle.outside.specs.Disk.{DiskView}
-use Rattle.disk_journal.specs.Journal.{journal_of, placed, refusal}
+use Rattle.outside.specs.Disk.{DiskView, IfTold}
+use Rattle.disk_journal.specs.Journal.{journal_of, placed, is_unformatted, formatted, refusal}
+use Rattle.disk_journal.proofs.Fresh.{unformatted_short, short_spells, refusal_unformatted}
+use Rattle.disk_journal.proofs.Records.{is_true}
 use Rattle.disk_journal.specs.declared.fault.OpenFault.{OpenFault}
 use Rattle.disk_journal.specs.declared.fault.OpenFault.TheVariants as open_fault
 use Rattle.net_base.specs.declared.names.Identity.{Identity}
@@ -25,9 +27,10 @@ use Rattle.network_core.proofs.Standing.{acknowledged_stands_once}
 use Rattle.network_core.proofs.Beginning.{first_at}
 use Rattle.node_shell.specs.declared.statuses.Status.{Status}
 use Rattle.node_shell.specs.declared.statuses.Status.TheVariants as status
+use Rattle.node_shell.specs.Serve.{Link, RunsShort}
 use Rattle.node_shell.specs.Story.{ScriptRun, IsScriptStatus, InSome}
-use Rattle.node_shell.specs.Runs.{over, number_of_status, Plays, Refuses, RunsAs, journal_line, PlaysOrRefuses, RefusedWith, IsOpeningStatus, Fails, OneFails, HasCause, MisfitsAt, IsUnready, IsToldWhy, KeepsOwn, KeepOwn, IsPlayedStatus, IsPlayedNumber, AllStay, MadeReady}
-use Rattle.node_shell.proofs.Readying.{fails_since}
+use Rattle.node_shell.specs.Runs.{over, number_of_status, Plays, Refuses, RunsAs, journal_line, PlaysOrRefuses, RefusedWith, IsOpeningStatus, Fails, OneFails, HasCause, MisfitsAt, IsUnready, IsToldWhy, KeepsOwn, KeepOwn, IsPlayedStatus, IsPlayedNumber, AllStay, MadeReady, GoesOrHalts, RunsAnyhow}
+use Rattle.node_shell.proofs.Readying.{fails_since, stay_then}
 use Rattle.node_shell.proofs.Reached.{script_reaches}
 use Rattle.node_shell.proofs.Resting.{counted, begun_openable, down_openable, made_openable, stay_openable, made_same, made_then, made_fewer, same_fewer, made_journals, same_journals, stands, rests, made_coherent, made_counted, counted_shows, refused_rests, down_fewer}
 
@@ -36,26 +39,66 @@ no_memory same = cc
 
 -- ---- why
 
+-- bytes that are refused are those of a journal that was begun and finished
+refused_begun : (id : Identity) (x : List ℕ) (why : OpenFault) → refusal id x ≡ Some why → is_unformatted x ≡ false
+refused_begun id x why is = by (is_true (is_unformatted x))
+  where
+    by : (is_unformatted x ≡ true) ⊎ (is_unformatted x ≡ false) → is_unformatted x ≡ false
+    by (inl young) = let none = refusal_unformatted id x young in cc
+    by (inr begun) = begun
+
+none_misfits : {F : Type 0} (f : Reads F) (id : Identity) → misfit f id.nodes id.party [] ≡ None
+unfolding misfit
+none_misfits f id = refl
+
+-- and so are those with a record that does not fit
+misfit_begun : {F : Type 0} (f : Reads F) (id : Identity) (x : List ℕ) (at : ℕ) → misfit f id.nodes id.party (placed 16 (journal_of x)) ≡ Some at → is_unformatted x ≡ false
+misfit_begun f id x at is = by (is_true (is_unformatted x))
+  where
+    by : (is_unformatted x ≡ true) ⊎ (is_unformatted x ≡ false) → is_unformatted x ≡ false
+    by (inl young) =
+        let none : misfit f id.nodes id.party (placed 16 (journal_of x)) ≡ None = ap (λ l. misfit f id.nodes id.party (placed 16 l)) (short_spells x (unformatted_short x young)) ∙ none_misfits f id in
+        cc
+    by (inr begun) = begun
+
+-- but after a fault a disk on which a journal was begun and finished keeps the same bytes
+abbrev KeepsBytes : BootFault → DiskView → DiskView → Type 0
+KeepsBytes why d b = (why ≡ boot.Fault → ⊥) → IfTold d b (λ x y. is_unformatted x.kept ≡ false → y.kept ≡ x.kept)
+
+not_foreign : boot.NotAJournal ≡ boot.Fault → ⊥
+not_foreign same = cc
+
+not_wrong : (found : Identity) → boot.WrongNode found ≡ boot.Fault → ⊥
+not_wrong found same = cc
+
+not_damaged : (at : ℕ) → boot.Damaged at ≡ boot.Fault → ⊥
+not_damaged at same = cc
+
 -- a refused opening has its cause
-refuses_cause : {F : Type 0} (f : Reads F) (id : Identity) (fault : OpenFault) (d b : DiskView) → SeenRefuses id fault (roomless d) (roomless b) → HasCause f id d (boot_of fault) b
-refuses_cause f id open_fault.Fault d b r = record { rose = r.0; uneasy = r.1 }
-refuses_cause f id open_fault.Memory d b r = tt
-refuses_cause f id open_fault.NotAJournal d b r = r
-refuses_cause f id (open_fault.WrongNode found) d b r = r
-refuses_cause f id (open_fault.Damaged at) d b r = λ tells. inl (r tells)
+refuses_cause : {F : Type 0} (f : Reads F) (id : Identity) (fault : OpenFault) (d b : DiskView) → KeepsBytes (boot_of fault) d b → SeenRefuses id fault (roomless d) (roomless b) → HasCause f id d (boot_of fault) b
+refuses_cause f id open_fault.Fault d b keeps r = record { rose = r.0; uneasy = r.1 }
+refuses_cause f id open_fault.Memory d b keeps r = tt
+refuses_cause f id open_fault.NotAJournal d b keeps r = λ tells. (r tells, keeps not_foreign tells (refused_begun id d.state.kept open_fault.NotAJournal (r tells)))
+refuses_cause f id (open_fault.WrongNode found) d b keeps r = λ tells. (r tells, keeps (not_wrong found) tells (refused_begun id d.state.kept (open_fault.WrongNode found) (r tells)))
+refuses_cause f id (open_fault.Damaged at) d b keeps r = λ tells. (inl (r tells), keeps (not_damaged at) tells (refused_begun id d.state.kept (open_fault.Damaged at) (r tells)))
 
 -- and so have records that do not fit
-unfit_cause : {F : Type 0} (f : Reads F) (id : Identity) (why : BootFault) (d b : DiskView) → Unfit f id (roomless d) why (roomless b) → HasCause f id d why b
-unfit_cause f id (boot.Damaged at) d b u = λ tells. inr (u.1.format tells, subst (λ l. misfit f id.nodes id.party l ≡ Some at) (u.1.told tells) u.2)
-unfit_cause f id boot.Memory d b u = tt
-unfit_cause f id boot.Fault d b u = absurd u
-unfit_cause f id boot.NotAJournal d b u = absurd u
-unfit_cause f id (boot.WrongNode found) d b u = absurd u
+unfit_cause : {F : Type 0} (f : Reads F) (id : Identity) (why : BootFault) (d b : DiskView) → KeepsBytes why d b → Unfit f id (roomless d) why (roomless b) → HasCause f id d why b
+unfit_cause f id (boot.Damaged at) d b keeps u = λ tells.
+    let is : misfit f id.nodes id.party (placed 16 (journal_of d.state.kept)) ≡ Some at = subst (λ l. misfit f id.nodes id.party l ≡ Some at) (u.1.told tells) u.2 in
+    (inr (u.1.format tells, is), keeps (not_damaged at) tells (misfit_begun f id d.state.kept at is))
+unfit_cause f id boot.Memory d b keeps u = tt
+unfit_cause f id boot.Fault d b keeps u = absurd u
+unfit_cause f id boot.NotAJournal d b keeps u = absurd u
+unfit_cause f id (boot.WrongNode found) d b keeps u = absurd u
 
 -- a boot that was refused has its cause
 boot_cause : {F : Type 0} (f : Reads F) (id : Identity) (why : BootFault) (d b : DiskView) → Unbooted f id (roomless d) why (roomless b) → HasCause f id d why b
 boot_cause f id why d b u =
-    ⊎_elim (λ (o : Unopened id (roomless d) why (roomless b)). subst (λ y. HasCause f id d y b) (sym o.1) (refuses_cause f id o.0 d b o.2)) (unfit_cause f id why d b) u.cause
+    ⊎_elim
+    (λ (o : Unopened id (roomless d) why (roomless b)). subst (λ y. HasCause f id d y b) (sym o.1) (refuses_cause f id o.0 d b (subst (λ y. KeepsBytes y d b) o.1 u.bytes) o.2))
+    (unfit_cause f id why d b u.bytes)
+    u.cause
 
 -- a making ready before changes nothing of what is kept
 pub own_since : {F : Type 0} (f : Reads F) (id : Identity) (d k : DiskView) → k ≡ record d { faults = k.faults } → KeepsOwn f id k → KeepsOwn f id d
@@ -102,6 +145,16 @@ is_disk_fault status.WriteFault is = cc
 is_disk_fault status.NoMemory is = cc
 is_disk_fault status.BadJournal is = cc
 
+pub is_too_long : (s : Status) → number_of_status s ≡ 3 → s ≡ status.TooLong
+is_too_long status.TooLong is = refl
+is_too_long status.Finished is = cc
+is_too_long status.BadWords is = cc
+is_too_long status.ReadFault is = cc
+is_too_long status.WriteFault is = cc
+is_too_long status.DiskFault is = cc
+is_too_long status.NoMemory is = cc
+is_too_long status.BadJournal is = cc
+
 pub is_bad_journal : (s : Status) → number_of_status s ≡ 8 → s ≡ status.BadJournal
 is_bad_journal status.BadJournal is = refl
 is_bad_journal status.Finished is = cc
@@ -116,10 +169,12 @@ is_bad_journal status.NoMemory is = cc
 cause_since : {F : Type 0} (f : Reads F) (id : Identity) (why : BootFault) (d k b : DiskView) → k ≡ record d { faults = k.faults } → d.faults ≤ k.faults → HasCause f id k why b → HasCause f id d why b
 cause_since f id boot.Fault d k b same later h = fails_since d k b same later h
 cause_since f id boot.Memory d k b same later h = tt
-cause_since f id boot.NotAJournal d k b same later h = λ tells. subst (λ (x : DiskView). refusal id x.state.kept ≡ Some open_fault.NotAJournal) same (h (ap (λ (x : DiskView). x.tells) same ∙ tells))
-cause_since f id (boot.WrongNode found) d k b same later h = λ tells. subst (λ (x : DiskView). refusal id x.state.kept ≡ Some (open_fault.WrongNode found)) same (h (ap (λ (x : DiskView). x.tells) same ∙ tells))
-cause_since f id (boot.Damaged at) d k b same later h =
-    λ tells. subst (λ (x : DiskView). (refusal id x.state.kept ≡ Some (open_fault.Damaged at)) ⊎ MisfitsAt f id x.state.kept at) same (h (ap (λ (x : DiskView). x.tells) same ∙ tells))
+cause_since f id boot.NotAJournal d k b same later h = λ tells.
+    subst (λ (x : DiskView). (refusal id x.state.kept ≡ Some open_fault.NotAJournal) × (b.state.kept ≡ x.state.kept)) same (h (ap (λ (x : DiskView). x.tells) same ∙ tells))
+cause_since f id (boot.WrongNode found) d k b same later h = λ tells.
+    subst (λ (x : DiskView). (refusal id x.state.kept ≡ Some (open_fault.WrongNode found)) × (b.state.kept ≡ x.state.kept)) same (h (ap (λ (x : DiskView). x.tells) same ∙ tells))
+cause_since f id (boot.Damaged at) d k b same later h = λ tells.
+    subst (λ (x : DiskView). ((refusal id x.state.kept ≡ Some (open_fault.Damaged at)) ⊎ MisfitsAt f id x.state.kept at) × (b.state.kept ≡ x.state.kept)) same (h (ap (λ (x : DiskView). x.tells) same ∙ tells))
 
 told_since : {F : Type 0} (f : Reads F) (nodes : ℕ) (notary : Party) (ds ks bs : List DiskView) (written0 written1 : Option (List ℕ)) (s : Status) → AllStay ds ks
     → IsToldWhy f nodes notary ks bs written0 written1 s → IsToldWhy f nodes notary ds bs written0 written1 s
@@ -129,6 +184,13 @@ told_since f nodes notary ds ks bs written0 written1 s stay t = record {
   earlier = λ p d before at.
       let k = get_beside ds ks p d (sym stay.count) at in
       own_since f (member nodes notary p) d k.0 (stay.each p d k.0 at k.1).0 (t.earlier p k.0 before k.1);
+  opened = λ p d b before at there.
+      let k = get_beside ds ks p d (sym stay.count) at in
+      let same = (stay.each p d k.0 at k.1).0 in
+      λ tells. subst (λ (x : DiskView). b.state.kept ≡ formatted (member nodes notary p) x.state.kept) same (t.opened p k.0 b before k.1 there (ap (λ (x : DiskView). x.tells) same ∙ tells));
+  later = λ p d b behind at there.
+      let k = get_beside ds ks p d (sym stay.count) at in
+      t.later p k.0 b behind k.1 there ∙ ap (λ (x : DiskView). x.state) (stay.each p d k.0 at k.1).0;
   why = t.why;
   cause = λ d b at there.
       let k = get_beside ds ks t.node d (sym stay.count) at in
@@ -151,7 +213,7 @@ told_of_fault f id (boot.WrongNode found) d b node written0 written1 h r = absur
 told_of_fault f id (boot.Damaged at) d b node written0 written1 h r = absurd r
 
 -- what an opening that failed is told by
-opening_why : (s : Status) (written0 written1 : Option (List ℕ)) → IsOpeningStatus s → written1 ≡ written0 → IsUnready written0 written1 s
+pub opening_why : (s : Status) (written0 written1 : Option (List ℕ)) → IsOpeningStatus s → written1 ≡ written0 → IsUnready written0 written1 s
 opening_why status.DiskFault written0 written1 is same = (inl refl, same)
 opening_why status.NoMemory written0 written1 is same = (inr refl, same)
 opening_why status.Finished written0 written1 is same = absurd is
@@ -175,7 +237,7 @@ module _ {F : Type 0} (m : Machine F) (f : Reads F) (nodes : ℕ) (notary : Part
 
   pub played : (ds bs : List DiskView) (w : World) (begun ended : NetSeen) (left0 left1 written0 written1 : Option (List ℕ)) (count : ℕ) (s : Status)
       → IsScriptStatus s → KeepOwn f nodes notary ds → BeginsWorld m f nodes notary ds begun
-      → ((id : Identity) (start : World) → Shows (environment m f id) begun start → Coherent (environment m f id) start → InSome (environment m f id) ended (λ v. ScriptRun (environment m f id) start left0 left1 written0 written1 count v s))
+      → ((id : Identity) (start : World) → Shows (environment m f id) begun start → Coherent (environment m f id) start → InSome (environment m f id) ended (λ v. ScriptRun (Link (environment m f id)) (RunsShort (environment m f id)) start left0 left1 written0 written1 count v s))
       → map (λ (n : NodeSeen). n.disk) ended.nodes ≡ map roomless bs
       → Shows e (over e w.now ds) w → Coherent e w → PlaysOrRefuses e w ds bs left0 left1 written0 written1 count s
   played ds bs w begun ended left0 left1 written0 written1 count s script own begins ran disks shows coherent =
@@ -217,6 +279,10 @@ module _ {F : Type 0} (m : Machine F) (f : Reads F) (nodes : ℕ) (notary : Part
         let up = r.earlier p d b.0 before at b.1 in
         let id = member nodes notary p in
         λ tells. (up.1.4.opens.format tells, subst (λ l. misfit f id.nodes id.party l ≡ None) (up.1.4.opens.told tells) up.1.4.fits);
+    opened = λ p d b before at there.
+        let up = r.earlier p d b before at there in
+        λ tells. ap (λ (x : DiskView). x.state.kept) up.2 ∙ up.1.4.opens.left tells;
+    later = λ p d b behind at there. ap (λ (x : DiskView). x.state) (r.later p d b behind at there);
     why = why;
     cause = λ d b at there.
         ⊎_elim (λ (p : (why ≡ boot.Memory) × (node ≡ 0) × (bs ≡ ds)). subst (λ y. HasCause f (member nodes notary node) d y b) (sym p.0) tt) (λ (q : Stopped ds node why bs). stopped_cause ds bs node why q d b at there) r.refused;
@@ -319,6 +385,33 @@ module _ {F : Type 0} (m : Machine F) (f : Reads F) (nodes : ℕ) (notary : Part
   pub runs_as : (w : World) (ds bs : List DiskView) (left0 left1 written0 written1 : Option (List ℕ)) (count counted number : ℕ) (s : Status) → number ≡ number_of_status s → counted ≡ count
       → PlaysOrRefuses e w ds bs left0 left1 written0 written1 count s → RunsAs e w ds bs left0 left1 written0 written1 counted number
   runs_as w ds bs left0 left1 written0 written1 count counted number s is same ran = record { status = s; is = is; ran = subst (λ n. PlaysOrRefuses e w ds bs left0 left1 written0 written1 n s) (sym same) ran }
+
+-- ---- over any disks
+
+module _ {F : Type 0} (m : Machine F) (f : Reads F) (nodes : ℕ) (notary : Party) where
+  -- the disks were made ready before
+  went_since : (ds ks bs : List DiskView) (left0 left1 written0 written1 : Option (List ℕ)) (count : ℕ) (s : Status) → AllStay ds ks
+      → GoesOrHalts m f nodes notary ks bs left0 left1 written0 written1 count s → GoesOrHalts m f nodes notary ds bs left0 left1 written0 written1 count s
+  went_since ds ks bs left0 left1 written0 written1 count s stay (inl g) = inl (record { ready = g.ready; made = stay_then ds ks g.ready stay g.made; begun = g.begun; opened = g.opened; last = g.last; script = g.script; back = g.back })
+  went_since ds ks bs left0 left1 written0 written1 count s stay (inr h) =
+      inr (record {
+        unread = h.unread;
+        none = h.none;
+        why = ⊎_elim (λ (u : IsUnready written0 written1 s). inl u) (λ (t : IsToldWhy f nodes notary ks bs written0 written1 s). inr (told_since f nodes notary ds ks bs written0 written1 s stay t)) h.why;
+      })
+
+  pub went_at : (ds ks bs es : List DiskView) (left0 left1 written0 written1 : Option (List ℕ)) (count counted number : ℕ) (s : Status) → es ≡ bs → AllStay ds ks → number ≡ number_of_status s → counted ≡ count
+      → GoesOrHalts m f nodes notary ks bs left0 left1 written0 written1 count s → RunsAnyhow m f nodes notary ds es left0 left1 written0 written1 counted number
+  went_at ds ks bs es left0 left1 written0 written1 count counted number s there stay is same ran = record {
+    status = s;
+    is = is;
+    ran = subst (λ n. GoesOrHalts m f nodes notary ds es left0 left1 written0 written1 n s) (sym same) (subst (λ x. GoesOrHalts m f nodes notary ds x left0 left1 written0 written1 count s) (sym there) (went_since ds ks bs left0 left1 written0 written1 count s stay ran));
+  }
+
+  -- the disks were not made ready, or there was no memory for that
+  pub went_unready : (ds es : List DiskView) (left written : Option (List ℕ)) (counted number : ℕ) (s : Status) → IsOpeningStatus s → number ≡ number_of_status s → counted ≡ 0
+      → RunsAnyhow m f nodes notary ds es left left written written counted number
+  went_unready ds es left written counted number s is equal none = record { status = s; is = equal; ran = inr (record { unread = refl; none = none; why = inl (opening_why s written written is refl) }) }
 
 -- the line for a damaged journal
 pub damaged_line : (node at : ℕ) (why : BootFault) (line : List ℕ) → why ≡ boot.Damaged at → line ≡ codes "! journal " ++ (decimal node ++ (codes " damaged " ++ (decimal at ++ 10 ∷ []))) → line ≡ journal_line node why

@@ -27,13 +27,13 @@ module _ {F : Type 0} (e : Environment F) (start : World) where
     where
       by : (blank plain : Bool) → MatchBool blank ((reply ≡ Silence) × (v ≡ w)) (MatchBool plain (Serves e w (command_of (words_of line)) (words_of line) reply v) (IsRefused 1 reply × (v ≡ w))) → Reaches e start v
       by true plain h = unmoved w v before h.1
-      by false true h = makes_reaches w v (step_of e (command_of (words_of line)) (words_of line)) (command_of (words_of line)) (words_of line) reply before h
+      by false true h = makes_reaches w v (step_of e.machine (command_of (words_of line)) (words_of line)) (command_of (words_of line)) (words_of line) reply before h
       by false false h = unmoved w v before h.1
 
   link_reaches : (w v : World) (line text : List ℕ) → Reaches e start w → Link e w line text v → Reaches e start v
   link_reaches w v line text before link = replies_reaches w v line link.reply before link.replies
 
-  story_reaches : (lines : List (List ℕ)) (out : List ℕ) (w : World) → Story e start lines out w → Reaches e start w
+  story_reaches : (lines : List (List ℕ)) (out : List ℕ) (w : World) → Story (Link e) start lines out w → Reaches e start w
   story_reaches lines out w begins = here refl
   story_reaches lines out w (goes_on {lines = earlier} {out = said} {before = u} line text before none link all longer) = link_reaches u w line text (story_reaches earlier said u before) link
 
@@ -45,17 +45,17 @@ module _ {F : Type 0} (e : Environment F) (start : World) where
   leaves_reaches w v (Some s) before (inr serve) = by_step s None before serve
 
   short_reaches : (w v : World) (line : List ℕ) → Reaches e start w → RunsShort e w line v → Reaches e start v
-  short_reaches w v line before (inl leaves) = leaves_reaches w v (step_of e (asked_by line) (words_of line)) before leaves
+  short_reaches w v line before (inl leaves) = leaves_reaches w v (step_of e.machine (asked_by line) (words_of line)) before leaves
   short_reaches w v line before (inr (text, link)) = link_reaches w v line text before link
 
   module _ {written0 written1 : Option (List ℕ)} {lines : List (List ℕ)} {w : World} where
-    cut_reaches : CutOff e start written0 written1 lines w → Reaches e start w
-    cut_reaches c = link_reaches c.before w c.line _ (story_reaches c.earlier c.out c.before c.story) c.link
+    cut_reaches : CutOff (Link e) start written0 written1 lines w → Reaches e start w
+    cut_reaches c = link_reaches c.before w c.line _ (story_reaches c.earlier c.out c.before c.story) c.linked
 
-    left_reaches : LeftOff e start written0 written1 lines w → Reaches e start w
-    left_reaches l = short_reaches l.before w l.line (story_reaches l.earlier l.out l.before l.story) l.short
+    left_reaches : LeftOff (Link e) (RunsShort e) start written0 written1 lines w → Reaches e start w
+    left_reaches l = short_reaches l.before w l.line (story_reaches l.earlier l.out l.before l.story) l.ran_short
 
-  ends_reaches : (left written0 written1 : Option (List ℕ)) (count : ℕ) (lines : List (List ℕ)) (rest : List ℕ) (w : World) (s : Status) → EndsWith e start left written0 written1 count lines rest w s → Reaches e start w
+  ends_reaches : (left written0 written1 : Option (List ℕ)) (count : ℕ) (lines : List (List ℕ)) (rest : List ℕ) (w : World) (s : Status) → EndsWith (Link e) (RunsShort e) start left written0 written1 count lines rest w s → Reaches e start w
   ends_reaches left written0 written1 count lines rest w status.Finished h = story_reaches _ h.1.out w h.1.story
   ends_reaches left written0 written1 count lines rest w status.BadWords h = absurd h
   ends_reaches left written0 written1 count lines rest w status.TooLong h = story_reaches _ h.2.out w h.2.story
@@ -65,5 +65,5 @@ module _ {F : Type 0} (e : Environment F) (start : World) where
   ends_reaches left written0 written1 count lines rest w status.NoMemory h = ⊎_elim (λ l. left_reaches l.0) (λ unread. story_reaches _ unread.2.out w unread.2.story) h
   ends_reaches left written0 written1 count lines rest w status.BadJournal h = absurd h
 
-  pub script_reaches : (left0 left1 written0 written1 : Option (List ℕ)) (count : ℕ) (w : World) (s : Status) → ScriptRun e start left0 left1 written0 written1 count w s → Reaches e start w
+  pub script_reaches : (left0 left1 written0 written1 : Option (List ℕ)) (count : ℕ) (w : World) (s : Status) → ScriptRun (Link e) (RunsShort e) start left0 left1 written0 written1 count w s → Reaches e start w
   script_reaches left0 left1 written0 written1 count w s run = ends_reaches left1 written0 written1 count run.lines run.rest w s run.ends

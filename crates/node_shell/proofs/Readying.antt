@@ -21,6 +21,17 @@ fails_since d k b same later f = record { rose = rose_since d.faults k.faults b.
 pub stay_same : (ds : List DiskView) → AllStay ds ds
 stay_same ds = record { count = refl; each = λ p d e at there. let same : d ≡ e = cc in subst (StaysBut d) same (refl, omega arith) }
 
+stays_then : (a b c : DiskView) → StaysBut a b → StaysBut b c → StaysBut a c
+stays_then a b c one two = (two.0 ∙ ap (λ (x : DiskView). record x { faults = c.faults }) one.0, omega (arith, one.1, two.1))
+
+pub stay_then : (ds ks es : List DiskView) → AllStay ds ks → AllStay ks es → AllStay ds es
+stay_then ds ks es one two = record {
+  count = two.count ∙ one.count;
+  each = λ p d e at there.
+      let k = get_beside ds ks p d (sym one.count) at in
+      stays_then d k.0 e (one.each p d k.0 at k.1) (two.each p k.0 e k.1 there);
+}
+
 -- the first disks of the nodes stay as all do
 pub first_stay : (n : ℕ) (ds es : List DiskView) → AllStay ds es → AllStay (first_disks n ds) (first_disks n es)
 first_stay n ds es stay = record {
@@ -38,9 +49,6 @@ first_fails n ds ks es stay o =
     record { place = 2 * o.place; own = omega (arith, own); before = old.0; after = o.after; at = old.1; now = (first_at n es o.place o.after o.now).1; fails = fails_since old.0 o.before o.after stays.0 stays.1 o.fails }
 
 -- ---- one disk more
-
-stays_then : (a b c : DiskView) → StaysBut a b → StaysBut b c → StaysBut a c
-stays_then a b c one two = (two.0 ∙ ap (λ (x : DiskView). record x { faults = c.faults }) one.0, omega (arith, one.1, two.1))
 
 -- one more disk was made ready
 pub stay_more : {X : Type 0} (f : X → DiskView) (all cur : List X) (i : ℕ) (x y : X) → AllStay (map f all) (map f cur) → slice_get cur i ≡ Some x → StaysBut (f x) (f y) → AllStay (map f all) (map f (slice_set cur i y))

@@ -1,13 +1,15 @@
 -- What a network that is shown tells of its world.
 use Rattle.std.proofs.Common.{◌≡◌, ◌⊎◌, inl, inr, ℕ, zero, suc, Bool, true, false, List, [], ◌∷◌, ◌++◌, length, map, drop, Option, Some, None, refl, sym, ◌∙◌, ap, subst, arith, append_assoc}
 use Rattle.std.proofs.lemmas.Bool.Decides.{nat_tests}
-use Rattle.std.specs.Prelude.{IsTrue, IsSome, option_map, option_and_then, ◌<◌, nat_lt, slice_index_or}
+use Rattle.std.specs.Prelude.{IsTrue, IsSome, MatchOption, Result, Ok, Err, option_map, option_and_then, ◌<◌, nat_lt, slice_index_or}
 use Rattle.std.specs.List.{slice_get}
 use Rattle.std.proofs.lemmas.Option.{same_Some}
 use Rattle.std.proofs.lemmas.List.{length-map}
 use Rattle.net_base.specs.declared.causes.Cause.{Cause}
 use Rattle.net_base.proofs.Lists.{get_beside, get_map, map_both, drop_get}
 use Rattle.flow_machine.specs.declared.flows.FlowState.{FlowState}
+use Rattle.flow_machine.specs.declared.flow_set.WordFault.{WordFault}
+use Rattle.flow_machine.specs.declared.flow_set.WordFault.TheVariants as word
 use Rattle.net_model.specs.Environment.{Environment}
 use Rattle.net_model.specs.Runs.{merged, network_of}
 use Rattle.net_model.specs.State.{NodeState}
@@ -16,8 +18,11 @@ use Rattle.node_tables.specs.Journals.{Reads, causes_of, state_of}
 use Rattle.node_core.specs.Seen.{NodeSeen}
 use Rattle.network_core.specs.Worlds.{World, NodeWorld, NetSeen, NodeShows, Shows, ShowsJournal, Coherent, Choice}
 use Rattle.network_core.proofs.Faithful.{coherent_is_faithful}
+use Rattle.shell_words.specs.declared.commands.Command.{Command}
+use Rattle.shell_words.specs.declared.commands.Command.TheVariants as command
 use Rattle.node_shell.specs.declared.replies.Reply.{Reply}
-use Rattle.node_shell.specs.Serve.{AtNode, AsksFlow, IsRefused, causes_in, causes_up, reply_text}
+use Rattle.node_shell.specs.Serve.{AtNode, AsksFlow, AsksHistory, RefusesWords, Answers, IsRefused, causes_in, place_of, flow_of, started_by, reply_text}
+use Rattle.node_shell.specs.Responds.{AtSeen, StartsNone, PrintsFlows, PrintsFlow, PrintsHistory, IsShown, causes_up}
 
 -- ---- lists
 
@@ -30,14 +35,6 @@ none_beside (x ∷ xs) (y ∷ ys) (suc p) n h = none_beside xs ys p (omega (arit
 
 -- ---- a node and its place in the world
 
-at_journal : (x : NodeWorld) (journal : Option (List (List ℕ))) → ShowsJournal journal x → journal ≡ None → x.up ≡ false
-at_journal x None shows h = shows
-at_journal x (Some b) shows h = cc
-
-up_journal : (x : NodeWorld) (journal : Option (List (List ℕ))) (bodies : List (List ℕ)) → ShowsJournal journal x → journal ≡ Some bodies → (x.up ≡ true) × (x.journal ≡ bodies)
-up_journal x None bodies shows h = cc
-up_journal x (Some b) bodies shows h = (shows.0, shows.1 ∙ same_Some _ _ h)
-
 module _ {F : Type 0} (e : Environment F) (net : NetSeen) (w : World) (shows : Shows e net w) where
   pub stands : (p : ℕ) (n : NodeSeen) → slice_get net.nodes p ≡ Some n → (x : NodeWorld) × (slice_get w.nodes p ≡ Some x) × NodeShows e p n x
   stands p n at = let found = get_beside net.nodes w.nodes p n (sym shows.count) at in (found.0, found.1, shows.each p n found.0 at found.1)
@@ -45,20 +42,17 @@ module _ {F : Type 0} (e : Environment F) (net : NetSeen) (w : World) (shows : S
   pub shows_each : (p : ℕ) (n : NodeSeen) (x : NodeWorld) → slice_get net.nodes p ≡ Some n → slice_get w.nodes p ≡ Some x → ShowsJournal n.journal x
   shows_each p n x at here = (shows.each p n x at here).journal
 
-  pub at_none : (p : ℕ) (reply : Reply) (asks : NodeWorld → Type 0) → slice_get net.nodes p ≡ None → IsRefused 2 reply → AtNode w p reply asks
-  at_none p reply asks none is = inl (none_beside net.nodes w.nodes p (sym shows.count) none, is)
+  -- what is shown of a node is so of it in the world
+  pub at_node : (p : ℕ) (reply : Reply) (asks : List (List ℕ) → Type 0) (goal : NodeWorld → Type 0) → ((x : NodeWorld) → slice_get w.nodes p ≡ Some x → asks x.journal → goal x) → AtSeen net p reply asks → AtNode w p reply goal
+  at_node p reply asks goal to shown = by (slice_get net.nodes p) refl shown
+    where
+      up_or_down : (x : NodeWorld) → slice_get w.nodes p ≡ Some x → (journal : Option (List (List ℕ))) → ShowsJournal journal x → MatchOption journal (IsRefused 3 reply) asks → AtNode w p reply goal
+      up_or_down x here None s is = inr (x, here, inl (s, is))
+      up_or_down x here (Some bodies) s is = inr (x, here, inr (s.0, to x here (subst asks (sym s.1) is)))
 
-  pub at_down : (p : ℕ) (reply : Reply) (asks : NodeWorld → Type 0) (n : NodeSeen) → slice_get net.nodes p ≡ Some n → n.journal ≡ None → IsRefused 3 reply → AtNode w p reply asks
-  at_down p reply asks n at down is =
-      let x = stands p n at in
-      inr (x.0, x.1, inl (at_journal x.0 n.journal x.2.journal down, is))
-
-  pub at_up : (p : ℕ) (reply : Reply) (asks : NodeWorld → Type 0) (n : NodeSeen) (bodies : List (List ℕ)) → slice_get net.nodes p ≡ Some n → n.journal ≡ Some bodies
-      → ((x : NodeWorld) → slice_get w.nodes p ≡ Some x → x.journal ≡ bodies → asks x) → AtNode w p reply asks
-  at_up p reply asks n bodies at up given =
-      let x = stands p n at in
-      let j = up_journal x.0 n.journal bodies x.2.journal up in
-      inr (x.0, x.1, inr (j.0, given x.0 x.1 j.1))
+      by : (o : Option NodeSeen) → slice_get net.nodes p ≡ o → MatchOption o (IsRefused 2 reply) (λ n. MatchOption n.journal (IsRefused 3 reply) asks) → AtNode w p reply goal
+      by None none is = inl (none_beside net.nodes w.nodes p (sym shows.count) none, is)
+      by (Some n) at is = let x = stands p n at in up_or_down x.0 x.1 n.journal x.2.journal is
 
 -- ---- what is printed of a coherent world
 
@@ -180,39 +174,6 @@ found [] p d x few is = absurd (omega (arith, few))
 found (y ∷ ys) zero d x few is = ap Some (sym is)
 found (y ∷ ys) (suc p) d x few is = found ys p d x (omega (arith, few)) is
 
-module _ {F : Type 0} (e : Environment F) (net : NetSeen) (w : World) (shows : Shows e net w) (p : ℕ) (reply : Reply) (n : NodeSeen) (at : slice_get net.nodes p ≡ Some n) where
-  pub refused_down : (code : ℕ) → n.journal ≡ None → IsRefused 3 reply → AtNode w p reply (λ x. IsRefused code reply)
-  refused_down code down is = at_down e net w shows p reply (λ x. IsRefused code reply) n at down is
-
-  refused_journal : (code : ℕ) (journal : Option (List (List ℕ))) → n.journal ≡ journal → (journal ≡ None → ⊥) → IsRefused code reply → AtNode w p reply (λ x. IsRefused code reply)
-  refused_journal code None here up is = absurd (up refl)
-  refused_journal code (Some b) here up is = at_up e net w shows p reply (λ x. IsRefused code reply) n b at here (λ x a j. is)
-
-  pub refused_up : (code : ℕ) → (n.journal ≡ None → ⊥) → IsRefused code reply → AtNode w p reply (λ x. IsRefused code reply)
-  refused_up code up is = refused_journal code n.journal refl up is
-
-  pub flows_down : n.journal ≡ None → IsRefused 3 reply → AtNode w p reply (λ x. reply_text reply ≡ printed e (causes_in e w) (of_flows p))
-  flows_down down is = at_down e net w shows p reply (λ x. reply_text reply ≡ printed e (causes_in e w) (of_flows p)) n at down is
-
-  pub flow_down : (f : ℕ) → n.journal ≡ None → IsRefused 3 reply → AtNode w p reply (AsksFlow e w p f reply)
-  flow_down f down is = at_down e net w shows p reply (AsksFlow e w p f reply) n at down is
-
-  module _ (coherent : Coherent e w) (bodies : List (List ℕ)) (up : n.journal ≡ Some bodies) where
-    pub flows_up : reply_text reply ≡ flows_text (state_of e.frame_at bodies).flows → AtNode w p reply (λ x. reply_text reply ≡ printed e (causes_in e w) (of_flows p))
-    flows_up is =
-        at_up e net w shows p reply (λ x. reply_text reply ≡ printed e (causes_in e w) (of_flows p)) n bodies at up
-        (λ x here j. is ∙ ap (λ b. flows_text (state_of e.frame_at b).flows) (sym j) ∙ sym (flows_printed e w coherent p x here))
-
-    pub flow_none : (f : ℕ) → slice_get (state_of e.frame_at bodies).flows f ≡ None → IsRefused 11 reply → AtNode w p reply (AsksFlow e w p f reply)
-    flow_none f none is =
-        at_up e net w shows p reply (AsksFlow e w p f reply) n bodies at up
-        (λ x here j. inl (ap (λ b. slice_get (state_of e.frame_at b).flows f) j ∙ none, is))
-
-    pub flow_some : (f : ℕ) (flow : FlowState F) → slice_get (state_of e.frame_at bodies).flows f ≡ Some flow → reply_text reply ≡ flow_line f flow ++ 10 ∷ [] → AtNode w p reply (AsksFlow e w p f reply)
-    flow_some f flow some is =
-        at_up e net w shows p reply (AsksFlow e w p f reply) n bodies at up
-        (λ x here j. inr ((flow, ap (λ b. slice_get (state_of e.frame_at b).flows f) j ∙ some), is ∙ ap (λ o. flow_text f o) (sym some) ∙ ap (λ b. flow_text f (slice_get (state_of e.frame_at b).flows f)) (sym j) ∙ sym (flow_printed e w coherent p f x here)))
-
 -- the same, of a list that another is
 pub found_at : {X : Type 0} (ys xs : List X) (p : ℕ) (d x : X) → xs ≡ ys → nat_lt p (length xs) ≡ true → x ≡ slice_index_or xs p d → slice_get ys p ≡ Some x
 found_at ys xs p d x same few is = subst (λ l. slice_get l p ≡ Some x) same (found xs p d x (grind (arith, nat_tests, few)) is)
@@ -227,3 +188,79 @@ pub up_not_none : {X : Type 0} (b : Bool) (journal : Option X) → ((IsTrue b �
 up_not_none true None h is none = let e : false ≡ true = h.0 refl in cc
 up_not_none false None h is none = cc
 up_not_none b (Some x) h is none = cc
+
+-- what is asked of a node that is down, and of one that is up
+pub seen_down : (net : NetSeen) (p : ℕ) (reply : Reply) (asks : List (List ℕ) → Type 0) (n : NodeSeen) → slice_get net.nodes p ≡ Some n → n.journal ≡ None → IsRefused 3 reply → AtSeen net p reply asks
+seen_down net p reply asks n at down is = rw (at, down) is
+
+pub seen_up : (net : NetSeen) (p : ℕ) (reply : Reply) (asks : List (List ℕ) → Type 0) (n : NodeSeen) (bodies : List (List ℕ)) → slice_get net.nodes p ≡ Some n → n.journal ≡ Some bodies → asks bodies → AtSeen net p reply asks
+seen_up net p reply asks n bodies at up is = rw (at, up) is
+
+-- a refusal that does not depend on the journal
+pub seen_refused : (net : NetSeen) (p : ℕ) (reply : Reply) (code : ℕ) (n : NodeSeen) → slice_get net.nodes p ≡ Some n → (n.journal ≡ None → ⊥) → IsRefused code reply → AtSeen net p reply (λ bodies. IsRefused code reply)
+seen_refused net p reply code n at up is = rw at (by n.journal up)
+  where
+    by : (journal : Option (List (List ℕ))) → (journal ≡ None → ⊥) → MatchOption journal (IsRefused 3 reply) (λ bodies. IsRefused code reply)
+    by None none = absurd (none refl)
+    by (Some bodies) some = is
+
+-- the line of a flow, or that there is none
+pub flow_none : {F : Type 0} (f : Reads F) (number : ℕ) (reply : Reply) (bodies : List (List ℕ)) → slice_get (state_of f bodies).flows number ≡ None → IsRefused 11 reply → PrintsFlow f number reply bodies
+flow_none f number reply bodies none is = rw none is
+
+pub flow_some : {F : Type 0} (f : Reads F) (number : ℕ) (reply : Reply) (bodies : List (List ℕ)) (flow : FlowState F) → slice_get (state_of f bodies).flows number ≡ Some flow → reply_text reply ≡ flow_line number flow ++ 10 ∷ [] → PrintsFlow f number reply bodies
+flow_some f number reply bodies flow some is = rw some is
+
+-- the causes of all nodes, or that one is down
+pub history_none : {F : Type 0} (f : Reads F) (net : NetSeen) (reply : Reply) → causes_up f net.nodes ≡ None → IsRefused 3 reply → PrintsHistory f net reply
+history_none f net reply none is = rw none is
+
+pub history_some : {F : Type 0} (f : Reads F) (net : NetSeen) (reply : Reply) (lists : List (List Cause)) → causes_up f net.nodes ≡ Some lists → reply_text reply ≡ history_text (merged lists) → PrintsHistory f net reply
+history_some f net reply lists some is = rw some is
+
+-- ---- what is shown is so in each coherent world that is shown
+
+module _ {F : Type 0} (e : Environment F) (net : NetSeen) (w : World) (shows : Shows e net w) (coherent : Coherent e w) where
+  start_answers : (p : ℕ) (words : Result (ℕ × List ℕ) WordFault) (reply : Reply) → StartsNone net p words reply → RefusesWords w p words reply
+  start_answers p (Ok words) reply h = h
+  start_answers p (Err word.UnknownClass) reply h = at_node e net w shows p reply (λ bodies. IsRefused 5 reply) (λ x. IsRefused 5 reply) (λ x here is. is) h
+  start_answers p (Err word.BadArgs) reply h = at_node e net w shows p reply (λ bodies. IsRefused 6 reply) (λ x. IsRefused 6 reply) (λ x here is. is) h
+  start_answers p (Err word.Memory) reply h = h
+
+  flows_answer : (p : ℕ) (reply : Reply) → AtSeen net p reply (PrintsFlows e.frame_at reply) → AtNode w p reply (λ x. reply_text reply ≡ printed e (causes_in e w) (of_flows p))
+  flows_answer p reply h =
+      at_node e net w shows p reply (PrintsFlows e.frame_at reply) (λ x. reply_text reply ≡ printed e (causes_in e w) (of_flows p)) (λ x here is. is ∙ sym (flows_printed e w coherent p x here)) h
+
+  flow_answers : (p f : ℕ) (reply : Reply) → AtSeen net p reply (PrintsFlow e.frame_at f reply) → AtNode w p reply (AsksFlow e w p f reply)
+  flow_answers p f reply h = at_node e net w shows p reply (PrintsFlow e.frame_at f reply) (AsksFlow e w p f reply) (λ x here is. line x here (slice_get (state_of e.frame_at x.journal).flows f) refl is) h
+    where
+      line : (x : NodeWorld) → slice_get w.nodes p ≡ Some x → (o : Option (FlowState F)) → slice_get (state_of e.frame_at x.journal).flows f ≡ o
+          → MatchOption o (IsRefused 11 reply) (λ flow. reply_text reply ≡ flow_line f flow ++ 10 ∷ []) → AsksFlow e w p f reply x
+      line x here None none is = inl (none, is)
+      line x here (Some flow) some is = inr ((flow, some), is ∙ ap (λ o. flow_text f o) (sym some) ∙ sym (flow_printed e w coherent p f x here))
+
+  history_answers : (reply : Reply) → PrintsHistory e.frame_at net reply → AsksHistory e w reply
+  history_answers reply h = by (causes_up e.frame_at net.nodes) refl h
+    where
+      by : (o : Option (List (List Cause))) → causes_up e.frame_at net.nodes ≡ o → MatchOption o (IsRefused 3 reply) (λ lists. reply_text reply ≡ history_text (merged lists)) → AsksHistory e w reply
+      by None none is = inl (one_down e.frame_at net.nodes w.nodes shows.count (shows_each e net w shows) none, is)
+      by (Some lists) some is =
+          let up = all_up e.frame_at net.nodes w.nodes lists shows.count (shows_each e net w shows) some in
+          inr (up.1, is ∙ ap (λ l. history_text (merged l)) up.0 ∙ sym (history_printed e w coherent))
+
+  pub shown_answers : (asked : Command) (ws : List (List ℕ)) (reply : Reply) → IsShown e.machine e.frame_at net asked ws reply → Answers e w asked ws reply
+  shown_answers (command.Start node) ws reply h = start_answers (place_of node) (started_by e.machine ws) reply h
+  shown_answers (command.Flows node) ws reply h = flows_answer (place_of node) reply h
+  shown_answers (command.Flow node flow) ws reply h = flow_answers (place_of node) (flow_of flow) reply h
+  shown_answers command.History ws reply h = history_answers reply h
+  shown_answers command.Quit ws reply h = h
+  shown_answers command.Unknown ws reply h = h
+  shown_answers (command.Clock to) ws reply h = h
+  shown_answers (command.Turn node pick) ws reply h = h
+  shown_answers (command.Post node) ws reply h = h
+  shown_answers (command.Deliver node at) ws reply h = h
+  shown_answers (command.Repeat node at) ws reply h = h
+  shown_answers (command.Lose node at) ws reply h = h
+  shown_answers (command.Cut node calls kind) ws reply h = h
+  shown_answers (command.Boot node) ws reply h = h
+  shown_answers command.Drain ws reply h = h

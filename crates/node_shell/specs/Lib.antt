@@ -1,4 +1,5 @@
 pub mod Pairs
 pub mod Serve
+pub mod Responds
 pub mod Story
 pub mod Runs

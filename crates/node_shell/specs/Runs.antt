@@ -1,13 +1,13 @@
 -- A whole run: how the network opened, and how the script went.
 use Rattle.std.specs.Prelude.{◌≡◌, ◌⊎◌, ℕ, ◌<◌, ◌≤◌, List, [], ◌∷◌, ◌++◌, length, map, Option, Some, None, codes, decimal, true, false, slice_get, ⊤}
 use Rattle.std.specs.Io.KnownBytes.{Appends}
-use Rattle.outside.specs.Disk.{DiskView}
+use Rattle.outside.specs.Disk.{DiskView, IfTold}
 use Rattle.outside.specs.Faults.{Rose}
 use Rattle.net_base.specs.declared.causes.Cause.{Cause}
 use Rattle.net_base.specs.declared.names.Identity.{Identity}
 use Rattle.net_base.specs.declared.values.Party.{Party}
 use Rattle.shell_words.specs.declared.program.NetworkWords.{NetworkWords}
-use Rattle.disk_journal.specs.Journal.{journal_of, placed, refusal}
+use Rattle.disk_journal.specs.Journal.{journal_of, placed, formatted, refusal}
 use Rattle.disk_journal.specs.declared.fault.OpenFault.TheVariants as open_fault
 use Rattle.net_model.specs.Environment.{Environment, environment, party}
 use Rattle.net_model.specs.Runs.{IsFaithful, network_of, merged}
@@ -17,10 +17,14 @@ use Rattle.node_tables.specs.Journals.{Reads, records_of, state_of, causes_of}
 use Rattle.node_core.specs.declared.faults.BootFault.{BootFault}
 use Rattle.node_core.specs.declared.faults.BootFault.TheVariants as boot
 use Rattle.network_core.specs.Worlds.{World, NodeWorld, NetSeen, MaySpell, Shows, AreOpenable, Coherent, Choice}
-use Rattle.network_core.specs.Begins.{member, net_over, Begun}
+use Rattle.node_core.specs.Seen.{NodeSeen}
+use Rattle.node_core.specs.Disks.{roomless}
+use Rattle.network_core.specs.Begins.{member, nodes_over, net_over, Begun, BootsUpTo}
 use Rattle.network_core.specs.Acknowledged.{Reaches, Acknowledged, StandsOnce}
 use Rattle.node_shell.specs.declared.statuses.Status.{Status}
 use Rattle.node_shell.specs.declared.statuses.Status.TheVariants as status
+use Rattle.node_shell.specs.Serve.{Link, RunsShort}
+use Rattle.node_shell.specs.Responds.{NetLink, NetShort}
 use Rattle.node_shell.specs.Story.{ScriptRun, IsScriptStatus}
 
 -- the number of a status
@@ -77,7 +81,7 @@ pub record Plays {F : Type 0} (e : Environment F) (w : World) (old new : List Di
   pub start : World
   pub begins : Begun e ready start
   pub last : World
-  pub script : ScriptRun e start left0 left1 written0 written1 count last status
+  pub script : ScriptRun (Link e) (RunsShort e) start left0 left1 written0 written1 count last status
   pub rests : Rests e new (all_down last)
   pub openable : AreOpenable (all_down last)
   pub reaches : Reaches e start last
@@ -138,23 +142,26 @@ abbrev pub MisfitsAt : {F : Type 0} → Reads F → Identity → List ℕ → �
 MisfitsAt frame_at id bytes at = (refusal id bytes ≡ None) × (misfit frame_at id.nodes id.party (placed 16 (journal_of bytes)) ≡ Some at)
 
 -- why the first opening of a node over a disk was refused: the disk failed; or memory ran out; or it keeps no sound journal of the node's, or
--- one whose records do not fit
+-- one whose records do not fit, and then it keeps the same bytes as before
 abbrev pub HasCause : {F : Type 0} → Reads F → Identity → DiskView → BootFault → DiskView → Type 0
 HasCause frame_at id old boot.Fault new = Fails old new
 HasCause frame_at id old boot.Memory new = ⊤
-HasCause frame_at id old boot.NotAJournal new = old.tells ≡ true → refusal id old.state.kept ≡ Some open_fault.NotAJournal
-HasCause frame_at id old (boot.WrongNode found) new = old.tells ≡ true → refusal id old.state.kept ≡ Some (open_fault.WrongNode found)
-HasCause frame_at id old (boot.Damaged at) new = old.tells ≡ true → (refusal id old.state.kept ≡ Some (open_fault.Damaged at)) ⊎ MisfitsAt frame_at id old.state.kept at
+HasCause frame_at id old boot.NotAJournal new = IfTold old new (λ d e. (refusal id d.kept ≡ Some open_fault.NotAJournal) × (e.kept ≡ d.kept))
+HasCause frame_at id old (boot.WrongNode found) new = IfTold old new (λ d e. (refusal id d.kept ≡ Some (open_fault.WrongNode found)) × (e.kept ≡ d.kept))
+HasCause frame_at id old (boot.Damaged at) new = IfTold old new (λ d e. ((refusal id d.kept ≡ Some (open_fault.Damaged at)) ⊎ MisfitsAt frame_at id d.kept at) × (e.kept ≡ d.kept))
 
 -- the disks were not made ready: one failed, or memory ran out, and nothing was written
 abbrev pub IsUnready : Option (List ℕ) → Option (List ℕ) → Status → Type 0
 IsUnready written0 written1 s = ((s ≡ status.DiskFault) ⊎ (s ≡ status.NoMemory)) × (written1 ≡ written0)
 
--- an opening was refused for a cause, which what was written tells, with the number of the node: the first one, since no opening of those before it refuses its disk
+-- an opening was refused for a cause, which what was written tells, with the number of the node: the first one, since no opening of those before it refuses its disk; the disks of those
+-- keep what their openings left, and those of the nodes behind it are as before
 pub record IsToldWhy {F : Type 0} (frame_at : Reads F) (nodes : ℕ) (notary : Party) (old new : List DiskView) (written0 written1 : Option (List ℕ)) (s : Status) : Type 0 where
   pub node : ℕ
   pub within : node < nodes
   pub earlier : (p : ℕ) (d : DiskView) → p < node → slice_get old p ≡ Some d → KeepsOwn frame_at (member nodes notary p) d
+  pub opened : (p : ℕ) (d b : DiskView) → p < node → slice_get old p ≡ Some d → slice_get new p ≡ Some b → IfTold d b (λ x y. y.kept ≡ formatted (member nodes notary p) x.kept)
+  pub later : (p : ℕ) (d b : DiskView) → node < p → slice_get old p ≡ Some d → slice_get new p ≡ Some b → b.state ≡ d.state
   pub why : BootFault
   pub cause : (d b : DiskView) → slice_get old node ≡ Some d → slice_get new node ≡ Some b → HasCause frame_at (member nodes notary node) d why b
   pub told : RefusedWith node why written0 written1 s
@@ -238,3 +245,31 @@ StaysBut old new = (new ≡ record old { faults = new.faults }) × (old.faults �
 pub record AllStay (old new : List DiskView) : Type 0 where
   pub count : length new ≡ length old
   pub each : (p : ℕ) (d e : DiskView) → slice_get old p ≡ Some d → slice_get new p ≡ Some e → StaysBut d e
+
+-- ---- over any disks
+
+-- whatever the disks tell: they were made ready, each node opened its journal, and the script went from there to the last network, line by line; its nodes' disks are those that come back
+pub record GoesOn {F : Type 0} (m : Machine F) (frame_at : Reads F) (nodes : ℕ) (notary : Party) (old new : List DiskView) (left0 left1 written0 written1 : Option (List ℕ)) (count : ℕ) (status : Status) : Type 0 where
+  pub ready : List DiskView
+  pub made : AllStay old ready
+  pub begun : NetSeen
+  pub opened : BootsUpTo frame_at nodes begun.now (nodes_over nodes notary 0 ready) begun.nodes
+  pub last : NetSeen
+  pub script : ScriptRun (NetLink m frame_at) (NetShort m frame_at) begun left0 left1 written0 written1 count last status
+  pub back : map (λ (n : NodeSeen). n.disk) last.nodes ≡ map roomless new
+
+-- whatever the disks tell: nothing was read, since one was not made ready, or some node did not open
+pub record Halts {F : Type 0} (frame_at : Reads F) (nodes : ℕ) (notary : Party) (old new : List DiskView) (left0 left1 written0 written1 : Option (List ℕ)) (count : ℕ) (status : Status) : Type 0 where
+  pub unread : left1 ≡ left0
+  pub none : count ≡ 0
+  pub why : IsUnready written0 written1 status ⊎ IsToldWhy frame_at nodes notary old new written0 written1 status
+
+-- a run over any disks
+abbrev pub GoesOrHalts : {F : Type 0} → Machine F → Reads F → ℕ → Party → List DiskView → List DiskView → Option (List ℕ) → Option (List ℕ) → Option (List ℕ) → Option (List ℕ) → ℕ → Status → Type 0
+GoesOrHalts m frame_at nodes notary old new left0 left1 written0 written1 count s = GoesOn m frame_at nodes notary old new left0 left1 written0 written1 count s ⊎ Halts frame_at nodes notary old new left0 left1 written0 written1 count s
+
+-- a run over any disks, by the number of its status
+pub record RunsAnyhow {F : Type 0} (m : Machine F) (frame_at : Reads F) (nodes : ℕ) (notary : Party) (old new : List DiskView) (left0 left1 written0 written1 : Option (List ℕ)) (count number : ℕ) : Type 0 where
+  pub status : Status
+  pub is : number ≡ number_of_status status
+  pub ran : GoesOrHalts m frame_at nodes notary old new left0 left1 written0 written1 count status

@@ -1,20 +1,18 @@
 -- What a line is answered with, and what it makes of the world.
-use Rattle.std.specs.Prelude.{◌≡◌, ◌⊎◌, ℕ, ◌==◌, ◌-◌, ◌^◌, min, List, [], ◌∷◌, ◌++◌, map, Option, Some, None, Result, Ok, Err, Bool, true, false, codes, decimal, MatchBool, drop, slice_get, slice_index_or, string_bytes, if◌then◌else◌, option_map, option_and_then}
+use Rattle.std.specs.Prelude.{◌≡◌, ◌⊎◌, ℕ, ◌==◌, ◌-◌, ◌^◌, min, List, [], ◌∷◌, ◌++◌, map, Option, Some, None, Result, Ok, Err, Bool, true, false, codes, decimal, MatchBool, drop, slice_get, slice_index_or, string_bytes, if◌then◌else◌, option_map}
 use Rattle.net_base.specs.declared.causes.Cause.{Cause}
 use Rattle.flow_machine.specs.declared.flows.FlowState.{FlowState}
 use Rattle.flow_machine.specs.declared.flow_set.WordFault.{WordFault}
 use Rattle.flow_machine.specs.declared.flow_set.WordFault.TheVariants as word
-use Rattle.net_base.specs.declared.names.Identity.{Identity}
 use Rattle.flow_machine.specs.Machine.{Machine}
-use Rattle.net_model.specs.Environment.{Environment, environment}
+use Rattle.net_model.specs.Environment.{Environment}
 use Rattle.net_model.specs.Print.{printed, of_flows, of_flow, of_history}
-use Rattle.node_tables.specs.Journals.{Reads, causes_of, state_of}
-use Rattle.node_core.specs.Seen.{NodeSeen}
+use Rattle.node_tables.specs.Journals.{causes_of, state_of}
 use Rattle.network_core.specs.declared.steps.Outcome.{Outcome}
 use Rattle.network_core.specs.declared.steps.Outcome.TheVariants as outcome
 use Rattle.network_core.specs.declared.steps.Step.{Step}
 use Rattle.network_core.specs.declared.steps.Step.TheVariants as step
-use Rattle.network_core.specs.Worlds.{World, NodeWorld, NetSeen, Shows, Coherent}
+use Rattle.network_core.specs.Worlds.{World, NodeWorld}
 use Rattle.network_core.specs.Served.{Serve}
 use Rattle.shell_words.specs.declared.commands.Command.{Command}
 use Rattle.shell_words.specs.declared.commands.Command.TheVariants as command
@@ -24,7 +22,7 @@ use Rattle.node_shell.specs.declared.replies.Reply.TheVariants.{Silence, Quit, T
 
 -- ---- the text of a reply
 
--- the name of a refusal
+-- the name of a refusal; empty for a code that is none's
 abbrev pub name_of : ℕ → List ℕ
 name_of code =
     if code == 1 then codes "Syntax"
@@ -38,7 +36,9 @@ name_of code =
     else if code == 9 then codes "Full"
     else if code == 10 then codes "Backwards"
     else if code == 11 then codes "NoFlow"
-    else codes "Journal"
+    else if code == 12 then codes "NoTransaction"
+    else if code == 13 then codes "Journal"
+    else []
 
 -- what an outcome prints: one line, with its end
 abbrev pub outcome_text : Outcome → List ℕ
@@ -96,8 +96,8 @@ unmarked true (Ok words) = Err word.BadArgs
 unmarked true (Err fault) = Err fault
 
 -- the class and the arguments that the words of a start ask for
-abbrev pub started_by : {F : Type 0} → Environment F → List (List ℕ) → Result (ℕ × List ℕ) WordFault
-started_by e words = unmarked (has_mark (drop 3 words)) (e.machine.worded (slice_index_or words 2 []) (drop 3 words))
+abbrev pub started_by : {F : Type 0} → Machine F → List (List ℕ) → Result (ℕ × List ℕ) WordFault
+started_by m words = unmarked (has_mark (drop 3 words)) (m.worded (slice_index_or words 2 []) (drop 3 words))
 
 -- the start of a flow, where words name one
 abbrev pub start_step : ℕ → Result (ℕ × List ℕ) WordFault → Option Step
@@ -105,22 +105,22 @@ start_step node (Ok words) = Some (step.Start node words.0 words.1)
 start_step node (Err fault) = None
 
 -- the step that a command makes, if it makes one
-abbrev pub step_of : {F : Type 0} → Environment F → Command → List (List ℕ) → Option Step
-step_of e (command.Clock to) words = Some (step.Clock (record { 0 = to }))
-step_of e (command.Start node) words = start_step (place_of node) (started_by e words)
-step_of e (command.Turn node pick) words = Some (step.Turn (place_of node) (option_map flow_of pick))
-step_of e (command.Post node) words = Some (step.Post (place_of node))
-step_of e (command.Deliver node at) words = Some (step.Deliver (place_of node) (frame_of at))
-step_of e (command.Repeat node at) words = Some (step.Repeat (place_of node) (frame_of at))
-step_of e (command.Lose node at) words = Some (step.Lose (place_of node) (frame_of at))
-step_of e (command.Cut node calls kind) words = Some (step.Cut (place_of node) calls kind)
-step_of e (command.Boot node) words = Some (step.Boot (place_of node))
-step_of e command.Drain words = Some step.Drain
-step_of e (command.Flows node) words = None
-step_of e (command.Flow node flow) words = None
-step_of e command.History words = None
-step_of e command.Quit words = None
-step_of e command.Unknown words = None
+abbrev pub step_of : {F : Type 0} → Machine F → Command → List (List ℕ) → Option Step
+step_of m (command.Clock to) words = Some (step.Clock (record { 0 = to }))
+step_of m (command.Start node) words = start_step (place_of node) (started_by m words)
+step_of m (command.Turn node pick) words = Some (step.Turn (place_of node) (option_map flow_of pick))
+step_of m (command.Post node) words = Some (step.Post (place_of node))
+step_of m (command.Deliver node at) words = Some (step.Deliver (place_of node) (frame_of at))
+step_of m (command.Repeat node at) words = Some (step.Repeat (place_of node) (frame_of at))
+step_of m (command.Lose node at) words = Some (step.Lose (place_of node) (frame_of at))
+step_of m (command.Cut node calls kind) words = Some (step.Cut (place_of node) calls kind)
+step_of m (command.Boot node) words = Some (step.Boot (place_of node))
+step_of m command.Drain words = Some step.Drain
+step_of m (command.Flows node) words = None
+step_of m (command.Flow node flow) words = None
+step_of m command.History words = None
+step_of m command.Quit words = None
+step_of m command.Unknown words = None
 
 -- ---- answers that change nothing
 
@@ -138,16 +138,12 @@ AtNode w p reply asks =
 abbrev pub causes_in : {F : Type 0} → Environment F → World → List (List Cause)
 causes_in e w = map (λ x. causes_of e.frame_at x.journal) w.nodes
 
--- the refusal of words that start no flow
-abbrev pub word_code : WordFault → ℕ
-word_code word.UnknownClass = 5
-word_code word.BadArgs = 6
-word_code word.Memory = 6
-
--- the words of a start name no flow
+-- the words of a start name no flow; of want of memory nothing is answered
 abbrev pub RefusesWords : World → ℕ → Result (ℕ × List ℕ) WordFault → Reply → Type 0
 RefusesWords w p (Ok words) reply = ⊥
-RefusesWords w p (Err fault) reply = AtNode w p reply (λ x. IsRefused (word_code fault) reply)
+RefusesWords w p (Err word.UnknownClass) reply = AtNode w p reply (λ x. IsRefused 5 reply)
+RefusesWords w p (Err word.BadArgs) reply = AtNode w p reply (λ x. IsRefused 6 reply)
+RefusesWords w p (Err word.Memory) reply = ⊥
 
 -- the line of a flow, or that there is none
 abbrev pub AsksFlow : {F : Type 0} → Environment F → World → ℕ → ℕ → Reply → NodeWorld → Type 0
@@ -163,7 +159,7 @@ AsksHistory e w reply =
 
 -- the reply to a command that makes no step
 abbrev pub Answers : {F : Type 0} → Environment F → World → Command → List (List ℕ) → Reply → Type 0
-Answers e w (command.Start node) words reply = RefusesWords w (place_of node) (started_by e words) reply
+Answers e w (command.Start node) words reply = RefusesWords w (place_of node) (started_by e.machine words) reply
 Answers e w (command.Flows node) words reply = AtNode w (place_of node) reply (λ x. reply_text reply ≡ printed e (causes_in e w) (of_flows (place_of node)))
 Answers e w (command.Flow node flow) words reply = AtNode w (place_of node) reply (AsksFlow e w (place_of node) (flow_of flow) reply)
 Answers e w command.History words reply = AsksHistory e w reply
@@ -188,7 +184,7 @@ Makes e w None asked words reply v = Answers e w asked words reply × (v ≡ w)
 
 -- the reply to a command with its words, and the world after it
 abbrev pub Serves : {F : Type 0} → Environment F → World → Command → List (List ℕ) → Reply → World → Type 0
-Serves e w asked words reply v = Makes e w (step_of e asked words) asked words reply v
+Serves e w asked words reply v = Makes e w (step_of e.machine asked words) asked words reply v
 
 -- the reply to a line, and the world after it
 abbrev pub RepliesTo : {F : Type 0} → Environment F → World → List ℕ → Reply → World → Type 0
@@ -211,31 +207,22 @@ Leaves e (Some step) w v = (v ≡ w) ⊎ Serve e step w None v
 
 -- a line was left without an answer for want of memory: it was left off, or it was served and its answer could not be spelt
 abbrev pub RunsShort : {F : Type 0} → Environment F → World → List ℕ → World → Type 0
-RunsShort e w line v = Leaves e (step_of e (asked_by line) (words_of line)) w v ⊎ ((text : List ℕ) × Link e w line text v)
+RunsShort e w line v = Leaves e (step_of e.machine (asked_by line) (words_of line)) w v ⊎ ((text : List ℕ) × Link e w line text v)
 
 -- what a command came to: its reply, or want of memory
 abbrev pub Comes : {F E : Type 0} → Environment F → World → Command → List (List ℕ) → Result Reply E → World → Type 0
 Comes e w asked words (Ok reply) v = Serves e w asked words reply v
-Comes e w asked words (Err fault) v = Leaves e (step_of e asked words) w v
+Comes e w asked words (Err fault) v = Leaves e (step_of e.machine asked words) w v
 
 -- what a line came to: its reply, or want of memory
 abbrev pub LineComes : {F E : Type 0} → Environment F → World → List ℕ → Result Reply E → World → Type 0
 LineComes e w line (Ok reply) v = RepliesTo e w line reply v
-LineComes e w line (Err fault) v = Leaves e (step_of e (asked_by line) (words_of line)) w v
+LineComes e w line (Err fault) v = Leaves e (step_of e.machine (asked_by line) (words_of line)) w v
 
 -- what a step came to: its outcome, told, or want of memory
 abbrev pub StepComes : {F E : Type 0} → Environment F → World → Step → Result Reply E → World → Type 0
 StepComes e w step (Ok reply) v = (o : Outcome) × Serve e step w (Some o) v × (reply ≡ Told o)
 StepComes e w step (Err fault) v = Serve e step w None v
-
--- in each coherent world that the network shows
-abbrev pub InWorld : {F : Type 0} → Machine F → Reads F → NetSeen → (Environment F → World → Type 0) → Type 0
-InWorld m frame_at net goal = (id : Identity) (w : World) → Shows (environment m frame_at id) net w → Coherent (environment m frame_at id) w → goal (environment m frame_at id) w
-
--- the causes of the journals of all nodes, where each is up
-abbrev pub causes_up : {F : Type 0} → Reads F → List NodeSeen → Option (List (List Cause))
-causes_up frame_at [] = Some []
-causes_up frame_at (n ∷ ns) = option_and_then (λ bodies. option_map (λ lists. causes_of frame_at bodies ∷ lists) (causes_up frame_at ns)) n.journal
 
 -- whether a command ends the script
 abbrev pub is_quit_command : Command → Bool

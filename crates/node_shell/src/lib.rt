@@ -1,6 +1,6 @@
 //! The shell that runs a script over a network of 1 to 16 nodes.
 //!
-//! The definitions that the contracts cite stand in `specs/`, in this order: `Serve`, `Story`, `Pairs`, `Runs`; those of lines and words
+//! The definitions that the contracts cite stand in `specs/`, in this order: `Serve`, `Responds`, `Story`, `Pairs`, `Runs`; those of lines and words
 //! stand in `shell_words`, those of worlds and steps in `network_core`.
 #![tactic(auto)]
 

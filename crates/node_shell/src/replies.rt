@@ -17,7 +17,7 @@ pub enum Reply {
     Printed(String),
 }
 
-/// The name of a refusal.
+/// The name of a refusal; empty for a code that is none's.
 fn name_of(code: u8) -> &'static str
     ensures { result.now ≡ name_of code }
 {
@@ -33,7 +33,9 @@ fn name_of(code: u8) -> &'static str
         9 => "Full",
         10 => "Backwards",
         11 => "NoFlow",
-        _ => "Journal",
+        12 => "NoTransaction",
+        13 => "Journal",
+        _ => "",
     }
 }
 

@@ -5,8 +5,8 @@ ghost use Rattle.network_core.specs.Worlds.{KeepsWorld};
 ghost use Rattle.shell_words.specs.Script.{command_of, is_quit, has_mark};
 ghost use Rattle.shell_words.specs.declared.commands.Command.TheVariants as command;
 ghost use Rattle.flow_machine.specs.Flows.{GivesWords};
-ghost use Rattle.net_model.specs.Print.{printed, of_flows};
-ghost use Rattle.node_shell.specs.Serve.{Comes, LineComes, StepComes, InWorld, AtNode, AsksFlow, AsksHistory, IsRefused, causes_in, causes_up, unmarked, place_of, flow_of, frame_of, is_end, is_quit_command, reply_text};
+ghost use Rattle.node_shell.specs.Serve.{Comes, LineComes, StepComes, IsRefused, unmarked, place_of, flow_of, frame_of, is_end, is_quit_command};
+ghost use Rattle.node_shell.specs.Responds.{AtSeen, PrintsFlows, PrintsFlow, PrintsHistory, StepResponds, CommandResponds, LineResponds, causes_up, given};
 
 use super::replies::Reply;
 use flow_machine::{FlowSet, WordFault};
@@ -63,6 +63,7 @@ fn make<B: Bay, F: FlowSet>(
     step: &Step,
 ) -> Result<Reply, AllocError>
     ensures serves { KeepsWorld F.machine F.reading net.old net.new (λ e w v. StepComes e w step.now result v) }
+    ensures responds { StepResponds F.machine F.reading step.now net.old (given result) net.new }
     ensures count { length net.new.nodes ≡ length net.old.nodes }
     ensures goes_on { IfOk result (λ reply. is_end reply ≡ false) }
 {
@@ -84,7 +85,7 @@ fn started_by<F: FlowSet>(alloc: Global, words: &[String]) -> Result<(u16, ByteL
 
 /// A refusal of a command at a node that is there and up.
 fn refuse_at<B: Bay, F: FlowSet>(net: &Net<B, F>, place: u8, code: u8) -> Reply
-    ensures asks { InWorld F.machine F.reading net.entry.now (λ e w. AtNode w place result (λ x. IsRefused code result)) }
+    ensures asks { AtSeen net.entry.now place result (λ bodies. IsRefused code result) }
     ensures goes_on { is_end result ≡ false }
 {
     match net.nodes().get(place as usize) {
@@ -102,6 +103,7 @@ fn start<B: Bay, F: FlowSet>(
 ) -> Result<Reply, AllocError>
     requires { 2 < length words.now }
     ensures serves { KeepsWorld F.machine F.reading net.old net.new (λ e w v. Comes e w (command.Start node) (map (λ s. string_bytes s) words.now) result v) }
+    ensures responds { CommandResponds F.machine F.reading (command.Start node) (map (λ s. string_bytes s) words.now) net.old (given result) net.new }
     ensures count { length net.new.nodes ≡ length net.old.nodes }
     ensures goes_on { IfOk result (λ reply. is_end reply ≡ false) }
 {
@@ -127,7 +129,7 @@ fn print_flows<B: Bay, F: FlowSet>(
     net: &Net<B, F>,
     place: u8,
 ) -> Result<Reply, AllocError>
-    ensures asks { InWorld F.machine F.reading net.entry.now (λ e w. IfOk result (λ reply. AtNode w place reply (λ x. reply_text reply ≡ printed e (causes_in e w) (of_flows place)))) }
+    ensures asks { IfOk result (λ reply. AtSeen net.entry.now place reply (PrintsFlows F.reading reply)) }
     ensures goes_on { IfOk result (λ reply. is_end reply ≡ false) }
 {
     let Some(node) = net.nodes().get(place as usize) else {
@@ -146,7 +148,7 @@ fn print_flow<B: Bay, F: FlowSet>(
     place: u8,
     flow: u32,
 ) -> Result<Reply, AllocError>
-    ensures asks { InWorld F.machine F.reading net.entry.now (λ e w. IfOk result (λ reply. AtNode w place reply (AsksFlow e w place flow reply))) }
+    ensures asks { IfOk result (λ reply. AtSeen net.entry.now place reply (PrintsFlow F.reading flow reply)) }
     ensures goes_on { IfOk result (λ reply. is_end reply ≡ false) }
 {
     let Some(node) = net.nodes().get(place as usize) else {
@@ -180,7 +182,7 @@ fn all_causes<B: Bay, F: FlowSet>(
 
 /// The merged causes of all nodes.
 fn print_history<B: Bay, F: FlowSet>(alloc: Global, net: &Net<B, F>) -> Result<Reply, AllocError>
-    ensures asks { InWorld F.machine F.reading net.entry.now (λ e w. IfOk result (λ reply. AsksHistory e w reply)) }
+    ensures asks { IfOk result (λ reply. PrintsHistory F.reading net.entry.now reply) }
     ensures goes_on { IfOk result (λ reply. is_end reply ≡ false) }
 {
     match all_causes(alloc, net.nodes())? {
@@ -196,6 +198,7 @@ fn serve<B: Bay, F: FlowSet>(
     words: &[String],
 ) -> Result<Reply, AllocError>
     ensures serves { let ws = map (λ s. string_bytes s) words.now in KeepsWorld F.machine F.reading net.old net.new (λ e w v. Comes e w (command_of ws) ws result v) }
+    ensures responds { let ws = map (λ s. string_bytes s) words.now in CommandResponds F.machine F.reading (command_of ws) ws net.old (given result) net.new }
     ensures count { length net.new.nodes ≡ length net.old.nodes }
     ensures end { IfOk result (λ reply. is_end reply ≡ is_quit_command (command_of (map (λ s. string_bytes s) words.now))) }
 {
@@ -274,6 +277,7 @@ pub fn reply_to<B: Bay, F: FlowSet>(
     line: &[u8],
 ) -> Result<Reply, AllocError>
     ensures replies { KeepsWorld F.machine F.reading net.old net.new (λ e w v. LineComes e w line.now result v) }
+    ensures responds { LineResponds F.machine F.reading line.now net.old (given result) net.new }
     ensures count { length net.new.nodes ≡ length net.old.nodes }
     ensures end { IfOk result (λ reply. is_end reply ≡ is_quit line.now) }
 {

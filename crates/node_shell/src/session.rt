@@ -1,10 +1,12 @@
 ghost use Rattle.std.specs.Prelude.{◌≡◌, ◌<◌, ◌≤◌, ◌+◌, ◌↔◌, [], ◌∷◌, ℕ, List, length, OnOk, IfOk, IfErr, IsErrOf, Option};
 ghost use Rattle.outside.specs.Faults.{Rose};
-ghost use Rattle.network_core.specs.Worlds.{World, KeepsWorld, Shows, Coherent};
+ghost use Rattle.network_core.specs.Worlds.{World, NetSeen, Shows, Coherent};
 ghost use Rattle.net_base.specs.declared.names.Identity.{Identity};
 ghost use Rattle.net_model.specs.Environment.{environment};
 ghost use Rattle.shell_words.specs.Script.{is_quit};
 ghost use Rattle.std.specs.Io.KnownBytes.{Consumes, IsAtEnd};
+ghost use Rattle.node_shell.specs.Serve.{Link, RunsShort};
+ghost use Rattle.node_shell.specs.Responds.{NetLink, NetShort};
 ghost use Rattle.node_shell.specs.Story.{InSome, Progress, ScriptRun, AnswerComes, IsLastStatus, IsScriptStatus, status_of};
 
 use super::serving::reply_to;
@@ -40,7 +42,7 @@ fn answer<B: Bay, F: FlowSet, K: Sink>(
     sink: &mut K,
     line: &[u8],
 ) -> Result<bool, Stop>
-    ensures comes { KeepsWorld F.machine F.reading net.old net.new (λ e w v. AnswerComes e w line.now (K.written sink.old) (K.written sink.new) result v) }
+    ensures comes { AnswerComes (NetLink F.machine F.reading) (NetShort F.machine F.reading) net.old line.now (K.written sink.old) (K.written sink.new) result net.new }
     ensures count { length net.new.nodes ≡ length net.old.nodes }
     ensures quit { IfOk result (λ quit. quit ≡ is_quit line.now) }
     ensures cause { IsErrOf result Stop.Write → Rose (K.faults sink.old) (K.faults sink.new) }
@@ -74,8 +76,8 @@ fn answer_last<B: Bay, F: FlowSet, K: Sink>(
     sink: &mut K,
     line: &[u8],
 ) -> Status
-    ensures ended { (id : Identity) (start : World) (left0 left1 written0 : Option (List ℕ)) (count : ℕ) → count ≤ 16777216 → IsAtEnd left1 → InSome (environment F.machine F.reading id) net.old (λ w. Progress (environment F.machine F.reading id) start left0 left1 written0 (K.written sink.old) count w line.now)
-        → InSome (environment F.machine F.reading id) net.new (λ w. ScriptRun (environment F.machine F.reading id) start left0 left1 written0 (K.written sink.new) count w result) }
+    ensures ended { (start : NetSeen) (left0 left1 written0 : Option (List ℕ)) (count : ℕ) → count ≤ 16777216 → IsAtEnd left1 → Progress (NetLink F.machine F.reading) start left0 left1 written0 (K.written sink.old) count net.old line.now
+        → ScriptRun (NetLink F.machine F.reading) (NetShort F.machine F.reading) start left0 left1 written0 (K.written sink.new) count net.new result }
     ensures count { length net.new.nodes ≡ length net.old.nodes }
     ensures kinds { IsLastStatus result }
     ensures cause { result ≡ Status.WriteFault → Rose (K.faults sink.old) (K.faults sink.new) }
@@ -97,10 +99,10 @@ fn answer_line<B: Bay, F: FlowSet, K: Sink>(
     sink: &mut K,
     line: &[u8],
 ) -> Result<(), Status>
-    ensures ok { OnOk result ((id : Identity) (start : World) (left0 left1 left2 written0 : Option (List ℕ)) (count : ℕ) → count < 16777216 → Consumes left1 left2 (10 ∷ []) → InSome (environment F.machine F.reading id) net.old (λ w. Progress (environment F.machine F.reading id) start left0 left1 written0 (K.written sink.old) count w line.now)
-        → InSome (environment F.machine F.reading id) net.new (λ w. Progress (environment F.machine F.reading id) start left0 left2 written0 (K.written sink.new) (count + 1) w [])) }
-    ensures err { IfErr result (λ status. (id : Identity) (start : World) (left0 left1 left2 written0 : Option (List ℕ)) (count : ℕ) → count < 16777216 → Consumes left1 left2 (10 ∷ []) → InSome (environment F.machine F.reading id) net.old (λ w. Progress (environment F.machine F.reading id) start left0 left1 written0 (K.written sink.old) count w line.now)
-        → InSome (environment F.machine F.reading id) net.new (λ w. ScriptRun (environment F.machine F.reading id) start left0 left2 written0 (K.written sink.new) (count + 1) w status)) }
+    ensures ok { OnOk result ((start : NetSeen) (left0 left1 left2 written0 : Option (List ℕ)) (count : ℕ) → count < 16777216 → Consumes left1 left2 (10 ∷ []) → Progress (NetLink F.machine F.reading) start left0 left1 written0 (K.written sink.old) count net.old line.now
+        → Progress (NetLink F.machine F.reading) start left0 left2 written0 (K.written sink.new) (count + 1) net.new []) }
+    ensures err { IfErr result (λ status. (start : NetSeen) (left0 left1 left2 written0 : Option (List ℕ)) (count : ℕ) → count < 16777216 → Consumes left1 left2 (10 ∷ []) → Progress (NetLink F.machine F.reading) start left0 left1 written0 (K.written sink.old) count net.old line.now
+        → ScriptRun (NetLink F.machine F.reading) (NetShort F.machine F.reading) start left0 left2 written0 (K.written sink.new) (count + 1) net.new status) }
     ensures count { length net.new.nodes ≡ length net.old.nodes }
     ensures kinds { IfErr result IsLastStatus }
     ensures cause { IsErrOf result Status.WriteFault → Rose (K.faults sink.old) (K.faults sink.new) }
@@ -123,11 +125,11 @@ fn take_byte<B: Bay, F: FlowSet, S: Source, K: Sink>(
     count: u64,
 ) -> Result<(), End>
     requires within { count ≤ 16777216 }
-    ensures ok { OnOk result ((id : Identity) (start : World) (left0 written0 : Option (List ℕ)) → InSome (environment F.machine F.reading id) net.old (λ w. Progress (environment F.machine F.reading id) start left0 (S.left source.old) written0 (K.written sink.old) count w line.old.items)
-        → InSome (environment F.machine F.reading id) net.new (λ w. Progress (environment F.machine F.reading id) start left0 (S.left source.new) written0 (K.written sink.new) (count + 1) w line.new.items)) }
+    ensures ok { OnOk result ((start : NetSeen) (left0 written0 : Option (List ℕ)) → Progress (NetLink F.machine F.reading) start left0 (S.left source.old) written0 (K.written sink.old) count net.old line.old.items
+        → Progress (NetLink F.machine F.reading) start left0 (S.left source.new) written0 (K.written sink.new) (count + 1) net.new line.new.items) }
     ensures within { OnOk result (count < 16777216) }
-    ensures err { IfErr result (λ e. (id : Identity) (start : World) (left0 written0 : Option (List ℕ)) → InSome (environment F.machine F.reading id) net.old (λ w. Progress (environment F.machine F.reading id) start left0 (S.left source.old) written0 (K.written sink.old) count w line.old.items)
-        → InSome (environment F.machine F.reading id) net.new (λ w. ScriptRun (environment F.machine F.reading id) start left0 (S.left source.new) written0 (K.written sink.new) e.bytes_read w e.status)) }
+    ensures err { IfErr result (λ e. (start : NetSeen) (left0 written0 : Option (List ℕ)) → Progress (NetLink F.machine F.reading) start left0 (S.left source.old) written0 (K.written sink.old) count net.old line.old.items
+        → ScriptRun (NetLink F.machine F.reading) (NetShort F.machine F.reading) start left0 (S.left source.new) written0 (K.written sink.new) e.bytes_read net.new e.status) }
     ensures too_long { IfErr result (λ e. e.status ≡ Status.TooLong ↔ (e.bytes_read ≡ 16777217)) }
     ensures few { IfErr result (λ e. e.bytes_read ≤ 16777217) }
     ensures count { length net.new.nodes ≡ length net.old.nodes }
@@ -183,8 +185,9 @@ pub fn session<B: Bay, F: FlowSet, S: Source, K: Sink>(
     sink: &mut K,
 ) -> End
     ensures count { length net.new.nodes ≡ length net.old.nodes }
+    ensures went { ScriptRun (NetLink F.machine F.reading) (NetShort F.machine F.reading) net.old (S.left source.old) (S.left source.new) (K.written sink.old) (K.written sink.new) result.bytes_read net.new result.status }
     ensures ran { (id : Identity) (start : World) → Shows (environment F.machine F.reading id) net.old start → Coherent (environment F.machine F.reading id) start
-        → InSome (environment F.machine F.reading id) net.new (λ w. ScriptRun (environment F.machine F.reading id) start (S.left source.old) (S.left source.new) (K.written sink.old) (K.written sink.new) result.bytes_read w result.status) }
+        → InSome (environment F.machine F.reading id) net.new (λ w. ScriptRun (Link (environment F.machine F.reading id)) (RunsShort (environment F.machine F.reading id)) start (S.left source.old) (S.left source.new) (K.written sink.old) (K.written sink.new) result.bytes_read w result.status) }
     ensures too_long { result.status ≡ Status.TooLong ↔ (result.bytes_read ≡ 16777217) }
     ensures few { result.bytes_read ≤ 16777217 }
     ensures kinds { IsScriptStatus result.status }

@@ -1,17 +1,30 @@
+use super::replies::Reply;
 use super::{Ended, run};
 use disk_mem::MemDisk;
 use flow_machine::{Counter, FlowSet};
+use network_core::Outcome;
 use outside::{Bay, Disk, MemSink, MemSource};
 use shipped_flows::ShippedFlow;
 use std::alloc::{AllocError, Global};
 use std::test::Fail;
 
-// The program's words, with which it runs so many nodes.
-fn nodes_words(alloc: Global, count: &str) -> Result<Vec<String>, AllocError> {
+// The program's words.
+fn words_from(alloc: Global, texts: &[&str]) -> Result<Vec<String>, AllocError> {
     let mut words = Vec::new(alloc);
-    words.push(String::from_str(alloc, "--nodes")?)?;
-    words.push(String::from_str(alloc, count)?)?;
+    for text in texts {
+        words.push(String::from_str(alloc, text)?)?;
+    }
     Ok(words)
+}
+
+// The bytes that these parts spell in hexadecimal, one after the other.
+fn bytes_from(alloc: Global, parts: &[&str]) -> Result<Vec<u8>, Fail> {
+    let mut bytes = Vec::new(alloc);
+    for part in parts {
+        let more = hex::decode(alloc, part)?;
+        bytes.extend_from_slice(more.as_slice())?;
+    }
+    Ok(bytes)
 }
 
 // A disk that holds these bytes.
@@ -67,7 +80,7 @@ fn run_nodes<F: FlowSet>(
     let bytes = script.as_bytes().to_vec(alloc)?;
     let mut source = MemSource::new(bytes, failing_reads);
     let mut sink = MemSink::new(alloc, 1000, failing_writes)?;
-    let words = nodes_words(alloc, nodes)?;
+    let words = words_from(alloc, &["--nodes", nodes])?;
     let ended = run::<_, _, _, F>(alloc, words.as_slice(), &mut source, &mut sink, disks);
     Ok((ended, sink))
 }
@@ -196,40 +209,106 @@ fn a_disk_without_power_ends_the_run(rt: HostRuntime) -> Result<(), Fail> {
     Ok(())
 }
 
+// The header of node 0 of 1 with notary 0.
+fn own_header() -> &'static str {
+    "01434f5244414a4e4c01000100000000"
+}
+
+// The header of node 1 of 3 with notary 0, and the first gate.
+fn other_header() -> &'static str {
+    "01434f5244414a4e4c0101030000000000"
+}
+
+// The record of `start 0 count 0`, without its next gate.
+fn started() -> &'static str {
+    "0100000046000000000000000100000000000000000100000000000100040000000001000000000000000000010e01000000000000000001000a0102000000000000000000000000000000"
+}
+
+// The same with the stamp 0, and with its next gate.
+fn started_at_0() -> &'static str {
+    "0100000046000000000000000000000000000000000100000000000100040000000001000000000000000000010e01000000000000000001000a010200000000000000000000000000000000"
+}
+
+// The record of the move after it, which ends the flow at step 1, with its next gate.
+fn moved() -> &'static str {
+    "010000003000000000000000020000000000000000040000000002000000000000000100010100000000000000000000000000000000"
+}
+
+// The same with the step number 2.
+fn moved_to_2() -> &'static str {
+    "010000003000000000000000020000000000000000040000000002000000000000000200010100000000000000000000000000000000"
+}
+
 #[test]
 fn a_journal_that_is_no_sound_one_of_the_node_ends_the_run(rt: HostRuntime) -> Result<(), Fail> {
     let alloc = rt.alloc();
-
-    // The header of node 0 of 1 with notary 0, and an open gate with a length that no record has; the header of node 1 of 3; no
-    // header.
-    let damaged = [
-        1, b'C', b'O', b'R', b'D', b'A', b'J', b'N', b'L', 1, 0, 1, 0, 0, 0, 0, 1, 255, 255, 255,
-        255,
-    ];
-    let wrong = [
-        1, b'C', b'O', b'R', b'D', b'A', b'J', b'N', b'L', 1, 1, 3, 0, 0, 0, 0, 0,
-    ];
-    let foreign = [1u8; 17];
+    let foreign = "000000000000000000000000000000000000";
     let rows = [
-        (damaged.as_slice(), "! journal 0 damaged 16\n"),
-        (wrong.as_slice(), "! journal 0 wrong\n"),
-        (foreign.as_slice(), "! journal 0 foreign\n"),
+        (
+            "1",
+            [own_header(), "01ffffffff", ""],
+            "! journal 0 damaged 16\n",
+        ),
+        (
+            "1",
+            [own_header(), started(), ""],
+            "! journal 0 damaged 16\n",
+        ),
+        (
+            "1",
+            [own_header(), started_at_0(), ""],
+            "! journal 0 damaged 16\n",
+        ),
+        (
+            "1",
+            [own_header(), started(), moved_to_2()],
+            "! journal 0 damaged 91\n",
+        ),
+        ("1", [other_header(), "", ""], "! journal 0 wrong\n"),
+        ("3", [other_header(), "", ""], "! journal 0 wrong\n"),
+        (
+            "1",
+            ["0101010101010101010101010101010101", "", ""],
+            "! journal 0 foreign\n",
+        ),
+        ("1", [foreign, "", ""], "! journal 0 foreign\n"),
     ];
-    for (bytes, line) in rows {
-        let disks = disks_from(alloc, disk_of(alloc, bytes)?)?;
-        let (ended, sink) = run_script(alloc, disks, "flows 0\n")?;
+    for (nodes, parts, line) in rows {
+        let bytes = bytes_from(alloc, parts.as_slice())?;
+        let disks = disks_from(alloc, disk_of(alloc, bytes.as_slice())?)?;
+        let none = Vec::new(alloc);
+        let (mut ended, sink) = run_nodes::<Counter>(
+            alloc,
+            nodes,
+            disks,
+            "flows 0\n",
+            none,
+            Vec::new(alloc),
+        )?;
         assert_eq!(rt; ended.status, 8);
         assert_eq!(rt; ended.bytes_read, 0);
         assert_eq!(rt; ended.disks.len(), 32);
+        assert_eq!(rt; first_length(&mut ended.disks), Some(bytes.len() as u64));
         assert_eq!(rt; sink.bytes(), line.as_bytes());
     }
 
     // A write that fails comes before.
-    let disks = disks_from(alloc, disk_of(alloc, wrong.as_slice())?)?;
+    let bytes = bytes_from(alloc, &[other_header()])?;
+    let disks = disks_from(alloc, disk_of(alloc, bytes.as_slice())?)?;
     let writes = vec![in alloc; 0]?;
     let (ended, sink) = run_on(alloc, disks, "flows 0\n", Vec::new(alloc), writes)?;
     assert_eq!(rt; ended.status, 5);
     assert_eq!(rt; sink.bytes().len(), 0);
+
+    // The sound one of which some are spoilt.
+    let bytes = bytes_from(alloc, &[own_header(), started(), moved()])?;
+    let disks = disks_from(alloc, disk_of(alloc, bytes.as_slice())?)?;
+    let (ended, sink) = run_script(alloc, disks, "flows 0\n")?;
+    assert_eq!(rt; ended.status, 0);
+    assert_eq!(rt;
+        sink.bytes(),
+        b"flow 0 class 1 steps 1 ended number 0\n".as_slice()
+    );
     Ok(())
 }
 
@@ -293,11 +372,28 @@ fn several_nodes_have_their_answers(rt: HostRuntime) -> Result<(), Fail> {
     Ok(())
 }
 
+// No script is answered with these two: no transaction is recorded yet, and no boot within a script finds an unsound journal.
+#[test]
+fn codes_have_their_names(rt: HostRuntime) -> Result<(), Fail> {
+    let alloc = rt.alloc();
+    let rows = [(12, "! 12 NoTransaction\n"), (13, "! 13 Journal\n")];
+    for (code, line) in rows {
+        let reply = Reply::Told(Outcome::Refused { code });
+        let text = reply.to_string(alloc)?;
+        assert_eq!(rt; text.as_str(), line);
+    }
+    Ok(())
+}
+
 // The counting flow talks to no other node, so that no frame waits anywhere.
 #[test]
 fn commands_of_frames_have_their_answers(rt: HostRuntime) -> Result<(), Fail> {
     let alloc = rt.alloc();
     let rows = [
+        (
+            "frob\nturn 9\nstart 0 nope\nstart 0 count x\ndeliver 0 0\nclock 5\nclock 4\nflow 0 0\nboot 0\ncut 0 0 0\nturn 0\n",
+            "! 1 Syntax\n! 2 UnknownNode\n! 5 UnknownClass\n! 6 BadArgs\n! 7 NoFrame\nok\n! 10 Backwards\n! 11 NoFlow\n! 4 NodeUp\ndown\n! 3 NodeDown\n",
+        ),
         (
             "post 0\ndeliver 0 0\nrepeat 1 0\nlose 1 0\nrepeat 9 0\npost 2\ndeliver 2 0\nlose 256 0\nlose 0 4294967296\n",
             "posted 0\n! 7 NoFrame\n! 7 NoFrame\n! 7 NoFrame\n! 2 UnknownNode\n! 2 UnknownNode\n! 2 UnknownNode\n! 2 UnknownNode\n! 7 NoFrame\n",
@@ -434,21 +530,32 @@ fn the_first_node_that_does_not_open_ends_the_run(rt: HostRuntime) -> Result<(),
     Ok(())
 }
 
+// Words that are refused: nothing is read, written or touched.
 #[test]
 fn other_words_are_refused(rt: HostRuntime) -> Result<(), Fail> {
     let alloc = rt.alloc();
-    let mut source = MemSource::new(b"drain\n".to_vec(alloc)?, Vec::new(alloc));
-    let mut sink = MemSink::new(alloc, 100, Vec::new(alloc))?;
-    let words = nodes_words(alloc, "17")?;
-    let disks = disks_from(alloc, disk_of(alloc, &[7])?)?;
-    if disks.len() != 32 {
-        return Err(Fail::new("disks"));
+    let many = ["--nodes", "17"];
+    let absent = ["--nodes", "2", "--notary", "2"];
+    for texts in [many.as_slice(), absent.as_slice()] {
+        let mut source = MemSource::new(b"drain\n".to_vec(alloc)?, Vec::new(alloc));
+        let mut sink = MemSink::new(alloc, 100, Vec::new(alloc))?;
+        let words = words_from(alloc, texts)?;
+        let disks = disks_from(alloc, disk_of(alloc, &[7])?)?;
+        if disks.len() != 32 {
+            return Err(Fail::new("disks"));
+        }
+        let mut ended = run::<_, _, _, Counter>(
+            alloc,
+            words.as_slice(),
+            &mut source,
+            &mut sink,
+            disks,
+        );
+        assert_eq!(rt; ended.status, 2);
+        assert_eq!(rt; ended.bytes_read, 0);
+        assert_eq!(rt; sink.bytes().len(), 0);
+        assert_eq!(rt; ended.disks.len(), 32);
+        assert_eq!(rt; first_length(&mut ended.disks), Some(1));
     }
-    let mut ended = run::<_, _, _, Counter>(alloc, words.as_slice(), &mut source, &mut sink, disks);
-    assert_eq!(rt; ended.status, 2);
-    assert_eq!(rt; ended.bytes_read, 0);
-    assert_eq!(rt; sink.bytes().len(), 0);
-    assert_eq!(rt; ended.disks.len(), 32);
-    assert_eq!(rt; first_length(&mut ended.disks), Some(1));
     Ok(())
 }

@@ -1,6 +1,6 @@
 use Rattle.std.proofs.Common.{◌≡◌, ◌++◌, drop}
 use Rattle.std.specs.Prelude.{option_map}
-use Rattle.node_shell.specs.Serve.{causes_up}
+use Rattle.node_shell.specs.Responds.{causes_up}
 use Rattle.node_shell.proofs.serving.all_causes.Given as goal
 
 -- the lists so far, and those of the nodes that are left

@@ -1,9 +1,10 @@
-use Rattle.std.proofs.Common.{◌≡◌, map, length, sym, ◌∙◌, ap, subst}
+use Rattle.std.proofs.Common.{◌≡◌, inl, inr, map, length, refl, sym, ◌∙◌, ap, subst}
 use Rattle.std.proofs.lemmas.List.{length-map}
 use Rattle.net_base.proofs.Lists.{map_both}
 use Rattle.net_model.specs.Environment.{party}
 use Rattle.node_core.specs.Disks.{roomless}
 use Rattle.node_shell.specs.Runs.{IsToldWhy}
+use Rattle.node_shell.proofs.Readying.{stay_same}
 use Rattle.node_shell.proofs.Opening.{played, refused, told_why, fault_why, boots_own}
 use Rattle.node_shell.proofs.top.play.Goals as goal
 
@@ -42,3 +43,25 @@ returns-in-Err-clause-bad_journal g c is =
 pub returns-in-Ok-clause-own : goal.returns-in-Ok-clause-own
 returns-in-Ok-clause-own g c is =
     boots_own g.F.Spelt.reading c.args.network.nodes (party c.args.network.notary) (map g.B.Disk.seen c.args.own.items) c.in-Ok.net.now c.in-Ok.net.nodes (length-map c.args.own.items g.B.Disk.seen ∙ c.requires.disks) c.in-Ok.ensures.boots
+
+pub returns-in-Ok-clause-went : goal.returns-in-Ok-clause-went
+returns-in-Ok-clause-went g c =
+    let own = map g.B.Disk.seen c.args.own.items in
+    inl (record {
+      ready = own;
+      made = stay_same own;
+      begun = c.in-Ok.net;
+      opened = c.in-Ok.ensures.boots;
+      last = c.session-end.new.net;
+      script = c.session-end.ensures.went;
+      back = sym c.into_disks.ensures ∙ sym (map_both roomless g.B.Disk.seen c.into_disks.result.items);
+    })
+
+pub returns-in-Err-clause-went : goal.returns-in-Err-clause-went
+returns-in-Err-clause-went g c =
+    let own = map g.B.Disk.seen c.args.own.items in
+    inr (record {
+      unread = refl;
+      none = refl;
+      why = inr (told_why g.F.FlowSet.machine g.F.Spelt.reading c.args.network.nodes (party c.args.network.notary) own _ c.in-Err.refused.node c.in-Err.refused.why _ _ _ c.requires.within.some (length-map c.args.own.items g.B.Disk.seen ∙ c.requires.disks) c.in-Err.ensures.refused c.refuse-status.ensures.refused);
+    })

@@ -2,11 +2,11 @@ use Rattle.std.proofs.Common.{◌≡◌, ◌+◌, length, map, refl, sym, ◌∙
 use Rattle.net_model.specs.Environment.{party}
 use Rattle.node_shell.specs.declared.statuses.Status.TheVariants as status
 use Rattle.node_shell.specs.Pairs.{first_disks, woven}
-use Rattle.node_shell.specs.Runs.{AllStay, IsPlayedNumber}
+use Rattle.node_shell.specs.Runs.{AllStay, IsPlayedNumber, number_of_status}
 use Rattle.node_shell.proofs.Weaving.{woven_count}
 use Rattle.node_shell.proofs.Readying.{stay_same, first_stay}
 use Rattle.node_shell.proofs.Running.{Handed, back_enough, last, last_count, last_behind, last_second, own_stay, one_failed}
-use Rattle.node_shell.proofs.Opening.{unready, ready_at, runs_as, is_disk_fault, is_bad_journal, is_played, all_own_since, told_at}
+use Rattle.node_shell.proofs.Opening.{unready, ready_at, runs_as, is_too_long, is_disk_fault, is_bad_journal, is_played, all_own_since, told_at, went_at, went_unready}
 use Rattle.node_shell.proofs.top.run_network.Goals as goal
 
 pub returns-in_default-clause-story : goal.returns-in_default-clause-story
@@ -148,3 +148,34 @@ returns-clause-bad_journal g c eight =
     let told = c.play-status.ensures.bad_journal (is_bad_journal c.play-status.result.0 (sym c.end_with-2.ensures.0 ∙ eight)) in
     let there = last g.B.Disk.seen n olds ready own rest back ends h in
     told_at f n notary (first_disks n (map g.B.Disk.seen olds)) (map g.B.Disk.seen own) (map g.B.Disk.seen back) _ _ _ status.BadJournal there stay told
+
+pub returns-in_default-clause-went : goal.returns-in_default-clause-went
+returns-in_default-clause-went g c =
+    let end = c.end_with.ensures in
+    went_unready g.F.FlowSet.machine g.F.Spelt.reading c.args.network.nodes (party c.args.network.notary) _ _ _ _ _ _ status.NoMemory tt end.0 end.2
+
+pub returns-in-Err-clause-went : goal.returns-in-Err-clause-went
+returns-in-Err-clause-went g c =
+    let end = c.end_with-in-Err.ensures in
+    went_unready g.F.FlowSet.machine g.F.Spelt.reading c.args.network.nodes (party c.args.network.notary) _ _ _ _ _ _ c.in-Err.status c.in-Err.ensures.kinds end.0 end.2
+
+pub returns-clause-went : goal.returns-clause-went
+returns-clause-went g c =
+    let n = c.args.network.nodes in
+    let olds = c.args.disks.items in
+    let ready = c.attach_all.new.disks.items in
+    let own = c.take_first.new.own.items in
+    let rest = c.take_first.new.disks.items in
+    let back = c.play-status.result.2.items in
+    let ends = c.end_with-2.result.disks.items in
+    let h : Handed g.B.Disk.seen n olds ready own rest back ends = record { few = c.requires.within.few; all = c.requires.disks; stay = c.attach_all.ensures.stay; taken = c.take_first.ensures.woven; count = c.take_first.ensures.count; same = c.play-status.ensures.count; put = ap (λ v. v.items) c.end_with-2.ensures.1 ∙ c.put_back.ensures } in
+    let end = c.end_with-2.ensures in
+    let stay = own_stay g.B.Disk.seen n olds ready own rest back ends h in
+    let there = last g.B.Disk.seen n olds ready own rest back ends h in
+    went_at g.F.FlowSet.machine g.F.Spelt.reading n (party c.args.network.notary) (first_disks n (map g.B.Disk.seen olds)) (map g.B.Disk.seen own) (map g.B.Disk.seen back) _ _ _ _ _ _ _ _ c.play-status.result.0 there stay end.0 end.2 c.play-status.ensures.went
+
+pub returns-clause-too_long : goal.returns-clause-too_long
+returns-clause-too_long g c =
+    let end = c.end_with-2.ensures in
+    let long = c.play-status.ensures.too_long in
+    (λ three. end.2 ∙ long.0 (is_too_long c.play-status.result.0 (sym end.0 ∙ three)), λ full. end.0 ∙ ap number_of_status (long.1 (sym end.2 ∙ full)))

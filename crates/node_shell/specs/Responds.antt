@@ -1,0 +1,121 @@
+-- What a line is answered with over any network, whatever its disks tell and its journals hold: each refusal has its cause in what the network shows.
+use Rattle.std.specs.Prelude.{◌≡◌, ◌⊎◌, ℕ, List, [], ◌∷◌, ◌++◌, Option, Some, None, Result, Ok, Err, IfSome, MatchOption, MatchBool, slice_get, option_map, option_and_then}
+use Rattle.net_base.specs.declared.causes.Cause.{Cause}
+use Rattle.flow_machine.specs.Machine.{Machine}
+use Rattle.flow_machine.specs.declared.flow_set.WordFault.{WordFault}
+use Rattle.flow_machine.specs.declared.flow_set.WordFault.TheVariants as word
+use Rattle.net_model.specs.Print.{flows_text, flow_line, history_text}
+use Rattle.net_model.specs.Runs.{merged}
+use Rattle.node_tables.specs.Journals.{Reads, causes_of, state_of}
+use Rattle.node_core.specs.Seen.{NodeSeen}
+use Rattle.network_core.specs.declared.steps.Outcome.{Outcome}
+use Rattle.network_core.specs.declared.steps.Outcome.TheVariants as outcome
+use Rattle.network_core.specs.declared.steps.Step.{Step}
+use Rattle.network_core.specs.Worlds.{NetSeen, KeepsWorld}
+use Rattle.network_core.specs.Answers.{Answer, Answered}
+use Rattle.shell_words.specs.declared.commands.Command.{Command}
+use Rattle.shell_words.specs.declared.commands.Command.TheVariants as command
+use Rattle.shell_words.specs.Script.{has_no_answer, is_readable, words_of, command_of, asked_by}
+use Rattle.node_shell.specs.declared.replies.Reply.{Reply}
+use Rattle.node_shell.specs.declared.replies.Reply.TheVariants.{Silence, Quit, Told}
+use Rattle.node_shell.specs.Serve.{IsRefused, place_of, flow_of, started_by, step_of, reply_text, RepliesTo, Leaves}
+
+-- ---- answers that change nothing
+
+-- a command at a node: refused where there is no such node, or it is down; of a node that is up it asks so much of its journal
+abbrev pub AtSeen : NetSeen → ℕ → Reply → (List (List ℕ) → Type 0) → Type 0
+AtSeen net p reply asks = MatchOption (slice_get net.nodes p) (IsRefused 2 reply) (λ n. MatchOption n.journal (IsRefused 3 reply) asks)
+
+-- the words of a start name no flow; of want of memory nothing is answered
+abbrev pub StartsNone : NetSeen → ℕ → Result (ℕ × List ℕ) WordFault → Reply → Type 0
+StartsNone net p (Ok words) reply = ⊥
+StartsNone net p (Err word.UnknownClass) reply = AtSeen net p reply (λ bodies. IsRefused 5 reply)
+StartsNone net p (Err word.BadArgs) reply = AtSeen net p reply (λ bodies. IsRefused 6 reply)
+StartsNone net p (Err word.Memory) reply = ⊥
+
+-- the lines of the flows of a journal
+abbrev pub PrintsFlows : {F : Type 0} → Reads F → Reply → List (List ℕ) → Type 0
+PrintsFlows frame_at reply bodies = reply_text reply ≡ flows_text (state_of frame_at bodies).flows
+
+-- the line of a flow of a journal, or that there is none
+abbrev pub PrintsFlow : {F : Type 0} → Reads F → ℕ → Reply → List (List ℕ) → Type 0
+PrintsFlow frame_at f reply bodies = MatchOption (slice_get (state_of frame_at bodies).flows f) (IsRefused 11 reply) (λ flow. reply_text reply ≡ flow_line f flow ++ 10 ∷ [])
+
+-- the causes of the journals of all nodes, where each is up
+abbrev pub causes_up : {F : Type 0} → Reads F → List NodeSeen → Option (List (List Cause))
+causes_up frame_at [] = Some []
+causes_up frame_at (n ∷ ns) = option_and_then (λ bodies. option_map (λ lists. causes_of frame_at bodies ∷ lists) (causes_up frame_at ns)) n.journal
+
+-- the merged causes of all nodes, or that one is down
+abbrev pub PrintsHistory : {F : Type 0} → Reads F → NetSeen → Reply → Type 0
+PrintsHistory frame_at net reply = MatchOption (causes_up frame_at net.nodes) (IsRefused 3 reply) (λ lists. reply_text reply ≡ history_text (merged lists))
+
+-- the reply to a command that makes no step, by what the network shows
+abbrev pub IsShown : {F : Type 0} → Machine F → Reads F → NetSeen → Command → List (List ℕ) → Reply → Type 0
+IsShown m frame_at net (command.Start node) words reply = StartsNone net (place_of node) (started_by m words) reply
+IsShown m frame_at net (command.Flows node) words reply = AtSeen net (place_of node) reply (PrintsFlows frame_at reply)
+IsShown m frame_at net (command.Flow node flow) words reply = AtSeen net (place_of node) reply (PrintsFlow frame_at (flow_of flow) reply)
+IsShown m frame_at net command.History words reply = PrintsHistory frame_at net reply
+IsShown m frame_at net command.Quit words reply = reply ≡ Quit
+IsShown m frame_at net command.Unknown words reply = IsRefused 1 reply
+IsShown m frame_at net (command.Clock to) words reply = ⊥
+IsShown m frame_at net (command.Turn node pick) words reply = ⊥
+IsShown m frame_at net (command.Post node) words reply = ⊥
+IsShown m frame_at net (command.Deliver node at) words reply = ⊥
+IsShown m frame_at net (command.Repeat node at) words reply = ⊥
+IsShown m frame_at net (command.Lose node at) words reply = ⊥
+IsShown m frame_at net (command.Cut node calls kind) words reply = ⊥
+IsShown m frame_at net (command.Boot node) words reply = ⊥
+IsShown m frame_at net command.Drain words reply = ⊥
+
+-- ---- lines
+
+-- the reply that was given, none for want of memory
+abbrev pub given : {E : Type 0} → Result Reply E → Option Reply
+given (Ok reply) = Some reply
+given (Err fault) = None
+
+-- a step that came to this outcome, and one that want of memory ended
+abbrev pub came_to : Outcome → Answer
+came_to o = Ok o
+
+abbrev pub ran_out : Answer
+ran_out = Err tt
+
+-- a step was made, and its outcome, which has its cause, is told; or memory ran out before it or within it
+abbrev pub StepResponds : {F : Type 0} → Machine F → Reads F → Step → NetSeen → Option Reply → NetSeen → Type 0
+StepResponds m frame_at step old (Some reply) new = (o : Outcome) × Answered m frame_at step old (came_to o) new × (reply ≡ Told o)
+StepResponds m frame_at step old None new = (new ≡ old) ⊎ Answered m frame_at step old ran_out new
+
+-- a command's step is made, or it makes none and changes nothing
+abbrev pub Responds : {F : Type 0} → Machine F → Reads F → Option Step → Command → List (List ℕ) → NetSeen → Option Reply → NetSeen → Type 0
+Responds m frame_at (Some step) asked words old reply new = StepResponds m frame_at step old reply new
+Responds m frame_at None asked words old reply new = IfSome reply (IsShown m frame_at old asked words) × (new ≡ old)
+
+-- what a command with its words came to
+abbrev pub CommandResponds : {F : Type 0} → Machine F → Reads F → Command → List (List ℕ) → NetSeen → Option Reply → NetSeen → Type 0
+CommandResponds m frame_at asked words old reply new = Responds m frame_at (step_of m asked words) asked words old reply new
+
+-- what a line came to
+abbrev pub LineResponds : {F : Type 0} → Machine F → Reads F → List ℕ → NetSeen → Option Reply → NetSeen → Type 0
+LineResponds m frame_at line old reply new =
+    MatchBool (has_no_answer line) ((reply ≡ Some Silence) × (new ≡ old))
+    (MatchBool (is_readable line) (CommandResponds m frame_at (command_of (words_of line)) (words_of line) old reply new) ((reply ≡ Some (Told (outcome.Refused 1))) × (new ≡ old)))
+
+-- ---- stories of networks
+
+-- one link of a story of networks: a line, its answer, and the network after it; in each coherent world that the network shows it is a link of worlds
+pub record NetLink {F : Type 0} (m : Machine F) (frame_at : Reads F) (old : NetSeen) (line text : List ℕ) (new : NetSeen) : Type 0 where
+  pub reply : Reply
+  pub responds : LineResponds m frame_at line old (Some reply) new
+  pub spelt : text ≡ reply_text reply
+  pub worlds : KeepsWorld m frame_at old new (λ e w v. RepliesTo e w line reply v)
+
+-- a line was left off for want of memory
+pub record NetLeft {F : Type 0} (m : Machine F) (frame_at : Reads F) (old : NetSeen) (line : List ℕ) (new : NetSeen) : Type 0 where
+  pub responds : LineResponds m frame_at line old None new
+  pub worlds : KeepsWorld m frame_at old new (λ e w v. Leaves e (step_of e.machine (asked_by line) (words_of line)) w v)
+
+-- a line was left without an answer for want of memory: it was left off, or it was served and its answer could not be spelt
+abbrev pub NetShort : {F : Type 0} → Machine F → Reads F → NetSeen → List ℕ → NetSeen → Type 0
+NetShort m frame_at old line new = NetLeft m frame_at old line new ⊎ ((text : List ℕ) × NetLink m frame_at old line text new)
