@@ -51,7 +51,7 @@ impl<D: Bay, F: FlowSet> Model for Net<D, F> {
 
 impl<D: Bay, F: FlowSet> Net<D, F> {
     /// Boots the nodes of a network of 1 to 16, one over each disk in the order of their places. The moment is the greatest of their
-    /// last causes', 0 without one.
+    /// last causes', 0 without one, and no frame waits.
     ///
     /// # Errors
     ///
@@ -69,6 +69,7 @@ impl<D: Bay, F: FlowSet> Net<D, F> {
         ensures count { IfOk result (λ net. length net.nodes ≡ nodes) }
         ensures ok { IfOk result (λ net. BeginsWorld F.machine F.reading nodes notary (map D.seen disks.items) net) }
         ensures boots { IfOk result (λ net. BootsUpTo F.reading nodes net.now (over_disks nodes notary 0 (map D.seen disks.items)) net.nodes) }
+        ensures waiting { IfOk result (λ net. net.waiting ≡ map (λ n. []) net.nodes) }
         ensures refused { IfErr result (λ r. IsRefused F.machine F.reading nodes notary (map D.seen disks.items) r.node r.why (map D.seen r.disks.items)) }
     {
         let node = 0;

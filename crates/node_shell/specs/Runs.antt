@@ -254,6 +254,8 @@ pub record GoesOn {F : Type 0} (m : Machine F) (frame_at : Reads F) (nodes : ℕ
   pub made : AllStay old ready
   pub begun : NetSeen
   pub opened : BootsUpTo frame_at nodes begun.now (nodes_over nodes notary 0 ready) begun.nodes
+  -- no frame waits
+  pub quiet : begun.waiting ≡ map (λ (n : NodeSeen). []) begun.nodes
   pub last : NetSeen
   pub script : ScriptRun (NetLink m frame_at) (NetShort m frame_at) begun left0 left1 written0 written1 count last status
   pub back : map (λ (n : NodeSeen). n.disk) last.nodes ≡ map roomless new

@@ -52,6 +52,7 @@ returns-in-Ok-clause-went g c =
       made = stay_same own;
       begun = c.in-Ok.net;
       opened = c.in-Ok.ensures.boots;
+      quiet = c.in-Ok.ensures.waiting;
       last = c.session-end.new.net;
       script = c.session-end.ensures.went;
       back = sym c.into_disks.ensures ∙ sym (map_both roomless g.B.Disk.seen c.into_disks.result.items);

@@ -30,6 +30,11 @@ disks_of-requires-clause-room g c =
     let ds = map g.D.Disk.seen c.args.disks.items in
     omega (arith, c.in-Err.ensures.err.count, ap length c.nodes_over-places.ensures, over_length c.args.nodes c.args.notary 0 ds, length-map c.args.disks.items g.D.Disk.seen, c.len-2.ensures, c.args.disks.ok.0, c.in-Ok-with_capacity.ensures.capacity)
 
+pub returns-in-Ok-boot_all-clause-waiting : goal.returns-in-Ok-boot_all-clause-waiting
+returns-in-Ok-boot_all-clause-waiting g c =
+    let ds = map g.D.Disk.seen c.args.disks.items in
+    none_wait (λ (w : WaitingSeen). w.frames) c.no_frames.result.items c.boot_all.new.nodes.items (omega (arith, c.no_frames.ensures.count, c.in-Ok-boot_all.ensures.ok.count, ap length c.nodes_over-places.ensures, over_length c.args.nodes c.args.notary 0 ds, length-map c.args.disks.items g.D.Disk.seen, c.requires.disks)) c.no_frames.ensures.none
+
 pub returns-in-Ok-boot_all-clause-ok : goal.returns-in-Ok-boot_all-clause-ok
 returns-in-Ok-boot_all-clause-ok g c =
     let ds = map g.D.Disk.seen c.args.disks.items in
@@ -37,7 +42,7 @@ returns-in-Ok-boot_all-clause-ok g c =
     let count : length c.nodes_over-places.result.items ≡ length ds = ap length c.nodes_over-places.ensures ∙ over_length c.args.nodes c.args.notary 0 ds in
     let booted : BootsUpTo g.F.Spelt.reading (length ds) c.in-Ok-boot_all.now.0 c.nodes_over-places.result.items c.boot_all.new.nodes.items = subst (λ (i : ℕ). BootsUpTo g.F.Spelt.reading i c.in-Ok-boot_all.now.0 c.nodes_over-places.result.items c.boot_all.new.nodes.items) count c.in-Ok-boot_all.ensures.ok in
     begins_world g.F.FlowSet.machine g.F.Spelt.reading c.args.nodes c.args.notary ds (record { nodes = c.boot_all.new.nodes.items; waiting = map (λ (w : WaitingSeen). w.frames) c.no_frames.result.items; now = c.in-Ok-boot_all.now.0 }) (subst (λ (l : List NodeSeen). BootsUpTo g.F.Spelt.reading (length ds) c.in-Ok-boot_all.now.0 l c.boot_all.new.nodes.items) c.nodes_over-places.ensures booted)
-    (none_wait (λ (w : WaitingSeen). w.frames) c.no_frames.result.items c.boot_all.new.nodes.items (omega (arith, c.no_frames.ensures.count, c.in-Ok-boot_all.ensures.ok.count, ap length c.nodes_over-places.ensures, over_length c.args.nodes c.args.notary 0 ds, length-map c.args.disks.items g.D.Disk.seen, c.requires.disks)) c.no_frames.ensures.none)
+    (returns-in-Ok-boot_all-clause-waiting g c)
 
 pub returns-in-Err-clause-refused : goal.returns-in-Err-clause-refused
 returns-in-Err-clause-refused g c =
