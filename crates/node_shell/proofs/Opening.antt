@@ -392,7 +392,7 @@ module _ {F : Type 0} (m : Machine F) (f : Reads F) (nodes : ℕ) (notary : Part
   -- the disks were made ready before
   went_since : (ds ks bs : List DiskView) (left0 left1 written0 written1 : Option (List ℕ)) (count : ℕ) (s : Status) → AllStay ds ks
       → GoesOrHalts m f nodes notary ks bs left0 left1 written0 written1 count s → GoesOrHalts m f nodes notary ds bs left0 left1 written0 written1 count s
-  went_since ds ks bs left0 left1 written0 written1 count s stay (inl g) = inl (record { ready = g.ready; made = stay_then ds ks g.ready stay g.made; begun = g.begun; opened = g.opened; last = g.last; script = g.script; back = g.back })
+  went_since ds ks bs left0 left1 written0 written1 count s stay (inl g) = inl (record { ready = g.ready; made = stay_then ds ks g.ready stay g.made; begun = g.begun; opened = g.opened; quiet = g.quiet; last = g.last; script = g.script; back = g.back })
   went_since ds ks bs left0 left1 written0 written1 count s stay (inr h) =
       inr (record {
         unread = h.unread;
