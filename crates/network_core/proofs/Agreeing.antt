@@ -10,7 +10,8 @@ use Rattle.node_core.specs.declared.faults.BootFault.{BootFault}
 use Rattle.network_core.specs.declared.steps.Outcome.{Outcome}
 use Rattle.network_core.specs.Worlds.{NodeWorld, World, Coherent}
 use Rattle.network_core.specs.Serves.{WorldPlace, WorldStarts, WorldTurns, WorldCuts, WorldBoots, WorldPosts, WorldHands, LosesAt, WorldClock, waits_on}
-use Rattle.network_core.specs.Drains.{DoesAt}
+use Rattle.network_core.specs.Drains.{world_steps}
+use Rattle.network_core.specs.Rounds.{DoesAt}
 use Rattle.network_core.specs.Begins.{Begun, StayDown}
 use Rattle.network_core.proofs.AgreeingSteps.{starts_coherent, turns_coherent, cuts_coherent, boots_coherent, loses_coherent, place_coherent}
 use Rattle.network_core.proofs.AgreeingSends.{posts_coherent}
@@ -49,7 +50,7 @@ module _ {F : Type 0} (e : Environment F) where
   clock_coherent to w v o coherent (inl past) = subst (Coherent e) (sym past.2) coherent
   clock_coherent to w v o coherent (inr later) = subst (Coherent e) (sym later.2) (later_coherent e w to later.0 coherent)
 
-  pub does_coherent : (p : ℕ) (w v : World) (o : Option Outcome) → Coherent e w → DoesAt e p w o v → Coherent e v
+  pub does_coherent : (p : ℕ) (w v : World) (o : Option Outcome) → Coherent e w → DoesAt (world_steps e) p w o v → Coherent e v
   does_coherent p w v o coherent (inl turn) = turn_coherent p None w v o coherent turn
   does_coherent p w v o coherent (inr (inl post)) = post_coherent p w v o coherent post
   does_coherent p w v o coherent (inr (inr hand)) = hand_coherent false p 0 w v o coherent hand

@@ -1,42 +1,42 @@
 -- Turns, posts and deliveries at places, rounds and drains, put together.
 use Rattle.std.proofs.lemmas.Bool.{eqb-true, eqb-false}
-use Rattle.std.proofs.Common.{◌≡◌, ◌==◌, if◌then◌else◌, ◌⊎◌, inl, inr, ⊎_elim, ℕ, zero, suc, ◌+◌, ◌<◌, Bool, true, false, ◌||◌, length, Option, Some, None, Result, Ok, Err, IsErr, refl, sym, ◌∙◌, ap, subst, arith, slice_get}
-use Rattle.net_base.proofs.Lists.{set_length}
-use Rattle.net_model.specs.Environment.{Environment}
+use Rattle.std.proofs.Common.{◌≡◌, ◌==◌, if◌then◌else◌, inl, inr, ℕ, zero, suc, ◌+◌, ◌<◌, Bool, true, false, ◌||◌, Option, Some, None, Result, Ok, Err, IsErr, refl, sym, ◌∙◌, ap, subst, arith}
 use Rattle.network_core.specs.declared.net.Turning.{Turning}
 use Rattle.network_core.specs.declared.net.Turning.TheVariants as turning
 use Rattle.network_core.specs.declared.net.Hearing.TheVariants as heard_as
 use Rattle.network_core.specs.declared.steps.Outcome.{Outcome}
 use Rattle.network_core.specs.declared.steps.Outcome.TheVariants as outcome
-use Rattle.network_core.specs.Worlds.{NodeWorld, World}
-use Rattle.network_core.specs.Serves.{WorldTurns, WorldPosts}
-use Rattle.network_core.specs.Served.{WorldDrains}
-use Rattle.network_core.specs.Drains.{TurnAt, HandAt, Quiet, Moves, IsLastTurn, TurnsAt, StopsAt, InOrder, PostsAt, Hands, IsTaken, committed, DeliversAt, HandStops, Round, TurnsStop, PostsStop, HandsStop, RoundStops, Rounds, IsDrained, DrainStops, Drains, Turns, turned, heard, joined}
-use Rattle.network_core.proofs.QuietingSteps.{post_grows}
-use Rattle.network_core.proofs.Emptying.{hands_shorter, hands_over_at}
+use Rattle.network_core.specs.Rounds.{DrainSteps, Moves, IsLastTurn, TurnsAt, StopsAt, InOrder, PostsAt, Hands, IsTaken, committed, DeliversAt, HandStops, Round, TurnsStop, PostsStop, HandsStop, RoundStops, Rounds, IsDrained, DrainStops, Turns, turned, heard, joined}
+
+-- What the steps of a drain keep, and which turn or delivery ends those at its place, over states of any kind.
+pub record DrainLaws {W : Type 0} (s : DrainSteps W) : Type 0 where
+  pub turn_count : (p : ℕ) (w v : W) (o : Option Outcome) → s.turn p w o v → s.count v ≡ s.count w
+  pub post_count : (p : ℕ) (w v : W) (o : Option Outcome) → s.post p w o v → s.count v ≡ s.count w
+  pub turn_last : (p : ℕ) (o : Outcome) (w v : W) → p < s.count w → ((g : ℕ) → o ≡ outcome.Moved g → ⊥) → (o ≡ outcome.Refused 9 → ⊥) → s.turn p w (Some o) v → IsLastTurn o
+  pub hand_over : (p d code : ℕ) (w u v : W) (o : Outcome) → p < s.count u → o ≡ outcome.Refused code → (code ≡ 9 → ⊥) → s.hand p u (Some o) v → s.ends p d w u v
 
 -- as a flag says: with true so many that are not 0, with false none
-abbrev pub Counts : Bool → (ℕ → World → World → Type 0) → World → World → Type 0
+abbrev pub Counts : {W : Type 0} → Bool → (ℕ → W → W → Type 0) → W → W → Type 0
 Counts true made w v = (n : ℕ) × made (suc n) w v
 Counts false made w v = made 0 w v
 
 -- so many rounds as it may be
-abbrev pub SomeRounds : {F : Type 0} → Environment F → World → World → Type 0
-SomeRounds e w v = (r : ℕ) × Rounds e r w v
+abbrev pub SomeRounds : {W : Type 0} → DrainSteps W → W → W → Type 0
+SomeRounds s w v = (r : ℕ) × Rounds s r w v
 
 -- ---- by the answer
 
-pub turns_made : (E : Type 0) (made : ℕ → World → World → Type 0) (stops : Option Outcome → World → World → Type 0) (w v : World) (moved : Bool) (t : Turning) → (t ≡ turning.Full → ⊥) → (t ≡ turning.Moved → moved ≡ true) → (t ≡ turning.Quiet → moved ≡ false) → Counts moved made w v → Turns {E = E} (Ok t) made stops w v
+pub turns_made : (E : Type 0) {W : Type 0} (made : ℕ → W → W → Type 0) (stops : Option Outcome → W → W → Type 0) (w v : W) (moved : Bool) (t : Turning) → (t ≡ turning.Full → ⊥) → (t ≡ turning.Moved → moved ≡ true) → (t ≡ turning.Quiet → moved ≡ false) → Counts moved made w v → Turns {E = E} (Ok t) made stops w v
 turns_made E made stops w v moved turning.Full other any still h = absurd (other refl)
 turns_made E made stops w v moved turning.Moved other any still h = subst (λ (b : Bool). Counts b made w v) (any refl) h
 turns_made E made stops w v moved turning.Quiet other any still h = subst (λ (b : Bool). Counts b made w v) (still refl) h
 
 -- an answer that is an error
-pub turns_short : {E : Type 0} (made : ℕ → World → World → Type 0) (stops : Option Outcome → World → World → Type 0) (w v : World) (r : Result Turning E) → IsErr r → stops None w v → Turns r made stops w v
+pub turns_short : {W E : Type 0} (made : ℕ → W → W → Type 0) (stops : Option Outcome → W → W → Type 0) (w v : W) (r : Result Turning E) → IsErr r → stops None w v → Turns r made stops w v
 turns_short made stops w v (Ok t) is h = cc
 turns_short made stops w v (Err x) is h = h
 
-module _ {E : Type 0} (made : ℕ → World → World → Type 0) (stops : Option Outcome → World → World → Type 0) (w v : World) (r : Result Turning E) where
+module _ {W E : Type 0} (made : ℕ → W → W → Type 0) (stops : Option Outcome → W → W → Type 0) (w v : W) (r : Result Turning E) where
   pub turns_err : (x : E) → r ≡ Err x → Turns r made stops w v → stops None w v
   turns_err x is h = subst (λ (z : Result Turning E). Turns z made stops w v) is h
 
@@ -51,7 +51,7 @@ module _ {E : Type 0} (made : ℕ → World → World → Type 0) (stops : Optio
 
 -- ---- in the order of places
 
-module _ (at : ℕ → ℕ → World → World → Type 0) (p : ℕ) (w u v : World) where
+module _ {W : Type 0} (at : ℕ → ℕ → W → W → Type 0) (p : ℕ) (w u v : W) where
   still_there : (b : Bool) → Counts b (InOrder at p) w u → at p 0 u v → Counts b (InOrder at (suc p)) w v
   still_there true h here = (h.0, (u, suc h.0, 0, h.1, here, omega arith))
   still_there false h here = (u, 0, 0, h, here, refl)
@@ -74,57 +74,42 @@ module _ (at : ℕ → ℕ → World → World → Type 0) (p : ℕ) (w u v : Wo
   order_more moved after is h here = next_place true after is (further_there moved h here)
 
 -- all places
-pub order_of : (at : ℕ → ℕ → World → World → Type 0) (p : ℕ) (moved : Bool) (w v : World) → length w.nodes ≡ p → Counts moved (InOrder at p) w v → Counts moved (InOrder at (length w.nodes)) w v
-order_of at p moved w v is h = subst (λ (q : ℕ). Counts moved (InOrder at q) w v) (sym is) h
+pub order_of : {W : Type 0} (at : ℕ → ℕ → W → W → Type 0) (p n : ℕ) (moved : Bool) (w v : W) → n ≡ p → Counts moved (InOrder at p) w v → Counts moved (InOrder at n) w v
+order_of at p n moved w v is h = subst (λ (q : ℕ). Counts moved (InOrder at q) w v) (sym is) h
 
-module _ {F : Type 0} (e : Environment F) where
+module _ {W : Type 0} (s : DrainSteps W) where
   -- ---- turns at a place
 
-  pub moves_more : (p : ℕ) (moved : Bool) (w u v : World) (o : Outcome) (g : ℕ) → Counts moved (Moves e p) w u → TurnAt e p u (Some o) v → o ≡ outcome.Moved g → Counts true (Moves e p) w v
-  moves_more p true w u v o g h turn is = (suc h.0, (u, g, h.1, subst (λ (z : Outcome). TurnAt e p u (Some z) v) is turn))
-  moves_more p false w u v o g h turn is = (0, (u, g, h, subst (λ (z : Outcome). TurnAt e p u (Some z) v) is turn))
+  pub moves_more : (p : ℕ) (moved : Bool) (w u v : W) (o : Outcome) (g : ℕ) → Counts moved (Moves s p) w u → s.turn p u (Some o) v → o ≡ outcome.Moved g → Counts true (Moves s p) w v
+  moves_more p true w u v o g h turn is = (suc h.0, (u, g, h.1, subst (λ (z : Outcome). s.turn p u (Some z) v) is turn))
+  moves_more p false w u v o g h turn is = (0, (u, g, h, subst (λ (z : Outcome). s.turn p u (Some z) v) is turn))
 
-  pub stops_at : (p : ℕ) (moved : Bool) (o : Option Outcome) (w u v : World) → Counts moved (Moves e p) w u → TurnAt e p u o v → StopsAt e p o w v
+  pub stops_at : (p : ℕ) (moved : Bool) (o : Option Outcome) (w u v : W) → Counts moved (Moves s p) w u → s.turn p u o v → StopsAt s p o w v
   stops_at p true o w u v h turn = (suc h.0, u, h.1, turn)
   stops_at p false o w u v h turn = (0, u, h, turn)
-
-  last_of : (p now : ℕ) (x y : NodeWorld) (o : Outcome) → ((g : ℕ) → o ≡ outcome.Moved g → ⊥) → (o ≡ outcome.Refused 9 → ⊥) → WorldTurns e p now None x (Some o) y → IsLastTurn o
-  last_of p now x y outcome.Idle moved full h = inl refl
-  last_of p now x y (outcome.Moved g) moved full h = absurd (moved g refl)
-  last_of p now x y outcome.Fault moved full h = inr (inl refl)
-  last_of p now x y (outcome.Refused code) moved full h = ⊎_elim (λ s. inr (inr (ap outcome.Refused s.0))) (λ s. absurd (full (ap outcome.Refused s.0))) h.0
-  last_of p now x y other moved full h = absurd h
-
-  is_last : (p : ℕ) (o : Outcome) (u v : World) → p < length u.nodes → ((g : ℕ) → o ≡ outcome.Moved g → ⊥) → (o ≡ outcome.Refused 9 → ⊥) → TurnAt e p u (Some o) v → IsLastTurn o
-  is_last p o u v lt moved full (inl (past, is, same)) = absurd (omega (arith, lt, past))
-  is_last p o u v lt moved full (inr (x, y, at, is, turn)) = last_of p u.now x y o moved full turn
-
-  pub ends_at : (p : ℕ) (moved : Bool) (o : Outcome) (w u v : World) → p < length u.nodes → ((g : ℕ) → o ≡ outcome.Moved g → ⊥) → (o ≡ outcome.Refused 9 → ⊥) → Counts moved (Moves e p) w u → TurnAt e p u (Some o) v → Counts moved (TurnsAt e p) w v
-  ends_at p true o w u v lt moved full h turn = (h.0, (u, o, h.1, turn, is_last p o u v lt moved full turn))
-  ends_at p false o w u v lt moved full h turn = (u, o, h, turn, is_last p o u v lt moved full turn)
 
   -- ---- posts
 
   -- a post at one place more
-  pub posts_more : (p : ℕ) (w u v : World) (o : Outcome) → InOrder (PostsAt e) p 0 w u → WorldPosts e p u (Some o) v → InOrder (PostsAt e) (p + 1) 0 w v
+  pub posts_more : (p : ℕ) (w u v : W) (o : Outcome) → InOrder (PostsAt s) p 0 w u → s.post p u (Some o) v → InOrder (PostsAt s) (p + 1) 0 w v
   posts_more p w u v o before post =
       let one : suc p ≡ p + 1 = omega arith in
-      subst (λ (q : ℕ). InOrder (PostsAt e) q 0 w v) one (u, 0, 0, before, (o, post, refl), refl)
+      subst (λ (q : ℕ). InOrder (PostsAt s) q 0 w v) one (u, 0, 0, before, (o, post, refl), refl)
 
-  pub posts_stop : (p : ℕ) (w u v : World) → p < length w.nodes → InOrder (PostsAt e) p 0 w u → WorldPosts e p u None v → PostsStop e None w v
+  pub posts_stop : (p : ℕ) (w u v : W) → p < s.count w → InOrder (PostsAt s) p 0 w u → s.post p u None v → PostsStop s None w v
   posts_stop p w u v lt before post = (p, u, lt, before, post, refl)
 
   -- ---- deliveries at a place
 
   -- so many deliveries that took a frame away
-  abbrev pub HandsSo : ℕ → ℕ → Bool → World → World → Type 0
-  HandsSo p d moved w v = Counts moved (Hands e p d) w v
+  abbrev pub HandsSo : ℕ → ℕ → Bool → W → W → Type 0
+  HandsSo p d moved w v = Counts moved (Hands s p d) w v
 
-  pub hands_begin : (p : ℕ) (w : World) → HandsSo p 0 false w w
+  pub hands_begin : (p : ℕ) (w : W) → HandsSo p 0 false w w
   hands_begin p w = (refl, refl)
 
   -- one more, which committed a record
-  pub hands_took : (p d g : ℕ) (moved : Bool) (w u v : World) (o : Outcome) → o ≡ outcome.Took g → HandsSo p d moved w u → HandAt e p u (Some o) v → HandsSo p (d + 1) true w v
+  pub hands_took : (p d g : ℕ) (moved : Bool) (w u v : W) (o : Outcome) → o ≡ outcome.Took g → HandsSo p d moved w u → s.hand p u (Some o) v → HandsSo p (d + 1) true w v
   hands_took p d g moved w u v o is before hand =
       let one : suc d ≡ d + 1 = omega arith in
       let count : committed o ≡ 1 = ap committed is in
@@ -136,7 +121,7 @@ module _ {F : Type 0} (e : Environment F) where
       by false count taken h = (0, (u, 0, o, h, hand, taken, omega (arith, count)))
 
   -- one more, which committed nothing
-  pub hands_noted : (p d : ℕ) (moved : Bool) (w u v : World) (o : Outcome) → IsTaken o → committed o ≡ 0 → HandsSo p d moved w u → HandAt e p u (Some o) v → HandsSo p (d + 1) moved w v
+  pub hands_noted : (p d : ℕ) (moved : Bool) (w u v : W) (o : Outcome) → IsTaken o → committed o ≡ 0 → HandsSo p d moved w u → s.hand p u (Some o) v → HandsSo p (d + 1) moved w v
   hands_noted p d moved w u v o taken count before hand =
       let one : suc d ≡ d + 1 = omega arith in
       subst (λ (n : ℕ). HandsSo p n moved w v) one (by moved before)
@@ -146,105 +131,88 @@ module _ {F : Type 0} (e : Environment F) where
       by false h = (u, 0, o, h, hand, taken, omega (arith, count))
 
   -- one that met a full journal, or for which memory ran out
-  pub hand_stops : (p d : ℕ) (moved : Bool) (o : Option Outcome) (w u v : World) → HandsSo p d moved w u → HandAt e p u o v → HandStops e p o w v
+  pub hand_stops : (p d : ℕ) (moved : Bool) (o : Option Outcome) (w u v : W) → HandsSo p d moved w u → s.hand p u o v → HandStops s p o w v
   hand_stops p d true o w u v h hand = (d, suc h.0, u, h.1, hand)
   hand_stops p d false o w u v h hand = (d, 0, u, h, hand)
 
-  -- one that found no frame, or a node that is down
-  pub hands_over : (p d code : ℕ) (moved : Bool) (w u v : World) (o : Outcome) → p < length u.nodes → o ≡ outcome.Refused code → (code ≡ 9 → ⊥) → HandsSo p d moved w u → HandAt e p u (Some o) v → Counts moved (DeliversAt e p) w v
-  hands_over p d code moved w u v o lt is full before hand = by moved before
-    where
-      last : (o ≡ outcome.Refused 7) ⊎ (o ≡ outcome.Refused 3)
-      last = hands_over_at e p code u v o lt is full hand
-
-      by : (b : Bool) → HandsSo p d b w u → Counts b (DeliversAt e p) w v
-      by true h = (h.0, (d, u, o, h.1, hand, last))
-      by false h = (d, u, o, h, hand, last)
-
-  -- as many as frames waited when they began
-  pub hands_all : (p d : ℕ) (moved : Bool) (w v : World) (x : NodeWorld) → slice_get w.nodes p ≡ Some x → length x.waiting ≡ d → HandsSo p d moved w v → Counts moved (DeliversAt e p) w v
-  hands_all p d true w v x at count h = (h.0, ended p d (suc h.0) w v x at count h.1)
-    where
-      ended : (p d n : ℕ) (w v : World) (x : NodeWorld) → slice_get w.nodes p ≡ Some x → length x.waiting ≡ d → Hands e p d n w v → DeliversAt e p n w v
-      ended p d n w v x at count h = hands_shorter e p d n w v x at count h
-  hands_all p d false w v x at count h = hands_shorter e p d 0 w v x at count h
+  -- no frame is left of those that waited as they began
+  pub ends_all : (p d : ℕ) (moved : Bool) (w v : W) → ((n : ℕ) → Hands s p d n w v → s.ends p d w v v) → HandsSo p d moved w v → Counts moved (DeliversAt s p) w v
+  ends_all p d true w v ends h = (h.0, (d, v, h.1, ends (suc h.0) h.1))
+  ends_all p d false w v ends h = (d, v, h, ends 0 h)
 
   -- ---- rounds
 
-  pub turns_stop_at : (o : Option Outcome) (p : ℕ) (moved : Bool) (w u v : World) → p < length w.nodes → Counts moved (InOrder (TurnsAt e) p) w u → StopsAt e p o u v → TurnsStop e o w v
+  pub turns_stop_at : (o : Option Outcome) (p : ℕ) (moved : Bool) (w u v : W) → p < s.count w → Counts moved (InOrder (TurnsAt s) p) w u → StopsAt s p o u v → TurnsStop s o w v
   turns_stop_at o p true w u v lt h stop = (p, suc h.0, u, lt, h.1, stop)
   turns_stop_at o p false w u v lt h stop = (p, 0, u, lt, h, stop)
 
-  pub hands_stop_at : (o : Option Outcome) (p : ℕ) (moved : Bool) (w u v : World) → p < length w.nodes → Counts moved (InOrder (DeliversAt e) p) w u → HandStops e p o u v → HandsStop e o w v
+  pub hands_stop_at : (o : Option Outcome) (p : ℕ) (moved : Bool) (w u v : W) → p < s.count w → Counts moved (InOrder (DeliversAt s) p) w u → HandStops s p o u v → HandsStop s o w v
   hands_stop_at o p true w u v lt h stop = (p, suc h.0, u, lt, h.1, stop)
   hands_stop_at o p false w u v lt h stop = (p, 0, u, lt, h, stop)
 
-  -- turns leave the number of nodes as it is
-  turn_count : (p : ℕ) (w v : World) (o : Option Outcome) → TurnAt e p w o v → length v.nodes ≡ length w.nodes
-  turn_count p w v o (inl (past, is, same)) = ap (λ (a : World). length a.nodes) same
-  turn_count p w v o (inr (x, y, at, is, turn)) = ap (λ (a : World). length a.nodes) is ∙ set_length w.nodes p y
+  pub round_stops_turns : (o : Option Outcome) (w v : W) → TurnsStop s o w v → RoundStops s o w v
+  round_stops_turns o w v stop = inl stop
 
-  moves_count : (p n : ℕ) (w v : World) → Moves e p n w v → length v.nodes ≡ length w.nodes
-  moves_count p zero w v is = ap (λ (a : World). length a.nodes) is
-  moves_count p (suc n) w v (u, g, before, turn) = turn_count p u v (Some (outcome.Moved g)) turn ∙ moves_count p n w u before
+  pub round_stops_posts : (o : Option Outcome) (a : Bool) (w u v : W) → Counts a (InOrder (TurnsAt s) (s.count w)) w u → PostsStop s o u v → RoundStops s o w v
+  round_stops_posts o true w u v h stop = inr (inl (u, suc h.0, h.1, stop))
+  round_stops_posts o false w u v h stop = inr (inl (u, 0, h, stop))
 
-  pub turns_count : (p n : ℕ) (w v : World) → InOrder (TurnsAt e) p n w v → length v.nodes ≡ length w.nodes
-  turns_count zero n w v (is, same) = ap (λ (a : World). length a.nodes) same
-  turns_count (suc p) n w v (u, k, j, before, (t, o, moves, turn, last), sum) = turn_count p t v (Some o) turn ∙ moves_count p j u t moves ∙ turns_count p k w u before
+  pub rounds_more : (w u v : W) → SomeRounds s w u → Counts true (Round s) u v → SomeRounds s w v
+  rounds_more w u v before round = (suc before.0, (u, round.0, before.1, round.1))
 
-  pub posts_count : (p n : ℕ) (w v : World) → InOrder (PostsAt e) p n w v → length v.nodes ≡ length w.nodes
-  posts_count zero n w v (is, same) = ap (λ (a : World). length a.nodes) same
-  posts_count (suc p) n w v (u, k, j, before, (o, post, is), sum) = (post_grows e p u v (Some o) post).grown.count ∙ posts_count p k w u before
+  pub drain_stops : (o : Option Outcome) (w u v : W) → SomeRounds s w u → RoundStops s o u v → DrainStops s o w v
+  drain_stops o w u v before stop = (before.0, u, before.1, stop)
 
-  all_count : (moved : Bool) (w u : World) → Counts moved (InOrder (TurnsAt e) (length w.nodes)) w u → length u.nodes ≡ length w.nodes
-  all_count true w u h = turns_count (length w.nodes) (suc h.0) w u h.1
-  all_count false w u h = turns_count (length w.nodes) 0 w u h
+  pub drain_ends : (w u v : W) → SomeRounds s w u → Round s 0 u v → IsDrained s w v
+  drain_ends w u v before round = (before.0, u, before.1, round)
+
+module _ {W : Type 0} (s : DrainSteps W) (laws : DrainLaws s) where
+  -- no flow can go on at a place, or its node is down
+  pub ends_at : (p : ℕ) (moved : Bool) (o : Outcome) (w u v : W) → p < s.count u → ((g : ℕ) → o ≡ outcome.Moved g → ⊥) → (o ≡ outcome.Refused 9 → ⊥) → Counts moved (Moves s p) w u → s.turn p u (Some o) v → Counts moved (TurnsAt s p) w v
+  ends_at p true o w u v lt moved full h turn = (h.0, (u, o, h.1, turn, laws.turn_last p o u v lt moved full turn))
+  ends_at p false o w u v lt moved full h turn = (u, o, h, turn, laws.turn_last p o u v lt moved full turn)
+
+  -- no frame waits at a place, or its node is down
+  pub hands_over : (p d code : ℕ) (moved : Bool) (w u v : W) (o : Outcome) → p < s.count u → o ≡ outcome.Refused code → (code ≡ 9 → ⊥) → Counts moved (Hands s p d) w u → s.hand p u (Some o) v → Counts moved (DeliversAt s p) w v
+  hands_over p d code true w u v o lt is full h hand = (h.0, (d, u, h.1, laws.hand_over p d code w u v o lt is full hand))
+  hands_over p d code false w u v o lt is full h hand = (d, u, h, laws.hand_over p d code w u v o lt is full hand)
+
+  -- turns and posts leave the number of nodes as it is
+  moves_count : (p n : ℕ) (w v : W) → Moves s p n w v → s.count v ≡ s.count w
+  moves_count p zero w v is = ap s.count is
+  moves_count p (suc n) w v (u, g, before, turn) = laws.turn_count p u v (Some (outcome.Moved g)) turn ∙ moves_count p n w u before
+
+  pub turns_count : (p n : ℕ) (w v : W) → InOrder (TurnsAt s) p n w v → s.count v ≡ s.count w
+  turns_count zero n w v (is, same) = ap s.count same
+  turns_count (suc p) n w v (u, k, j, before, (t, o, moves, turn, last), sum) = laws.turn_count p t v (Some o) turn ∙ moves_count p j u t moves ∙ turns_count p k w u before
+
+  pub posts_count : (p n : ℕ) (w v : W) → InOrder (PostsAt s) p n w v → s.count v ≡ s.count w
+  posts_count zero n w v (is, same) = ap s.count same
+  posts_count (suc p) n w v (u, k, j, before, (o, post, is), sum) = laws.post_count p u v (Some o) post ∙ posts_count p k w u before
+
+  all_count : (moved : Bool) (w u : W) → Counts moved (InOrder (TurnsAt s) (s.count w)) w u → s.count u ≡ s.count w
+  all_count true w u h = turns_count (s.count w) (suc h.0) w u h.1
+  all_count false w u h = turns_count (s.count w) 0 w u h
 
   -- the turns, the posts and the deliveries of a round
-  pub round_of : (a b : Bool) (w u t v : World) → Counts a (InOrder (TurnsAt e) (length w.nodes)) w u → InOrder (PostsAt e) (length u.nodes) 0 u t → Counts b (InOrder (DeliversAt e) (length t.nodes)) t v → Counts (a || b) (Round e) w v
+  pub round_of : (a b : Bool) (w u t v : W) → Counts a (InOrder (TurnsAt s) (s.count w)) w u → InOrder (PostsAt s) (s.count u) 0 u t → Counts b (InOrder (DeliversAt s) (s.count t)) t v → Counts (a || b) (Round s) w v
   round_of a b w u t v turns posts delivers =
       let first = all_count a w u turns in
-      let second = posts_count (length u.nodes) 0 u t posts in
-      by a b turns (subst (λ (n : ℕ). InOrder (PostsAt e) n 0 u t) first posts) (subst (λ (n : ℕ). Counts b (InOrder (DeliversAt e) n) t v) (second ∙ first) delivers)
+      let second = posts_count (s.count u) 0 u t posts in
+      by a b turns (subst (λ (n : ℕ). InOrder (PostsAt s) n 0 u t) first posts) (subst (λ (n : ℕ). Counts b (InOrder (DeliversAt s) n) t v) (second ∙ first) delivers)
     where
-      by : (c d : Bool) → Counts c (InOrder (TurnsAt e) (length w.nodes)) w u → InOrder (PostsAt e) (length w.nodes) 0 u t → Counts d (InOrder (DeliversAt e) (length w.nodes)) t v → Counts (c || d) (Round e) w v
+      by : (c d : Bool) → Counts c (InOrder (TurnsAt s) (s.count w)) w u → InOrder (PostsAt s) (s.count w) 0 u t → Counts d (InOrder (DeliversAt s) (s.count w)) t v → Counts (c || d) (Round s) w v
       by true true h k g = (h.0 + suc g.0, (u, t, suc h.0, suc g.0, h.1, k, g.1, omega arith))
       by true false h k g = (h.0, (u, t, suc h.0, 0, h.1, k, g, omega arith))
       by false true h k g = (g.0, (u, t, 0, suc g.0, h, k, g.1, omega arith))
       by false false h k g = (u, t, 0, 0, h, k, g, omega arith)
 
-  pub round_stops_turns : (o : Option Outcome) (w v : World) → TurnsStop e o w v → RoundStops e o w v
-  round_stops_turns o w v stop = inl stop
-
-  pub round_stops_posts : (o : Option Outcome) (a : Bool) (w u v : World) → Counts a (InOrder (TurnsAt e) (length w.nodes)) w u → PostsStop e o u v → RoundStops e o w v
-  round_stops_posts o true w u v h stop = inr (inl (u, suc h.0, h.1, stop))
-  round_stops_posts o false w u v h stop = inr (inl (u, 0, h, stop))
-
-  pub round_stops_hands : (o : Option Outcome) (a : Bool) (w u t v : World) → Counts a (InOrder (TurnsAt e) (length w.nodes)) w u → InOrder (PostsAt e) (length u.nodes) 0 u t → HandsStop e o t v → RoundStops e o w v
-  round_stops_hands o a w u t v turns posts stop = by a turns (subst (λ (n : ℕ). InOrder (PostsAt e) n 0 u t) (all_count a w u turns) posts)
+  pub round_stops_hands : (o : Option Outcome) (a : Bool) (w u t v : W) → Counts a (InOrder (TurnsAt s) (s.count w)) w u → InOrder (PostsAt s) (s.count u) 0 u t → HandsStop s o t v → RoundStops s o w v
+  round_stops_hands o a w u t v turns posts stop = by a turns (subst (λ (n : ℕ). InOrder (PostsAt s) n 0 u t) (all_count a w u turns) posts)
     where
-      by : (b : Bool) → Counts b (InOrder (TurnsAt e) (length w.nodes)) w u → InOrder (PostsAt e) (length w.nodes) 0 u t → RoundStops e o w v
+      by : (b : Bool) → Counts b (InOrder (TurnsAt s) (s.count w)) w u → InOrder (PostsAt s) (s.count w) 0 u t → RoundStops s o w v
       by true h k = inr (inr (u, t, suc h.0, h.1, k, stop))
       by false h k = inr (inr (u, t, 0, h, k, stop))
-
-  pub rounds_more : (w u v : World) → SomeRounds e w u → Counts true (Round e) u v → SomeRounds e w v
-  rounds_more w u v before round = (suc before.0, (u, round.0, before.1, round.1))
-
-  pub drain_stops : (o : Option Outcome) (w u v : World) → SomeRounds e w u → RoundStops e o u v → DrainStops e o w v
-  drain_stops o w u v before stop = (before.0, u, before.1, stop)
-
-  pub drain_ends : (w u v : World) → SomeRounds e w u → Round e 0 u v → Quiet e v → IsDrained e w v
-  drain_ends w u v before round quiet = (before.0, u, before.1, round, quiet)
-
--- ---- a drain's answer
-
-pub drained : (E : Type 0) {F : Type 0} (e : Environment F) (w v : World) (full : Bool) → Drains {E = E} e w (Ok full) v → WorldDrains e w (Some (outcome.Drained full)) v
-drained E e w v true d = d
-drained E e w v false d = d
-
-pub drains_short : {F E : Type 0} (e : Environment F) (w v : World) (r : Result Bool E) → IsErr r → DrainStops e None w v → Drains e w r v
-drains_short e w v (Ok t) is h = cc
-drains_short e w v (Err x) is h = h
 
 -- ---- by what a turn or a delivery came to
 
@@ -313,25 +281,25 @@ heard_noted _ h = (λ code is. cc, refl)
 
 -- ---- a whole round, by its answers
 
-module _ {F : Type 0} (e : Environment F) (E : Type 0) where
-  pub round_made : (turns deliveries : Turning) (w u t v : World) → (turns ≡ turning.Full → ⊥) → Turns {E = E} (Ok turns) (InOrder (TurnsAt e) (length w.nodes)) (TurnsStop e) w u → InOrder (PostsAt e) (length u.nodes) 0 u t
-      → Turns {E = E} (Ok deliveries) (InOrder (DeliversAt e) (length t.nodes)) (HandsStop e) t v → Turns {E = E} (Ok (joined turns deliveries)) (Round e) (RoundStops e) w v
+module _ {W : Type 0} (s : DrainSteps W) (laws : DrainLaws s) (E : Type 0) where
+  pub round_made : (turns deliveries : Turning) (w u t v : W) → (turns ≡ turning.Full → ⊥) → Turns {E = E} (Ok turns) (InOrder (TurnsAt s) (s.count w)) (TurnsStop s) w u → InOrder (PostsAt s) (s.count u) 0 u t
+      → Turns {E = E} (Ok deliveries) (InOrder (DeliversAt s) (s.count t)) (HandsStop s) t v → Turns {E = E} (Ok (joined turns deliveries)) (Round s) (RoundStops s) w v
   round_made turning.Full deliveries w u t v other h posts g = absurd (other refl)
-  round_made turning.Moved turning.Quiet w u t v other h posts g = round_of e true false w u t v h posts g
-  round_made turning.Moved turning.Moved w u t v other h posts g = round_of e true true w u t v h posts g
-  round_made turning.Moved turning.Full w u t v other h posts g = round_stops_hands e (Some (outcome.Refused 9)) true w u t v h posts g
-  round_made turning.Quiet turning.Quiet w u t v other h posts g = round_of e false false w u t v h posts g
-  round_made turning.Quiet turning.Moved w u t v other h posts g = round_of e false true w u t v h posts g
-  round_made turning.Quiet turning.Full w u t v other h posts g = round_stops_hands e (Some (outcome.Refused 9)) false w u t v h posts g
+  round_made turning.Moved turning.Quiet w u t v other h posts g = round_of s laws true false w u t v h posts g
+  round_made turning.Moved turning.Moved w u t v other h posts g = round_of s laws true true w u t v h posts g
+  round_made turning.Moved turning.Full w u t v other h posts g = round_stops_hands s laws (Some (outcome.Refused 9)) true w u t v h posts g
+  round_made turning.Quiet turning.Quiet w u t v other h posts g = round_of s laws false false w u t v h posts g
+  round_made turning.Quiet turning.Moved w u t v other h posts g = round_of s laws false true w u t v h posts g
+  round_made turning.Quiet turning.Full w u t v other h posts g = round_stops_hands s laws (Some (outcome.Refused 9)) false w u t v h posts g
 
   -- memory ran out at a post
-  pub round_short_post : (turns : Turning) (w u v : World) → (turns ≡ turning.Full → ⊥) → Turns {E = E} (Ok turns) (InOrder (TurnsAt e) (length w.nodes)) (TurnsStop e) w u → PostsStop e None u v → RoundStops e None w v
+  pub round_short_post : (turns : Turning) (w u v : W) → (turns ≡ turning.Full → ⊥) → Turns {E = E} (Ok turns) (InOrder (TurnsAt s) (s.count w)) (TurnsStop s) w u → PostsStop s None u v → RoundStops s None w v
   round_short_post turning.Full w u v other h stop = absurd (other refl)
-  round_short_post turning.Moved w u v other h stop = round_stops_posts e None true w u v h stop
-  round_short_post turning.Quiet w u v other h stop = round_stops_posts e None false w u v h stop
+  round_short_post turning.Moved w u v other h stop = round_stops_posts s None true w u v h stop
+  round_short_post turning.Quiet w u v other h stop = round_stops_posts s None false w u v h stop
 
   -- memory ran out at a delivery
-  pub round_short_hand : (turns : Turning) (w u t v : World) → (turns ≡ turning.Full → ⊥) → Turns {E = E} (Ok turns) (InOrder (TurnsAt e) (length w.nodes)) (TurnsStop e) w u → InOrder (PostsAt e) (length u.nodes) 0 u t → HandsStop e None t v → RoundStops e None w v
+  pub round_short_hand : (turns : Turning) (w u t v : W) → (turns ≡ turning.Full → ⊥) → Turns {E = E} (Ok turns) (InOrder (TurnsAt s) (s.count w)) (TurnsStop s) w u → InOrder (PostsAt s) (s.count u) 0 u t → HandsStop s None t v → RoundStops s None w v
   round_short_hand turning.Full w u t v other h posts stop = absurd (other refl)
-  round_short_hand turning.Moved w u t v other h posts stop = round_stops_hands e None true w u t v h posts stop
-  round_short_hand turning.Quiet w u t v other h posts stop = round_stops_hands e None false w u t v h posts stop
+  round_short_hand turning.Moved w u t v other h posts stop = round_stops_hands s laws None true w u t v h posts stop
+  round_short_hand turning.Quiet w u t v other h posts stop = round_stops_hands s laws None false w u t v h posts stop

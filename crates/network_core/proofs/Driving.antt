@@ -1,115 +1,210 @@
--- What a network does, one thing after another, as its worlds show it.
-use Rattle.std.proofs.Common.{◌≡◌, inl, inr, false, ℕ, length, Option, None, Result, Ok, Err, refl, sym, ◌∙◌, ap, subst, arith}
+-- What a network does, one thing after another, over any disks and as its worlds show it.
+use Rattle.std.proofs.Common.{◌≡◌, ◌<◌, ◌⊎◌, inl, inr, ⊎_elim, false, ℕ, length, Option, Some, None, Result, Ok, Err, refl, sym, ◌∙◌, ap, subst, arith}
 use Rattle.flow_machine.specs.Machine.{Machine}
+use Rattle.net_base.proofs.Lists.{set_length}
 use Rattle.net_model.specs.Environment.{Environment, environment}
 use Rattle.node_tables.specs.Journals.{Reads}
+use Rattle.node_core.specs.Seen.{NodeSeen}
+use Rattle.node_core.specs.declared.faults.TurnFault.{TurnFault}
+use Rattle.node_core.specs.declared.faults.TurnFault.TheVariants as turn_fault
+use Rattle.node_core.specs.declared.faults.Turned.{Turned}
+use Rattle.node_core.specs.declared.faults.Turned.TheVariants as turned
+use Rattle.node_core.specs.declared.faults.Taken.{Taken}
+use Rattle.node_core.specs.declared.faults.Taken.TheVariants as taken
+use Rattle.node_core.specs.declared.faults.TakeFault.{TakeFault}
+use Rattle.node_core.specs.declared.faults.TakeFault.TheVariants as take_fault
 use Rattle.network_core.specs.declared.steps.Outcome.{Outcome}
-use Rattle.network_core.specs.Answers.{said, AtPlace, TurnServes, Posting, PostServes, Handing, HandServes, Answer, PartServes, Parts, still, then}
-use Rattle.network_core.specs.Worlds.{World, NetSeen, Shows, Coherent}
-use Rattle.network_core.specs.Drains.{room, Round, Quiet, Drives}
+use Rattle.network_core.specs.declared.steps.Outcome.TheVariants as outcome
+use Rattle.network_core.specs.Answers.{said, turn_outcome, take_outcome, AtPlace, TurnServes, Posting, PostServes, Handing, HandServes, answer_of, NetTurn, NetPost, NetHand, net_steps}
+use Rattle.network_core.specs.Worlds.{World, NodeWorld, NetSeen, Shows}
+use Rattle.network_core.specs.Serves.{WorldTurns}
+use Rattle.network_core.specs.Rounds.{DrainSteps, DrainGoal, IsLastTurn, Round, DrainsTo}
+use Rattle.network_core.specs.Drains.{TurnAt, world_steps, room, Drives, Drains}
+use Rattle.network_core.proofs.Draining.{DrainLaws, SomeRounds, drain_ends}
+use Rattle.network_core.proofs.Emptying.{hands_over_at}
 use Rattle.network_core.proofs.Quieting.{quiet}
+use Rattle.network_core.proofs.QuietingSteps.{post_grows}
 
--- ---- turns, posts and deliveries over any disks
+-- ---- the steps of a drain of a world
 
-pub parts_then : {F : Type 0} (m : Machine F) (f : Reads F) (old mid new : NetSeen) → Parts m f old mid → Parts m f mid new → Parts m f old new
-parts_then m f old mid new before (still same) = subst (λ (n : NetSeen). Parts m f old n) (sym same) before
-parts_then m f old mid new before (then {mid = last} place answer more part) = then place answer (parts_then m f old mid last before more) part
+module _ {F : Type 0} (e : Environment F) where
+  last_of : (p now : ℕ) (x y : NodeWorld) (o : Outcome) → ((g : ℕ) → o ≡ outcome.Moved g → ⊥) → (o ≡ outcome.Refused 9 → ⊥) → WorldTurns e p now None x (Some o) y → IsLastTurn o
+  last_of p now x y outcome.Idle moved full h = inl refl
+  last_of p now x y (outcome.Moved g) moved full h = absurd (moved g refl)
+  last_of p now x y outcome.Fault moved full h = inr (inl refl)
+  last_of p now x y (outcome.Refused code) moved full h = ⊎_elim (λ s. inr (inr (ap outcome.Refused s.0))) (λ s. absurd (full (ap outcome.Refused s.0))) h.0
+  last_of p now x y other moved full h = absurd h
 
-pub one_part : {F : Type 0} (m : Machine F) (f : Reads F) (place : ℕ) (old new : NetSeen) (answer : Answer) → PartServes m f place old answer new → Parts m f old new
-one_part m f place old new answer part = then place answer (still refl) part
+  is_last : (p : ℕ) (o : Outcome) (w v : World) → p < length w.nodes → ((g : ℕ) → o ≡ outcome.Moved g → ⊥) → (o ≡ outcome.Refused 9 → ⊥) → TurnAt e p w (Some o) v → IsLastTurn o
+  is_last p o w v lt moved full (inl (past, is, same)) = absurd (omega (arith, lt, past))
+  is_last p o w v lt moved full (inr (x, y, at, is, turn)) = last_of p w.now x y o moved full turn
+
+  turn_count : (p : ℕ) (w v : World) (o : Option Outcome) → TurnAt e p w o v → length v.nodes ≡ length w.nodes
+  turn_count p w v o (inl (past, is, same)) = ap (λ (a : World). length a.nodes) same
+  turn_count p w v o (inr (x, y, at, is, turn)) = ap (λ (a : World). length a.nodes) is ∙ set_length w.nodes p y
+
+  pub world_laws : DrainLaws (world_steps e)
+  world_laws = record {
+    turn_count = turn_count;
+    post_count = λ p w v o post. (post_grows e p w v o post).grown.count;
+    turn_last = is_last;
+    hand_over = λ p d code w u v o lt is full hand. (o, hand, hands_over_at e p code u v o lt is full hand);
+  }
+
+-- ---- those of a network, over any disks
+
+answer_is : (o : Option Outcome) → said (answer_of o) ≡ o
+answer_is (Some o) = refl
+answer_is None = refl
 
 -- what is said of an outcome is said whatever stands for want of memory
-abbrev pub bare : {E : Type 0} → Result Outcome E → Answer
-bare (Ok o) = Ok o
-bare (Err e) = Err tt
+module _ {F E : Type 0} (m : Machine F) (f : Reads F) (p : ℕ) (old new : NetSeen) (r : Result Outcome E) (o : Option Outcome) (was : said r ≡ o) where
+  outcome_is : said (answer_of o) ≡ said r
+  outcome_is = answer_is o ∙ sym was
 
-bare_said : {E : Type 0} (r : Result Outcome E) → said (bare r) ≡ said r
-bare_said (Ok o) = refl
-bare_said (Err e) = refl
+  turn_bare : AtPlace p old r new (λ n a k. TurnServes m f old.now None n a k) → AtPlace p old (answer_of o) new (λ n a k. TurnServes m f old.now None n a k)
+  turn_bare (inl (past, is, same)) = inl (past, outcome_is ∙ is, same)
+  turn_bare (inr (n, k, at, nodes, waiting, (answer, answers, so))) = inr (n, k, at, nodes, waiting, (answer, answers, outcome_is ∙ so))
 
-module _ {F E : Type 0} (m : Machine F) (f : Reads F) (p : ℕ) (old new : NetSeen) (r : Result Outcome E) where
-  turn_bare : AtPlace p old r new (λ n r k. TurnServes m f old.now None n r k) → AtPlace p old (bare r) new (λ n r k. TurnServes m f old.now None n r k)
-  turn_bare (inl (past, is, same)) = inl (past, bare_said r ∙ is, same)
-  turn_bare (inr (n, k, at, nodes, waiting, (answer, answers, so))) = inr (n, k, at, nodes, waiting, (answer, answers, bare_said r ∙ so))
+  pub net_turn : AtPlace p old r new (λ n a k. TurnServes m f old.now None n a k) → new.now ≡ old.now → NetTurn m f p old o new
+  net_turn at clock = (turn_bare at, clock)
 
-  pub turn_part : AtPlace p old r new (λ n r k. TurnServes m f old.now None n r k) → new.now ≡ old.now → Parts m f old new
-  turn_part at clock = one_part m f p old new (bare r) (inl (turn_bare at, clock))
+  pub net_post : PostServes f p old r new → NetPost f p old o new
+  net_post (inl (past, is, same)) = inl (past, outcome_is ∙ is, same)
+  net_post (inr (n, at, posting)) = inr (n, at, subst (λ (a : Option Outcome). Posting f n old a new) (sym outcome_is) posting)
 
-  post_bare : PostServes f p old r new → PostServes f p old (bare r) new
-  post_bare (inl (past, is, same)) = inl (past, bare_said r ∙ is, same)
-  post_bare (inr (n, at, posting)) = inr (n, at, subst (λ (o : Option Outcome). Posting f n old o new) (sym (bare_said r)) posting)
+  pub net_hand : HandServes m f false p 0 old r new → NetHand m f p old o new
+  net_hand (inl (past, is, same)) = inl (past, outcome_is ∙ is, same)
+  net_hand (inr (n, frames, at, waits, handing)) = inr (n, frames, at, waits, subst (λ (a : Option Outcome). Handing m f false p 0 n frames old a new) (sym outcome_is) handing)
 
-  pub post_part : PostServes f p old r new → Parts m f old new
-  post_part at = one_part m f p old new (bare r) (inr (inl (post_bare at)))
+-- a step at one place keeps the number of nodes
+pub same_count : {E : Type 0} (p : ℕ) (old new : NetSeen) (result : Result Outcome E) (serves : NodeSeen → Result Outcome E → NodeSeen → Type 0) → AtPlace p old result new serves → length new.nodes ≡ length old.nodes
+same_count p old new result serves (inl (past, is, same)) = ap (λ z. length z.nodes) same
+same_count p old new result serves (inr (n, k, at, nodes, waiting, served)) = ap length nodes ∙ set_length old.nodes p k
 
-  hand_bare : HandServes m f false p 0 old r new → HandServes m f false p 0 old (bare r) new
-  hand_bare (inl (past, is, same)) = inl (past, bare_said r ∙ is, same)
-  hand_bare (inr (n, frames, at, waits, handing)) = inr (n, frames, at, waits, subst (λ (o : Option Outcome). Handing m f false p 0 n frames old o new) (sym (bare_said r)) handing)
+turn_says : (answer : Result Turned TurnFault) (o : Outcome) → ((g : ℕ) → o ≡ outcome.Moved g → ⊥) → (o ≡ outcome.Refused 9 → ⊥) → Some o ≡ turn_outcome answer → IsLastTurn o
+turn_says (Ok turned.Idle) o moved full so = inl cc
+turn_says (Ok (turned.Moved g)) o moved full so = absurd (moved g cc)
+turn_says (Err turn_fault.NodeDown) o moved full so = inr (inr cc)
+turn_says (Err turn_fault.Full) o moved full so = absurd (full cc)
+turn_says (Err turn_fault.Memory) o moved full so = absurd cc
+turn_says (Err turn_fault.Fault) o moved full so = inr (inl cc)
 
-  pub hand_part : HandServes m f false p 0 old r new → Parts m f old new
-  hand_part at = one_part m f p old new (bare r) (inr (inr (hand_bare at)))
+take_says : (answer : Result Taken TakeFault) (o : Outcome) (code : ℕ) → o ≡ outcome.Refused code → (code ≡ 9 → ⊥) → Some o ≡ take_outcome answer → (o ≡ outcome.Refused 7) ⊎ (o ≡ outcome.Refused 3)
+take_says (Ok taken.Acked) o code is full so = absurd cc
+take_says (Ok (taken.Again expected ack)) o code is full so = absurd cc
+take_says (Ok (taken.Early expected)) o code is full so = absurd cc
+take_says (Ok taken.NoSession) o code is full so = absurd cc
+take_says (Ok (taken.Took upto ack)) o code is full so = absurd cc
+take_says (Err take_fault.NodeDown) o code is full so = inr cc
+take_says (Err take_fault.Garbled) o code is full so = absurd cc
+take_says (Err (take_fault.NotMine to)) o code is full so = absurd cc
+take_says (Err take_fault.Full) o code is full so = absurd (full cc)
+take_says (Err take_fault.Memory) o code is full so = absurd cc
+take_says (Err take_fault.Fault) o code is full so = absurd cc
 
 module _ {F : Type 0} (m : Machine F) (f : Reads F) where
+  post_same : (n : NodeSeen) (old new : NetSeen) (o : Option Outcome) → Posting f n old o new → (new.nodes ≡ old.nodes) × (new.now ≡ old.now)
+  post_same n old new None s = (ap (λ z. z.nodes) s.1, ap (λ z. z.now) s.1)
+  post_same n old new (Some (outcome.Posted count)) s = (ap (λ z. z.nodes) s.4, ap (λ z. z.now) s.4)
+  post_same n old new (Some (outcome.Refused code)) s = (ap (λ z. z.nodes) s.2, ap (λ z. z.now) s.2)
+  post_same n old new (Some _) s = absurd s
+
+  -- a post changes no node, and no moment
+  pub post_keeps : {E : Type 0} (p : ℕ) (old new : NetSeen) (result : Result Outcome E) → PostServes f p old result new → (new.nodes ≡ old.nodes) × (new.now ≡ old.now)
+  post_keeps p old new result (inl (past, is, same)) = (ap (λ z. z.nodes) same, ap (λ z. z.now) same)
+  post_keeps p old new result (inr (n, at, posting)) = post_same n old new (said result) posting
+
+  net_last : (p : ℕ) (o : Outcome) (w v : NetSeen) → p < length w.nodes → ((g : ℕ) → o ≡ outcome.Moved g → ⊥) → (o ≡ outcome.Refused 9 → ⊥) → NetTurn m f p w (Some o) v → IsLastTurn o
+  net_last p o w v lt moved full (inl (past, is, same), clock) = absurd (omega (arith, lt, past))
+  net_last p o w v lt moved full (inr (n, k, at, nodes, waiting, (answer, answers, so)), clock) = turn_says answer o moved full so
+
+  net_over : (p code : ℕ) (w v : NetSeen) (o : Outcome) → p < length w.nodes → o ≡ outcome.Refused code → (code ≡ 9 → ⊥) → NetHand m f p w (Some o) v → (o ≡ outcome.Refused 7) ⊎ (o ≡ outcome.Refused 3)
+  net_over p code w v o lt is full (inl (past, two, same)) = absurd (omega (arith, lt, past))
+  net_over p code w v o lt is full (inr (n, frames, at, waits, inl (none, three, same))) = inr cc
+  net_over p code w v o lt is full (inr (n, frames, at, waits, inr (up, inl (none, seven, same)))) = inl cc
+  net_over p code w v o lt is full (inr (n, frames, at, waits, inr (up, inr h))) = take_says h.answer o code is full h.outcome_is
+
+  pub net_laws : DrainLaws (net_steps m f)
+  net_laws = record {
+    turn_count = λ p w v o at. same_count p w v (answer_of o) (λ n r k. TurnServes m f w.now None n r k) at.0;
+    post_count = λ p w v o at. ap length (post_keeps p w v (answer_of o) at).0;
+    turn_last = net_last;
+    hand_over = λ p d code w u v o lt is full hand. inl (o, hand, net_over p code u v o lt is full hand);
+  }
+
+  -- ---- one thing after another
+
   -- nothing was done yet
-  pub drives_none : (old new : NetSeen) (goal : Environment F → World → World → Type 0) → new ≡ old → ((e : Environment F) (w : World) → goal e w w) → Drives m f old new goal
+  pub drives_none : (old new : NetSeen) (goal : DrainGoal) → new ≡ old → ((W : Type 0) (s : DrainSteps W) (w : W) → goal W s w w) → Drives m f old new goal
   drives_none old new goal same holds = record {
-    world = λ id w shows coherent. (w, subst (λ (n : NetSeen). Shows (environment m f id) n w) (sym same) shows, coherent, holds (environment m f id) w);
-    parts = still same;
+    world = λ id w shows coherent. (w, subst (λ (n : NetSeen). Shows (environment m f id) n w) (sym same) shows, coherent, holds World (world_steps (environment m f id)) w);
+    seen = subst (λ (n : NetSeen). goal NetSeen (net_steps m f) old n) (sym same) (holds NetSeen (net_steps m f) old);
     clock = ap (λ (z : NetSeen). z.now) same;
     left = omega (arith, ap room same);
     count = ap (λ (z : NetSeen). length z.nodes) same;
   }
 
-  pub drives_map : (old new : NetSeen) (goal wider : Environment F → World → World → Type 0) → ((e : Environment F) (w v : World) → goal e w v → wider e w v) → Drives m f old new goal → Drives m f old new wider
+  pub drives_map : (old new : NetSeen) (goal wider : DrainGoal) → ((W : Type 0) (s : DrainSteps W) → DrainLaws s → (w v : W) → goal W s w v → wider W s w v) → Drives m f old new goal → Drives m f old new wider
   drives_map old new goal wider map d = record {
     world = λ id w shows coherent.
+        let e = environment m f id in
         let one = d.world id w shows coherent in
-        (one.0, one.1, one.2, map (environment m f id) w one.0 one.3);
-    parts = d.parts;
+        (one.0, one.1, one.2, map World (world_steps e) (world_laws e) w one.0 one.3);
+    seen = map NetSeen (net_steps m f) net_laws old new d.seen;
     clock = d.clock;
     left = d.left;
     count = d.count;
   }
 
   -- one thing after another
-  pub drives_then : (old mid new : NetSeen) (first second wider : Environment F → World → World → Type 0) → ((e : Environment F) (w u v : World) → first e w u → second e u v → wider e w v) → Drives m f old mid first → Drives m f mid new second → Drives m f old new wider
+  pub drives_then : (old mid new : NetSeen) (first second wider : DrainGoal) → ((W : Type 0) (s : DrainSteps W) → DrainLaws s → (w u v : W) → first W s w u → second W s u v → wider W s w v) → Drives m f old mid first → Drives m f mid new second → Drives m f old new wider
   drives_then old mid new first second wider join before after = record {
     world = λ id w shows coherent.
+        let e = environment m f id in
         let one = before.world id w shows coherent in
         let two = after.world id one.0 one.1 one.2 in
-        (two.0, two.1, two.2, join (environment m f id) w one.0 two.0 one.3 two.3);
-    parts = parts_then m f old mid new before.parts after.parts;
+        (two.0, two.1, two.2, join World (world_steps e) (world_laws e) w one.0 two.0 one.3 two.3);
+    seen = join NetSeen (net_steps m f) net_laws old mid new before.seen after.seen;
     clock = after.clock ∙ before.clock;
     left = omega (arith, before.left, after.left);
     count = after.count ∙ before.count;
   }
 
   -- a world that the network shows has as many nodes
-  pub drives_counted : (old new : NetSeen) (goal : Environment F → World → World → Type 0) → Drives m f old new goal → Drives m f old new (λ e w v. (length w.nodes ≡ length old.nodes) × goal e w v)
+  pub drives_counted : (old new : NetSeen) (goal : DrainGoal) → Drives m f old new goal → Drives m f old new (λ W s w v. (s.count w ≡ length old.nodes) × goal W s w v)
   drives_counted old new goal d = record {
     world = λ id w shows coherent.
         let one = d.world id w shows coherent in
         (one.0, one.1, one.2, (shows.count, one.3));
-    parts = d.parts;
+    seen = (refl, d.seen);
     clock = d.clock;
     left = d.left;
     count = d.count;
   }
 
-  -- it is coherent, and the network shows it
-  pub drives_shown : (old new : NetSeen) (goal : Environment F → World → World → Type 0) → Drives m f old new goal → Drives m f old new (λ e w v. Shows e old w × Coherent e w × goal e w v)
-  drives_shown old new goal d = record {
+  -- ---- how a drain ends
+
+  -- behind a round in which nothing was committed the network is quiet
+  pub drains_quiet : (old mid new : NetSeen) → Drives m f old mid (λ W s w v. SomeRounds s w v) → Drives m f mid new (λ W s w v. Round s 0 w v) → Drains m f old (Some (outcome.Drained false)) new
+  drains_quiet old mid new before after = record {
+    world = λ id w shows coherent.
+        let e = environment m f id in
+        let one = before.world id w shows coherent in
+        let two = after.world id one.0 one.1 one.2 in
+        (two.0, two.1, two.2, (drain_ends (world_steps e) w one.0 two.0 one.3 two.3, λ is. quiet e one.0 two.0 one.2 two.3));
+    seen = drain_ends (net_steps m f) old mid new before.seen after.seen;
+    clock = after.clock ∙ before.clock;
+    count = after.count ∙ before.count;
+  }
+
+  -- a full journal or want of memory stopped it
+  pub drains_stopped : (old new : NetSeen) (o : Option Outcome) → (o ≡ Some (outcome.Drained false) → ⊥) → Drives m f old new (λ W s w v. DrainsTo s w o v) → Drains m f old o new
+  drains_stopped old new o other d = record {
     world = λ id w shows coherent.
         let one = d.world id w shows coherent in
-        (one.0, one.1, one.2, (shows, coherent, one.3));
-    parts = d.parts;
+        (one.0, one.1, one.2, (one.3, λ is. absurd (other is)));
+    seen = d.seen;
     clock = d.clock;
-    left = d.left;
     count = d.count;
   }
-
-  -- a round in which nothing was committed leaves a quiet world
-  pub drives_quiet : (old new : NetSeen) → Drives m f old new (λ e w v. Round e 0 w v) → Drives m f old new (λ e w v. Round e 0 w v × Quiet e v)
-  drives_quiet old new d =
-      drives_map old new (λ e w v. Shows e old w × Coherent e w × Round e 0 w v) (λ e w v. Round e 0 w v × Quiet e v)
-      (λ e w v h. (h.2, quiet e w v h.1 h.2)) (drives_shown old new (λ e w v. Round e 0 w v) d)

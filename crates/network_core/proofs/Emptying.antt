@@ -20,7 +20,8 @@ use Rattle.network_core.specs.declared.steps.Outcome.{Outcome}
 use Rattle.network_core.specs.declared.steps.Outcome.TheVariants as outcome
 use Rattle.network_core.specs.Worlds.{NodeWorld, World}
 use Rattle.network_core.specs.Serves.{HearsNext, Hears, waits_on, handed_over, with_frame, without, sent_to, sent_once, sent_all}
-use Rattle.network_core.specs.Drains.{HandAt, Hands, DeliversAt, IsTaken}
+use Rattle.network_core.specs.Drains.{HandAt, world_steps}
+use Rattle.network_core.specs.Rounds.{Hands, EndsHands, IsTaken}
 use Rattle.network_core.proofs.QuietingFrames.{Has}
 use Rattle.network_core.proofs.QuietingSteps.{same_node, waits_taken, hears_refused}
 
@@ -132,23 +133,23 @@ module _ {F : Type 0} (e : Environment F) where
       let was : length x.waiting ≡ length z.waiting = ap (λ (a : NodeWorld). length a.waiting) (sym one) in
       (over, after, was ∙ gone ∙ ap (λ (l : List (List ℕ)). suc (length l)) (sym left))
 
-  hands_left : (r d n : ℕ) (w v : World) (x : NodeWorld) → slice_get w.nodes r ≡ Some x → Hands e r d n w v → (y : NodeWorld) × (slice_get v.nodes r ≡ Some y) × (length x.waiting ≡ length y.waiting + d)
+  hands_left : (r d n : ℕ) (w v : World) (x : NodeWorld) → slice_get w.nodes r ≡ Some x → Hands (world_steps e) r d n w v → (y : NodeWorld) × (slice_get v.nodes r ≡ Some y) × (length x.waiting ≡ length y.waiting + d)
   hands_left r zero n w v x at (is, same) = (x, ap (λ (a : World). slice_get a.nodes r) same ∙ at, omega arith)
   hands_left r (suc d) n w v x at (u, k, o, before, hand, taken, sum) =
       let y = hands_left r d k w u x at before in
       let z = hand_shorter r u v o y.0 taken hand y.1 in
       (z.0, z.1, omega (arith, y.2, z.2))
 
-  -- as many deliveries as frames waited leave none, and are all
-  pub hands_shorter : (r d n : ℕ) (w v : World) (x : NodeWorld) → slice_get w.nodes r ≡ Some x → length x.waiting ≡ d → Hands e r d n w v → DeliversAt e r n w v
+  -- as many deliveries as frames waited leave none
+  pub hands_shorter : (r d n : ℕ) (w v : World) (x : NodeWorld) → slice_get w.nodes r ≡ Some x → length x.waiting ≡ d → Hands (world_steps e) r d n w v → EndsHands (HandAt e) r v v
   hands_shorter r d n w v x at count hands =
       let y = hands_left r d n w v x at hands in
       let none = none_waits y.0.waiting (omega (arith, y.2, count)) in
       by y.0 y.1 none y.0.up refl
     where
-      by : (y : NodeWorld) → slice_get v.nodes r ≡ Some y → slice_get y.waiting 0 ≡ None → (b : Bool) → y.up ≡ b → DeliversAt e r n w v
-      by y there none true up = (d, v, outcome.Refused 7, hands, inr (y, there, inr (up, inl (none, refl, refl))), inl refl)
-      by y there none false up = (d, v, outcome.Refused 3, hands, inr (y, there, inl (up, refl, refl)), inr refl)
+      by : (y : NodeWorld) → slice_get v.nodes r ≡ Some y → slice_get y.waiting 0 ≡ None → (b : Bool) → y.up ≡ b → EndsHands (HandAt e) r v v
+      by y there none true up = (outcome.Refused 7, inr (y, there, inr (up, inl (none, refl, refl))), inl refl)
+      by y there none false up = (outcome.Refused 3, inr (y, there, inl (up, refl, refl)), inr refl)
 
   -- a delivery that is refused, but not by a full journal, finds no frame, or a node that is down
   pub hands_over_at : (r code : ℕ) (w v : World) (o : Outcome) → r < length w.nodes → o ≡ outcome.Refused code → (code ≡ 9 → ⊥) → HandAt e r w (Some o) v → (o ≡ outcome.Refused 7) ⊎ (o ≡ outcome.Refused 3)

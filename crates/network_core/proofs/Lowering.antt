@@ -37,7 +37,8 @@ use Rattle.network_core.specs.declared.steps.Outcome.{Outcome}
 use Rattle.network_core.specs.declared.steps.Outcome.TheVariants as outcome
 use Rattle.network_core.specs.Worlds.{NodeWorld, World, MaySpell, Choice, states_of, Coherent}
 use Rattle.network_core.specs.Serves.{WorldCommits, WorldFaults, WorldTurns, HearsNext, Hears, WorldTakes, waits_on, handed_over, sent_all}
-use Rattle.network_core.specs.Drains.{takes, TurnAt, HandAt, Moves, TurnsAt, InOrder, PostsAt, committed, Hands, DeliversAt, Round, Rounds, RoundStops, DrainStops, in_front, RoundsAreBounded}
+use Rattle.network_core.specs.Drains.{takes, TurnAt, HandAt, world_steps, RoundsAreBounded}
+use Rattle.network_core.specs.Rounds.{Moves, TurnsAt, InOrder, PostsAt, committed, Hands, DeliversAt, Round, Rounds, RoundStops, DrainStops, in_front}
 use Rattle.network_core.proofs.Placing.{get_set_both}
 use Rattle.network_core.proofs.Faithful.{coherent_is_faithful}
 use Rattle.network_core.proofs.Agreeing.{turn_coherent, post_coherent, hand_coherent}
@@ -311,16 +312,16 @@ module _ {F : Type 0} (e : Environment F) (falls : Falls e.machine) (load : Load
       by (inl (past, is, same)) coherent lists choice = less_same e (takes o) w v lists (ap takes is) same choice
       by (inr (x, y, there, same, turn)) coherent lists choice = subst (λ (z : World). Less e (takes o) z lists) (sym same) (turns_less w p x y o coherent there turn lists choice)
 
-  moves_lower : (p n : ℕ) (w v : World) → Moves e p n w v → Lowers e n w v
+  moves_lower : (p n : ℕ) (w v : World) → Moves (world_steps e) p n w v → Lowers e n w v
   moves_lower p zero w v is = lowers_same e w v is
   moves_lower p (suc n) w v (u, f, before, turn) = lowers_then e n 1 (suc n) w u v (omega arith) (moves_lower p n w u before) (turn_lowers p u v (Some (outcome.Moved f)) turn)
 
-  turns_lower : (p n : ℕ) (w v : World) → TurnsAt e p n w v → Lowers e n w v
+  turns_lower : (p n : ℕ) (w v : World) → TurnsAt (world_steps e) p n w v → Lowers e n w v
   turns_lower p n w v (u, o, before, turn, last) = lowers_then e n (takes (Some o)) n w u v (omega arith) (moves_lower p n w u before) (turn_lowers p u v (Some o) turn)
 
   -- ---- posts
 
-  posts_lower : (p n : ℕ) (w v : World) → PostsAt e p n w v → Lowers e n w v
+  posts_lower : (p n : ℕ) (w v : World) → PostsAt (world_steps e) p n w v → Lowers e n w v
   posts_lower p n w v (o, post, none) = record {
     coherent = λ coherent. post_coherent e p w v (Some o) coherent post;
     less = λ coherent lists choice. less_grown e n w v lists (post_grows e p w v (Some o) post).grown (less_same e n w w lists none refl choice);
@@ -337,12 +338,12 @@ module _ {F : Type 0} (e : Environment F) (falls : Falls e.machine) (load : Load
       by (inr (x, there, inr (up, inl (gone, is, same)))) coherent lists choice = less_same e (committed o) w v lists (ap committed (some_eq is)) same choice
       by (inr (x, there, inr (up, inr (bytes, y, sent, waits, heard, is)))) coherent lists choice = subst (λ (z : World). Less e (committed o) z lists) (sym is) (handed_less w p x coherent there up lists choice bytes waits y sent o heard)
 
-  hands_lower : (p d n : ℕ) (w v : World) → Hands e p d n w v → Lowers e n w v
+  hands_lower : (p d n : ℕ) (w v : World) → Hands (world_steps e) p d n w v → Lowers e n w v
   hands_lower p zero n w v (none, is) = lowers_fewer e 0 n w v (omega (arith, none)) (lowers_same e w v is)
   hands_lower p (suc d) n w v (u, k, o, before, hand, taken, sum) = lowers_then e k (committed o) n w u v (omega (arith, sum)) (hands_lower p d k w u before) (hand_lowers p u v o hand)
 
-  delivers_lower : (p n : ℕ) (w v : World) → DeliversAt e p n w v → Lowers e n w v
-  delivers_lower p n w v (d, u, o, before, hand, over) = lowers_then e n (committed o) n w u v (omega arith) (hands_lower p d n w u before) (hand_lowers p u v o hand)
+  delivers_lower : (p n : ℕ) (w v : World) → DeliversAt (world_steps e) p n w v → Lowers e n w v
+  delivers_lower p n w v (d, u, before, (o, hand, over)) = lowers_then e n (committed o) n w u v (omega arith) (hands_lower p d n w u before) (hand_lowers p u v o hand)
 
   -- ---- rounds
 
@@ -350,34 +351,34 @@ module _ {F : Type 0} (e : Environment F) (falls : Falls e.machine) (load : Load
   order_lowers at lower zero n w v (none, is) = lowers_fewer e 0 n w v (omega (arith, none)) (lowers_same e w v is)
   order_lowers at lower (suc p) n w v (u, k, j, before, here, sum) = lowers_then e k j n w u v (omega (arith, sum)) (order_lowers at lower p k w u before) (lower p j u v here)
 
-  round_lowers : (n : ℕ) (w v : World) → Round e n w v → Lowers e n w v
+  round_lowers : (n : ℕ) (w v : World) → Round (world_steps e) n w v → Lowers e n w v
   round_lowers n w v (u, t, k, j, turns, posts, delivers, sum) =
-      let a = order_lowers (TurnsAt e) turns_lower (length w.nodes) k w u turns in
-      let b = order_lowers (PostsAt e) posts_lower (length w.nodes) 0 u t posts in
-      let c = order_lowers (DeliversAt e) delivers_lower (length w.nodes) j t v delivers in
+      let a = order_lowers (TurnsAt (world_steps e)) turns_lower (length w.nodes) k w u turns in
+      let b = order_lowers (PostsAt (world_steps e)) posts_lower (length w.nodes) 0 u t posts in
+      let c = order_lowers (DeliversAt (world_steps e)) delivers_lower (length w.nodes) j t v delivers in
       lowers_then e k j n w t v (omega (arith, sum)) (lowers_then e k 0 k w u t (omega arith) a b) c
 
-  rounds_lower : (r : ℕ) (w v : World) → Rounds e r w v → Lowers e r w v
+  rounds_lower : (r : ℕ) (w v : World) → Rounds (world_steps e) r w v → Lowers e r w v
   rounds_lower zero w v is = lowers_same e w v is
   rounds_lower (suc r) w v (u, n, before, round) = lowers_then e r (suc n) (suc r) w u v (omega arith) (rounds_lower r w u before) (round_lowers (suc n) u v round)
 
-  front_lowers : (o : Option Outcome) (w v : World) (front : RoundStops e o w v) → (z : World) × Lowers e (in_front e o w v front) w z
-  front_lowers o w v (inl (p, n, u, lt, first, (k, z, moves, turn))) = (z, lowers_then e n k (n + k) w u z (omega arith) (order_lowers (TurnsAt e) turns_lower p n w u first) (moves_lower p k u z moves))
-  front_lowers o w v (inr (inl (u, k, turns, posts))) = (u, order_lowers (TurnsAt e) turns_lower (length w.nodes) k w u turns)
+  front_lowers : (o : Option Outcome) (w v : World) (front : RoundStops (world_steps e) o w v) → (z : World) × Lowers e (in_front (world_steps e) o w v front) w z
+  front_lowers o w v (inl (p, n, u, lt, first, (k, z, moves, turn))) = (z, lowers_then e n k (n + k) w u z (omega arith) (order_lowers (TurnsAt (world_steps e)) turns_lower p n w u first) (moves_lower p k u z moves))
+  front_lowers o w v (inr (inl (u, k, turns, posts))) = (u, order_lowers (TurnsAt (world_steps e)) turns_lower (length w.nodes) k w u turns)
   front_lowers o w v (inr (inr (u, t, k, turns, posts, (p, n, z, lt, first, (d, m, y, hands, hand))))) =
-      let a = order_lowers (TurnsAt e) turns_lower (length w.nodes) k w u turns in
-      let b = order_lowers (PostsAt e) posts_lower (length w.nodes) 0 u t posts in
-      let c = order_lowers (DeliversAt e) delivers_lower p n t z first in
+      let a = order_lowers (TurnsAt (world_steps e)) turns_lower (length w.nodes) k w u turns in
+      let b = order_lowers (PostsAt (world_steps e)) posts_lower (length w.nodes) 0 u t posts in
+      let c = order_lowers (DeliversAt (world_steps e)) delivers_lower p n t z first in
       let f = hands_lower p d m z y hands in
       (y, lowers_then e k (n + m) (k + (n + m)) w t y (omega arith) (lowers_then e k 0 k w u t (omega arith) a b) (lowers_then e n m (n + m) t z y (omega arith) c f))
 
   lowers_few : (n : ℕ) (w v : World) → Lowers e n w v → Coherent e w → (lists : List (List (List ℕ))) → Choice w lists → n ≤ left e (states_of e lists)
   lowers_few n w v lowers coherent lists choice = let l = lowers.less coherent lists choice in omega (arith, l.less)
 
-  stopped_few : (o : Option Outcome) (w v : World) (drain : DrainStops e o w v) → Coherent e w → (lists : List (List (List ℕ))) → Choice w lists → drain.0 + in_front e o drain.1 v drain.3 ≤ left e (states_of e lists)
+  stopped_few : (o : Option Outcome) (w v : World) (drain : DrainStops (world_steps e) o w v) → Coherent e w → (lists : List (List (List ℕ))) → Choice w lists → drain.0 + in_front (world_steps e) o drain.1 v drain.3 ≤ left e (states_of e lists)
   stopped_few o w v (r, u, before, front) coherent lists choice =
       let last = front_lowers o u v front in
-      let n = in_front e o u v front in
+      let n = in_front (world_steps e) o u v front in
       lowers_few (r + n) w last.0 (lowers_then e r n (r + n) w u last.0 (omega arith) (rounds_lower r w u before) last.1) coherent lists choice
 
 pub rounds_are_bounded : {F : Type 0} (m : Machine F) → Falls m → LoadHolds m → OversHold m → RoundsAreBounded m

@@ -18,7 +18,8 @@ use Rattle.net_model.specs.State.{NodeState, replay}
 use Rattle.node_tables.specs.Journals.{records_of, state_of}
 use Rattle.node_core.specs.Seen.{picked_at}
 use Rattle.network_core.specs.Worlds.{NodeWorld, World, Choice, states_of, came_at, Agrees, Coherent}
-use Rattle.network_core.specs.Drains.{InOrder, TurnAt, TurnsAt, PostsAt, DeliversAt, HasArrived, Quiet, Round, DrainsByTurns}
+use Rattle.network_core.specs.Drains.{TurnAt, HasArrived, Quiet, DrainsByTurns, world_steps}
+use Rattle.network_core.specs.Rounds.{InOrder, TurnsAt, PostsAt, DeliversAt, Round}
 use Rattle.network_core.proofs.Agreeing.{does_coherent}
 use Rattle.network_core.proofs.QuietingSides.{IsSided, sided, other_side}
 use Rattle.network_core.proofs.QuietingFrames.{Has, Keeps, has_unacked, judged_next}
@@ -43,14 +44,14 @@ module _ {F : Type 0} (e : Environment F) where
     count_is : length v.nodes ≡ count
     idle : AreIdle e p v
 
-  turned_on : (p n : ℕ) (w v : World) → n ≡ 0 → p < length w.nodes → Turned p (length w.nodes) w → TurnsAt e p n w v → Turned (suc p) (length w.nodes) v
+  turned_on : (p n : ℕ) (w v : World) → n ≡ 0 → p < length w.nodes → Turned p (length w.nodes) w → TurnsAt (world_steps e) p n w v → Turned (suc p) (length w.nodes) v
   turned_on p zero w v nil lt before (u, o, moves, turn, last) =
       let here : TurnAt e p w (Some o) v = subst (λ (z : World). TurnAt e p z (Some o) v) moves turn in
       let next = idle_on e p w v o lt last here before.idle in
       record { coherent = does_coherent e p w v (Some o) before.coherent (inl here); count_is = next.0; idle = next.1 }
   turned_on p (suc n) w v nil lt before h = absurd (omega (arith, nil))
 
-  turned_all : (p n : ℕ) (w v : World) → n ≡ 0 → p ≤ length w.nodes → Coherent e w → InOrder (TurnsAt e) p n w v → Turned p (length w.nodes) v
+  turned_all : (p n : ℕ) (w v : World) → n ≡ 0 → p ≤ length w.nodes → Coherent e w → InOrder (TurnsAt (world_steps e)) p n w v → Turned p (length w.nodes) v
   turned_all zero n w v nil le coherent (is, same) = subst (Turned zero (length w.nodes)) (sym same) (record { coherent = coherent; count_is = refl; idle = λ q y lt at up. absurd (omega (arith, lt)) })
   turned_all (suc p) n w v nil le coherent (u, k, j, before, here, sum) =
       let first : k ≡ 0 = omega (arith, nil, sum) in
@@ -137,21 +138,21 @@ module _ {F : Type 0} (e : Environment F) where
 
   -- ---- a round
 
-  module _ (w u t v : World) (coherent : Coherent e w) (turns : InOrder (TurnsAt e) (length w.nodes) 0 w u) (posts : InOrder (PostsAt e) (length w.nodes) 0 u t) (delivers : InOrder (DeliversAt e) (length w.nodes) 0 t v) where
+  module _ (w u t v : World) (coherent : Coherent e w) (turns : InOrder (TurnsAt (world_steps e)) (length w.nodes) 0 w u) (posts : InOrder (PostsAt (world_steps e)) (length w.nodes) 0 u t) (delivers : InOrder (DeliversAt (world_steps e)) (length w.nodes) 0 t v) where
     turned : Turned (length w.nodes) (length w.nodes) u
     turned = turned_all (length w.nodes) 0 w u refl (omega arith) coherent turns
 
-    post_step : (p : ℕ) (a b c : World) → p < length w.nodes → Posted a b → PostsAt e p 0 b c → Posted a c
+    post_step : (p : ℕ) (a b c : World) → p < length w.nodes → Posted a b → PostsAt (world_steps e) p 0 b c → Posted a c
     post_step p a b c lt before (o, post, is) = posted_then a b c before (post_grows e p b c (Some o) post)
 
-    deliver_step : (p : ℕ) (a b c : World) → p < length w.nodes → Stayed a b → DeliversAt e p 0 b c → Stayed a c
+    deliver_step : (p : ℕ) (a b c : World) → p < length w.nodes → Stayed a b → DeliversAt (world_steps e) p 0 b c → Stayed a c
     deliver_step p a b c lt before here = stayed_then a b c before (delivers_stayed e p 0 b c refl here)
 
     posted : Posted u t
-    posted = order_all (PostsAt e) Posted (length w.nodes) posted_same post_step (length w.nodes) 0 u t refl (omega arith) posts
+    posted = order_all (PostsAt (world_steps e)) Posted (length w.nodes) posted_same post_step (length w.nodes) 0 u t refl (omega arith) posts
 
     delivered : Stayed t v
-    delivered = order_all (DeliversAt e) Stayed (length w.nodes) stayed_same deliver_step (length w.nodes) 0 t v refl (omega arith) delivers
+    delivered = order_all (DeliversAt (world_steps e)) Stayed (length w.nodes) stayed_same deliver_step (length w.nodes) 0 t v refl (omega arith) delivers
 
     stayed : Stayed u v
     stayed = stayed_then u t v (posted_stayed u t posted) delivered
@@ -170,8 +171,8 @@ module _ {F : Type 0} (e : Environment F) where
         → (IsFrame (message_of (party p) item)) × ((z : NodeWorld) → slice_get t.nodes q ≡ Some z → Has (frame (message_of (party p) item)) z.waiting)
     waits_posted p q x item at up to has =
         let lt = within_all p x at in
-        let s = order_split (PostsAt e) Posted (length w.nodes) posted_same post_step p (length w.nodes) 0 u t refl (omega arith) lt posts in
-        let first = order_all (PostsAt e) Posted (length w.nodes) posted_same post_step p 0 u s.0 refl (omega (arith, lt)) s.2 in
+        let s = order_split (PostsAt (world_steps e)) Posted (length w.nodes) posted_same post_step p (length w.nodes) 0 u t refl (omega arith) lt posts in
+        let first = order_all (PostsAt (world_steps e)) Posted (length w.nodes) posted_same post_step p 0 u s.0 refl (omega (arith, lt)) s.2 in
         let there = get_beside u.nodes s.0.nodes p x (sym first.grown.count) at in
         let old = first.grown.back p there.0 there.1 in
         let keeps : Keeps x there.0 = subst (λ (z : NodeWorld). Keeps z there.0) {x = old.0} (same_node u.nodes p old.0 x old.1 at) old.2 in
@@ -195,7 +196,7 @@ module _ {F : Type 0} (e : Environment F) where
     -- a frame that waits once all have posted, and is to be committed where it is handed over
     never_left : (q : ℕ) (x y : NodeWorld) (b : List ℕ) → slice_get u.nodes q ≡ Some x → Still x y → slice_get v.nodes q ≡ Some y → y.up ≡ true → IsNextFor e q x.journal b → ((z : NodeWorld) → slice_get t.nodes q ≡ Some z → Has b z.waiting) → ⊥
     never_left q x y b at still to lit next has =
-        let s = order_split (DeliversAt e) Stayed (length w.nodes) stayed_same deliver_step q (length w.nodes) 0 t v refl (omega arith) (within_all q x at) delivers in
+        let s = order_split (DeliversAt (world_steps e)) Stayed (length w.nodes) stayed_same deliver_step q (length w.nodes) 0 t v refl (omega arith) (within_all q x at) delivers in
         let here = s.4.back q y to lit in
         let kept : x.journal ≡ here.0.journal = sym still.journal ∙ here.2.journal in
         delivers_none e q 0 s.0 s.1 b here.0 refl s.3 (subst (λ (l : List (List ℕ)). IsNextFor e q l b) kept next) (λ z k. let old = before_keeps e q t s.0 s.2 z k in old.2.waits b (has old.0 old.1)) here.1 here.2.up
@@ -218,16 +219,16 @@ module _ {F : Type 0} (e : Environment F) where
               absurd (never_left q other.0 y (frame (message_of (party p) item)) other.1 other.2 to lit to_commit waits.1)
         ]
 
-  pub quiet : (w v : World) → Coherent e w → Round e 0 w v → Quiet e v
+  pub quiet : (w v : World) → Coherent e w → Round (world_steps e) 0 w v → Quiet e v
   quiet w v coherent (u, t, k, j, turns, posts, delivers, sum) =
       let first : k ≡ 0 = omega (arith, sum) in
       let last : j ≡ 0 = omega (arith, sum) in
-      let all = subst (λ (n : ℕ). InOrder (TurnsAt e) (length w.nodes) n w u) first turns in
-      let end = subst (λ (n : ℕ). InOrder (DeliversAt e) (length w.nodes) n t v) last delivers in
+      let all = subst (λ (n : ℕ). InOrder (TurnsAt (world_steps e)) (length w.nodes) n w u) first turns in
+      let end = subst (λ (n : ℕ). InOrder (DeliversAt (world_steps e)) (length w.nodes) n t v) last delivers in
       record { idle = idle w u t v coherent all posts end; arrived = arrived_all w u t v coherent all posts end }
 
   -- what a node that is up sent to another that is up has arrived there
-  pub quiet_round : (w v : World) → Coherent e w → Round e 0 w v → (p : ℕ) (x : NodeWorld) → slice_get v.nodes p ≡ Some x → x.up ≡ true → HasArrived e v x
+  pub quiet_round : (w v : World) → Coherent e w → Round (world_steps e) 0 w v → (p : ℕ) (x : NodeWorld) → slice_get v.nodes p ≡ Some x → x.up ≡ true → HasArrived e v x
   quiet_round w v coherent round = (quiet w v coherent round).arrived
 
 -- a drain makes turns, posts and deliveries and nothing else

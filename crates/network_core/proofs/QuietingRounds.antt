@@ -8,7 +8,8 @@ use Rattle.network_core.specs.declared.steps.Outcome.{Outcome}
 use Rattle.network_core.specs.declared.steps.Outcome.TheVariants as outcome
 use Rattle.network_core.specs.Worlds.{NodeWorld, World}
 use Rattle.network_core.specs.Serves.{WorldTakes, waits_on, handed_over, without, sent_all}
-use Rattle.network_core.specs.Drains.{HandAt, InOrder, Hands, DeliversAt, IsTaken, committed}
+use Rattle.network_core.specs.Drains.{HandAt, world_steps}
+use Rattle.network_core.specs.Rounds.{InOrder, Hands, DeliversAt, IsTaken, committed}
 use Rattle.network_core.proofs.QuietingFrames.{Has, Keeps, keeps_same, keeps_then, all_grown, get_set}
 use Rattle.network_core.proofs.QuietingSteps.{code_in, order_all, Still, Stayed, stayed_same, stayed_then, waits_taken, rest_has, none_first, handed, same_node, down_not_up, IsNextFor, hears_still, takes_none, hears_refused}
 
@@ -134,21 +135,21 @@ module _ {F : Type 0} (e : Environment F) where
 
   -- ---- the deliveries at a place
 
-  hands_stayed : (r d n : ℕ) (w v : World) → n ≡ 0 → Hands e r d n w v → Stayed w v
+  hands_stayed : (r d n : ℕ) (w v : World) → n ≡ 0 → Hands (world_steps e) r d n w v → Stayed w v
   hands_stayed r zero n w v nil (is, same) = subst (Stayed w) (sym same) (stayed_same w)
   hands_stayed r (suc d) n w v nil (u, k, o, before, hand, taken, sum) =
       let first : k ≡ 0 = omega (arith, nil, sum) in
       let last : committed o ≡ 0 = omega (arith, nil, sum) in
       stayed_then w u v (hands_stayed r d k w u first before) (hand_stayed r u v o last hand)
 
-  hands_others : (r q d n : ℕ) (w v : World) (z : NodeWorld) → (q ≡ r → ⊥) → Hands e r d n w v → slice_get v.nodes q ≡ Some z → (x : NodeWorld) × (slice_get w.nodes q ≡ Some x) × Keeps x z
+  hands_others : (r q d n : ℕ) (w v : World) (z : NodeWorld) → (q ≡ r → ⊥) → Hands (world_steps e) r d n w v → slice_get v.nodes q ≡ Some z → (x : NodeWorld) × (slice_get w.nodes q ≡ Some x) × Keeps x z
   hands_others r q zero n w v z other (is, same) at = (z, ap (λ (a : World). slice_get a.nodes q) (sym same) ∙ at, keeps_same z)
   hands_others r q (suc d) n w v z other (u, k, o, before, hand, taken, sum) at =
       let y = hand_others r q u v o z other hand at in
       let x = hands_others r q d k w u y.0 other before y.1 in
       (x.0, x.1, keeps_then x.0 y.0 z x.2 y.2)
 
-  hands_wait : (r d n : ℕ) (w v : World) (b : List ℕ) (z : NodeWorld) → n ≡ 0 → Hands e r d n w v → IsNextFor e r z.journal b → ((x : NodeWorld) → slice_get w.nodes r ≡ Some x → Has b x.waiting) → slice_get v.nodes r ≡ Some z → z.up ≡ true → Has b z.waiting
+  hands_wait : (r d n : ℕ) (w v : World) (b : List ℕ) (z : NodeWorld) → n ≡ 0 → Hands (world_steps e) r d n w v → IsNextFor e r z.journal b → ((x : NodeWorld) → slice_get w.nodes r ≡ Some x → Has b x.waiting) → slice_get v.nodes r ≡ Some z → z.up ≡ true → Has b z.waiting
   hands_wait r zero n w v b z nil (is, same) next has at up = has z (ap (λ (a : World). slice_get a.nodes r) (sym same) ∙ at)
   hands_wait r (suc d) n w v b z nil (u, k, o, before, hand, taken, sum) next has at up =
       let first : k ≡ 0 = omega (arith, nil, sum) in
@@ -157,18 +158,18 @@ module _ {F : Type 0} (e : Environment F) where
       let there = hands_wait r d k w u b y.0 first before (subst (λ (l : List (List ℕ)). IsNextFor e r l b) y.2.journal next) has y.1 y.2.up in
       hand_waits r u v o b z taken last hand next (λ x k. subst (λ (a : NodeWorld). Has b a.waiting) (same_node u.nodes r y.0 x y.1 k) there) at up
 
-  pub delivers_stayed : (r n : ℕ) (w v : World) → n ≡ 0 → DeliversAt e r n w v → Stayed w v
-  delivers_stayed r n w v nil (d, u, o, hands, hand, over) = stayed_then w u v (hands_stayed r d n w u nil hands) (hand_stayed r u v o (commits_none o over) hand)
+  pub delivers_stayed : (r n : ℕ) (w v : World) → n ≡ 0 → DeliversAt (world_steps e) r n w v → Stayed w v
+  delivers_stayed r n w v nil (d, u, hands, (o, hand, over)) = stayed_then w u v (hands_stayed r d n w u nil hands) (hand_stayed r u v o (commits_none o over) hand)
 
-  delivers_others : (r q n : ℕ) (w v : World) (z : NodeWorld) → (q ≡ r → ⊥) → DeliversAt e r n w v → slice_get v.nodes q ≡ Some z → (x : NodeWorld) × (slice_get w.nodes q ≡ Some x) × Keeps x z
-  delivers_others r q n w v z other (d, u, o, hands, hand, _) at =
+  delivers_others : (r q n : ℕ) (w v : World) (z : NodeWorld) → (q ≡ r → ⊥) → DeliversAt (world_steps e) r n w v → slice_get v.nodes q ≡ Some z → (x : NodeWorld) × (slice_get w.nodes q ≡ Some x) × Keeps x z
+  delivers_others r q n w v z other (d, u, hands, (o, hand, over)) at =
       let y = hand_others r q u v o z other hand at in
       let x = hands_others r q d n w u y.0 other hands y.1 in
       (x.0, x.1, keeps_then x.0 y.0 z x.2 y.2)
 
   -- no frame waited that is to be committed where it is handed over
-  pub delivers_none : (r n : ℕ) (w v : World) (b : List ℕ) (z : NodeWorld) → n ≡ 0 → DeliversAt e r n w v → IsNextFor e r z.journal b → ((x : NodeWorld) → slice_get w.nodes r ≡ Some x → Has b x.waiting) → slice_get v.nodes r ≡ Some z → z.up ≡ true → ⊥
-  delivers_none r n w v b z nil (d, u, o, hands, hand, over) next has at up =
+  pub delivers_none : (r n : ℕ) (w v : World) (b : List ℕ) (z : NodeWorld) → n ≡ 0 → DeliversAt (world_steps e) r n w v → IsNextFor e r z.journal b → ((x : NodeWorld) → slice_get w.nodes r ≡ Some x → Has b x.waiting) → slice_get v.nodes r ≡ Some z → z.up ≡ true → ⊥
+  delivers_none r n w v b z nil (d, u, hands, (o, hand, over)) next has at up =
       let y = (hand_stayed r u v o (commits_none o over) hand).back r z at up in
       let there = hands_wait r d n w u b y.0 nil hands (subst (λ (l : List (List ℕ)). IsNextFor e r l b) y.2.journal next) has y.1 y.2.up in
       over_none r u v o b y.0 over hand y.1 y.2.up there
@@ -179,9 +180,9 @@ module _ {F : Type 0} (e : Environment F) where
   abbrev Same : ℕ → World → World → Type 0
   Same q w v = (z : NodeWorld) → slice_get v.nodes q ≡ Some z → (x : NodeWorld) × (slice_get w.nodes q ≡ Some x) × Keeps x z
 
-  pub before_keeps : (q : ℕ) (w v : World) → InOrder (DeliversAt e) q 0 w v → Same q w v
+  pub before_keeps : (q : ℕ) (w v : World) → InOrder (DeliversAt (world_steps e)) q 0 w v → Same q w v
   before_keeps q w v h =
-      order_all (DeliversAt e) (Same q) q (λ a z at. (z, at, keeps_same z))
+      order_all (DeliversAt (world_steps e)) (Same q) q (λ a z at. (z, at, keeps_same z))
       (λ p a b c lt k here z at.
       let y = delivers_others p q 0 b c z (λ is. omega (arith, lt, is)) here at in
       let x = k y.0 y.1 in

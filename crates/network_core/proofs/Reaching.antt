@@ -8,8 +8,9 @@ use Rattle.network_core.specs.declared.steps.Step.{Step}
 use Rattle.network_core.specs.declared.steps.Step.TheVariants as step
 use Rattle.network_core.specs.Worlds.{NodeWorld, World, AreOpenable, Coherent}
 use Rattle.network_core.specs.Serves.{WorldClock, WorldPlace, WorldStarts, WorldTurns, WorldCuts, WorldBoots, LosesAt, PostsFrom, WorldPosts, WorldHands, waits_on, handed_over, sent_all}
-use Rattle.network_core.specs.Drains.{DoesAt, Runs, none, more, RunsTo}
-use Rattle.network_core.specs.Served.{WorldDrains, Serve}
+use Rattle.network_core.specs.Drains.{WorldDrains, world_steps}
+use Rattle.network_core.specs.Rounds.{DoesAt, Runs, none, more, RunsTo}
+use Rattle.network_core.specs.Served.{Serve}
 use Rattle.network_core.specs.Acknowledged.{Reaches, here, by_step, by_part}
 use Rattle.network_core.proofs.Agreeing.{start_coherent, turn_coherent, cut_coherent, boot_coherent, lose_coherent, post_coherent, hand_coherent, clock_coherent, does_coherent}
 use Rattle.network_core.proofs.QuietingRuns.{drained_run, stopped_run}
@@ -64,26 +65,26 @@ module _ {F : Type 0} (e : Environment F) where
   leads_then : (w u v : World) → Leads e w u → Leads e u v → Leads e w v
   leads_then w u v f g = record { coherent = λ coherent. g.coherent (f.coherent coherent); longer = all_then w.nodes u.nodes v.nodes f.longer g.longer }
 
-  does_leads : (p : ℕ) (w v : World) (o : Option Outcome) → DoesAt e p w o v → Leads e w v
+  does_leads : (p : ℕ) (w v : World) (o : Option Outcome) → DoesAt (world_steps e) p w o v → Leads e w v
   does_leads p w v o does = record { coherent = λ coherent. does_coherent e p w v o coherent does; longer = by does }
     where
-      by : DoesAt e p w o v → AllLengthen w.nodes v.nodes
+      by : DoesAt (world_steps e) p w o v → AllLengthen w.nodes v.nodes
       by (inl turn) = turn_longer p None w v o turn
       by (inr (inl post)) = post_longer p w v o post
       by (inr (inr hand)) = hand_longer false p 0 w v o hand
 
-  runs_leads : (w v : World) → Runs e w v → Leads e w v
+  runs_leads : (w v : World) → Runs (world_steps e) w v → Leads e w v
   runs_leads w v (none is) = leads_same w v is
   runs_leads w v (more {u = u} p o before does full) = leads_then w u v (runs_leads w u before) (does_leads p u v (Some o) does)
 
-  to_leads : (w v : World) (o : Option Outcome) → RunsTo e w o v → Leads e w v
+  to_leads : (w v : World) (o : Option Outcome) → RunsTo (world_steps e) w o v → Leads e w v
   to_leads w v o (u, p, before, does) = leads_then w u v (runs_leads w u before) (does_leads p u v o does)
 
   drain_leads : (w v : World) (o : Option Outcome) → WorldDrains e w o v → Leads e w v
-  drain_leads w v None h = to_leads w v None (stopped_run e w v None h)
-  drain_leads w v (Some (outcome.Drained true)) h = to_leads w v (Some (outcome.Refused 9)) (stopped_run e w v (Some (outcome.Refused 9)) h)
-  drain_leads w v (Some (outcome.Drained false)) h = runs_leads w v (drained_run e w v h)
-  drain_leads w v (Some other) h = absurd h
+  drain_leads w v None h = to_leads w v None (stopped_run e w v None h.0)
+  drain_leads w v (Some (outcome.Drained true)) h = to_leads w v (Some (outcome.Refused 9)) (stopped_run e w v (Some (outcome.Refused 9)) h.0)
+  drain_leads w v (Some (outcome.Drained false)) h = runs_leads w v (drained_run e w v h.0)
+  drain_leads w v (Some other) h = absurd h.0
 
   -- ---- steps
 

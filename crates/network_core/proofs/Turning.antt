@@ -13,7 +13,7 @@ use Rattle.net_base.specs.declared.values.Party.{Party}
 use Rattle.net_base.proofs.Lists.{set_length}
 use Rattle.flow_machine.specs.Machine.{Machine}
 use Rattle.disk_journal.specs.Journal.{is_full_at}
-use Rattle.net_model.specs.Environment.{Environment, environment}
+use Rattle.net_model.specs.Environment.{environment}
 use Rattle.net_model.specs.Steps.{stamp_in}
 use Rattle.node_core.specs.declared.faults.TurnFault.{TurnFault}
 use Rattle.node_core.specs.declared.faults.TurnFault.TheVariants as turn_fault
@@ -30,15 +30,16 @@ use Rattle.node_core.specs.Takes.{AcceptsAs, Responds, TakesAs, TakeAnswers}
 use Rattle.network_core.specs.declared.net.Turning.{Turning}
 use Rattle.network_core.specs.declared.steps.Outcome.{Outcome}
 use Rattle.network_core.specs.declared.steps.Outcome.TheVariants as outcome
-use Rattle.network_core.specs.Worlds.{World, NetSeen, Shows, Coherent, KeepsWorld}
+use Rattle.network_core.specs.Worlds.{NetSeen}
 use Rattle.network_core.specs.Serves.{WorldPosts}
-use Rattle.network_core.specs.Answers.{said, turn_outcome, take_outcome, TurnServes, AtPlace, Posting, PostServes, SendServes, Handing, HandServes, count_fresh, mailed}
-use Rattle.network_core.specs.Drains.{room, total_room, journal_room, takes, TurnAt, HandAt, Drains, Drives, Posts, PostsAt, PostsStop, InOrder, Hands, DeliversAt, Turns, TurnsAt, TurnsStop}
-use Rattle.network_core.specs.Served.{WorldDrains}
-use Rattle.network_core.proofs.Places.{turn_world, keeps_map, waits_get}
+use Rattle.network_core.specs.Answers.{said, net_steps, turn_outcome, take_outcome, TurnServes, AtPlace, Posting, PostServes, SendServes, Handing, HandServes, count_fresh, mailed}
+use Rattle.network_core.specs.Drains.{room, total_room, journal_room, takes, TurnAt, HandAt, world_steps, Drains, Drives}
+use Rattle.network_core.specs.Rounds.{DrainSteps, Posts, PostsAt, PostsStop, InOrder, Hands, DeliversAt, Turns, TurnsAt, TurnsStop, drain_outcome}
+use Rattle.network_core.proofs.Places.{turn_world, waits_get}
 use Rattle.network_core.proofs.Delivering.{post_world, hand_world}
-use Rattle.network_core.proofs.Draining.{Counts, drained, hands_all}
-use Rattle.network_core.proofs.Driving.{drives_map, drives_shown, turn_part, post_part, hand_part}
+use Rattle.network_core.proofs.Draining.{Counts, ends_all}
+use Rattle.network_core.proofs.Driving.{net_turn, net_post, net_hand, same_count, post_keeps}
+use Rattle.network_core.proofs.Emptying.{hands_shorter}
 
 -- ---- the room
 
@@ -115,11 +116,6 @@ total_set [] i n k by at le = cc
 total_set (x ∷ xs) zero n k by at le = let same : x ≡ n = cc in omega (arith, le, ap (λ z. journal_room z.journal) same)
 total_set (x ∷ xs) (suc i) n k by at le = omega (arith, total_set xs i n k by at le)
 
--- a step at one place keeps the number of nodes
-pub same_count : {E : Type 0} (p : ℕ) (old new : NetSeen) (result : Result Outcome E) (serves : NodeSeen → Result Outcome E → NodeSeen → Type 0) → AtPlace p old result new serves → length new.nodes ≡ length old.nodes
-same_count p old new result serves (inl (past, is, same)) = ap (λ z. length z.nodes) same
-same_count p old new result serves (inr (n, k, at, nodes, waiting, served)) = ap length nodes ∙ set_length old.nodes p k
-
 module _ {F : Type 0} (m : Machine F) (f : Reads F) where
   pub narrows : {E : Type 0} (now p : ℕ) (pick : Option ℕ) (old new : NetSeen) (result : Result Outcome E) → AtPlace p old result new (λ n r k. TurnServes m f now pick n r k) → room new + takes (said result) ≤ room old
   unfolding room
@@ -136,17 +132,6 @@ module _ {F : Type 0} (m : Machine F) (f : Reads F) where
       omega (arith, less, one)
 
   -- ---- posts and deliveries
-
-  post_same : (n : NodeSeen) (old new : NetSeen) (o : Option Outcome) → Posting f n old o new → (new.nodes ≡ old.nodes) × (new.now ≡ old.now)
-  post_same n old new None s = (ap (λ z. z.nodes) s.1, ap (λ z. z.now) s.1)
-  post_same n old new (Some (outcome.Posted count)) s = (ap (λ z. z.nodes) s.4, ap (λ z. z.now) s.4)
-  post_same n old new (Some (outcome.Refused code)) s = (ap (λ z. z.nodes) s.2, ap (λ z. z.now) s.2)
-  post_same n old new (Some _) s = absurd s
-
-  -- a post changes no node, and no moment
-  pub post_keeps : {E : Type 0} (p : ℕ) (old new : NetSeen) (result : Result Outcome E) → PostServes f p old result new → (new.nodes ≡ old.nodes) × (new.now ≡ old.now)
-  post_keeps p old new result (inl (past, is, same)) = (ap (λ z. z.nodes) same, ap (λ z. z.now) same)
-  post_keeps p old new result (inr (n, at, posting)) = post_same n old new (said result) posting
 
   -- what a delivery takes from the room; it changes no moment, and no number of nodes
   pub record Took (old new : NetSeen) (o : Option Outcome) : Type 0 where
@@ -172,27 +157,27 @@ module _ {F : Type 0} (m : Machine F) (f : Reads F) where
 
   -- one turn, at a place of the network
   pub drives_turn : {E : Type 0} (p : ℕ) (old new : NetSeen) (result : Result Outcome E) (o : Option Outcome) → p < length old.nodes → new.now ≡ old.now → AtPlace p old result new (λ n r k. TurnServes m f old.now None n r k) → said result ≡ o
-      → Drives m f old new (λ e w v. (p < length w.nodes) × TurnAt e p w o v)
+      → Drives m f old new (λ W s w v. (p < s.count w) × s.turn p w o v)
   drives_turn p old new result o lt clock at was = record {
     world = λ id w shows coherent.
         let one = turn_world m f p old new result None clock at id w shows coherent in
         (one.0, one.1, one.2, (omega (arith, lt, shows.count), subst (λ (s : Option Outcome). TurnAt (environment m f id) p w s one.0) was one.3));
-    parts = turn_part m f p old new result at clock;
+    seen = (lt, net_turn m f p old new result o was at clock);
     clock = clock;
     left = omega (arith, narrows old.now p None old new result at);
     count = same_count p old new result (λ n r k. TurnServes m f old.now None n r k) at;
   }
 
   -- one post
-  pub drives_post : {E : Type 0} (p : ℕ) (old new : NetSeen) (result : Result Outcome E) (o : Option Outcome) → PostServes f p old result new → said result ≡ o → Drives m f old new (λ e w v. WorldPosts e p w o v)
+  pub drives_post : {E : Type 0} (p : ℕ) (old new : NetSeen) (result : Result Outcome E) (o : Option Outcome) → PostServes f p old result new → said result ≡ o → Drives m f old new (λ W s w v. s.post p w o v)
   unfolding room
   drives_post p old new result o at was =
-      let same = post_keeps p old new result at in
+      let same = post_keeps m f p old new result at in
       record {
         world = λ id w shows coherent.
             let one = post_world m f p old new result at id w shows coherent in
             (one.0, one.1, one.2, subst (λ (s : Option Outcome). WorldPosts (environment m f id) p w s one.0) was one.3);
-        parts = post_part m f p old new result at;
+        seen = net_post m f p old new result o was at;
         clock = same.1;
         left = omega (arith, ap total_room same.0);
         count = ap length same.0;
@@ -200,7 +185,7 @@ module _ {F : Type 0} (m : Machine F) (f : Reads F) where
 
   -- one delivery, at a place of the network
   pub drives_hand : {E : Type 0} (p : ℕ) (old new : NetSeen) (result : Result Outcome E) (o : Option Outcome) → p < length old.nodes → HandServes m f false p 0 old result new → said result ≡ o
-      → Drives m f old new (λ e w v. (p < length w.nodes) × HandAt e p w o v)
+      → Drives m f old new (λ W s w v. (p < s.count w) × s.hand p w o v)
   unfolding room
   drives_hand p old new result o lt at was =
       let took = hand_takes false p 0 old new result at in
@@ -208,7 +193,7 @@ module _ {F : Type 0} (m : Machine F) (f : Reads F) where
         world = λ id w shows coherent.
             let one = hand_world m f false p 0 old new result at id w shows coherent in
             (one.0, one.1, one.2, (omega (arith, lt, shows.count), subst (λ (s : Option Outcome). HandAt (environment m f id) p w s one.0) was one.3));
-        parts = hand_part m f p old new result at;
+        seen = (lt, net_hand m f p old new result o was at);
         clock = took.clock;
         left = omega (arith, took.left);
         count = took.count;
@@ -224,48 +209,57 @@ module _ {F : Type 0} (m : Machine F) (f : Reads F) where
 pub count_turn : {F E : Type 0} (m : Machine F) (f : Reads F) (now : ℕ) (pick : Option ℕ) (p : ℕ) (old new : NetSeen) (result : Result Outcome E) → AtPlace p old result new (λ n r k. TurnServes m f now pick n r k) → length new.nodes ≡ length old.nodes
 count_turn m f now pick p old new result at = same_count p old new result (λ n r k. TurnServes m f now pick n r k) at
 
-pub drained_world : {F E : Type 0} (m : Machine F) (f : Reads F) (old new : NetSeen) (r : Result Bool E) (full : Bool) → r ≡ Ok full → KeepsWorld m f old new (λ e w v. Drains e w r v) → KeepsWorld m f old new (λ e w v. WorldDrains e w (Some (outcome.Drained full)) v)
-drained_world {E} m f old new r full is h = keeps_map m f old new (λ e w v. Drains e w r v) (λ e w v. WorldDrains e w (Some (outcome.Drained full)) v) (λ e w v d. drained E e w v full (subst (λ (z : Result Bool E). Drains e w z v) is d)) h
+-- ---- a drain's answer
 
-pub short_world : {F E : Type 0} (m : Machine F) (f : Reads F) (old new : NetSeen) (r : Result Bool E) (x : E) → r ≡ Err x → KeepsWorld m f old new (λ e w v. Drains e w r v) → KeepsWorld m f old new (λ e w v. WorldDrains e w None v)
-short_world {E} m f old new r x is h = keeps_map m f old new (λ e w v. Drains e w r v) (λ e w v. WorldDrains e w None v) (λ e w v d. subst (λ (z : Result Bool E). Drains e w z v) is d) h
+-- what the drain of a call came to
+pub drained_as : {F E : Type 0} (m : Machine F) (f : Reads F) (old new : NetSeen) (r : Result Bool E) (o : Option Outcome) → drain_outcome r ≡ o → Drains m f old (drain_outcome r) new → Drains m f old o new
+drained_as m f old new r o is h = subst (λ (z : Option Outcome). Drains m f old z new) is h
+
+pub drain_short : {E : Type 0} (r : Result Bool E) → IsErr r → drain_outcome r ≡ None
+drain_short (Ok t) is = cc
+drain_short (Err x) is = refl
 
 -- ---- posts of all nodes
 
-pub posts_short : {F E : Type 0} (e : Environment F) (w v : World) (r : Result (Unit {0}) E) → IsErr r → PostsStop e None w v → Posts e w r v
-posts_short e w v (Ok t) is h = cc
-posts_short e w v (Err x) is h = h
+pub posts_short : {W E : Type 0} (s : DrainSteps W) (w v : W) (r : Result (Unit {0}) E) → IsErr r → PostsStop s None w v → Posts s w r v
+posts_short s w v (Ok t) is h = cc
+posts_short s w v (Err x) is h = h
 
-pub posts_err : {F E : Type 0} (e : Environment F) (w v : World) (r : Result (Unit {0}) E) (x : E) → r ≡ Err x → Posts e w r v → PostsStop e None w v
-posts_err {F} {E} e w v r x is h = subst (λ (z : Result (Unit {0}) E). Posts e w z v) is h
+pub posts_err : {W E : Type 0} (s : DrainSteps W) (w v : W) (r : Result (Unit {0}) E) (x : E) → r ≡ Err x → Posts s w r v → PostsStop s None w v
+posts_err {W} {E} s w v r x is h = subst (λ (z : Result (Unit {0}) E). Posts s w z v) is h
 
-pub posts_ok : {F E : Type 0} (e : Environment F) (w v : World) (r : Result (Unit {0}) E) (x : Unit {0}) → r ≡ Ok x → Posts e w r v → InOrder (PostsAt e) (length w.nodes) 0 w v
-posts_ok {F} {E} e w v r x is h = subst (λ (z : Result (Unit {0}) E). Posts e w z v) is h
+pub posts_ok : {W E : Type 0} (s : DrainSteps W) (w v : W) (r : Result (Unit {0}) E) (x : Unit {0}) → r ≡ Ok x → Posts s w r v → InOrder (PostsAt s) (s.count w) 0 w v
+posts_ok {W} {E} s w v r x is h = subst (λ (z : Result (Unit {0}) E). Posts s w z v) is h
 
-pub posts_all : {F : Type 0} (e : Environment F) (p : ℕ) (w v : World) → length w.nodes ≡ p → InOrder (PostsAt e) p 0 w v → InOrder (PostsAt e) (length w.nodes) 0 w v
-posts_all e p w v is h = subst (λ (q : ℕ). InOrder (PostsAt e) q 0 w v) (sym is) h
+pub posts_all : {W : Type 0} (s : DrainSteps W) (p : ℕ) (w v : W) → s.count w ≡ p → InOrder (PostsAt s) p 0 w v → InOrder (PostsAt s) (s.count w) 0 w v
+posts_all s p w v is h = subst (λ (q : ℕ). InOrder (PostsAt s) q 0 w v) (sym is) h
 
 -- ---- deliveries at a node
 
 -- all frames that waited at first were delivered
 pub all_delivered : {F : Type 0} (m : Machine F) (f : Reads F) (old new : NetSeen) (p d : ℕ) (moved : Bool) (frames : List (List ℕ)) → slice_get old.waiting p ≡ Some frames → length frames ≡ d
-    → Drives m f old new (λ e w v. Counts moved (Hands e p d) w v) → Drives m f old new (λ e w v. Counts moved (DeliversAt e p) w v)
-all_delivered m f old new p d moved frames at count drives =
-    drives_map m f old new (λ e w v. Shows e old w × Coherent e w × Counts moved (Hands e p d) w v) (λ e w v. Counts moved (DeliversAt e p) w v)
-    (λ e w v h.
-    let found = waits_get w.nodes p frames (ap (λ l. slice_get l p) h.0.waiting ∙ at) in
-    hands_all e p d moved w v found.0 found.1 (ap length found.2 ∙ count) h.2)
-    (drives_shown m f old new (λ e w v. Counts moved (Hands e p d) w v) drives)
+    → Drives m f old new (λ W s w v. Counts moved (Hands s p d) w v) → Drives m f old new (λ W s w v. Counts moved (DeliversAt s p) w v)
+all_delivered m f old new p d moved frames at count drives = record {
+  world = λ id w shows coherent.
+      let e = environment m f id in
+      let one = drives.world id w shows coherent in
+      let found = waits_get w.nodes p frames (ap (λ l. slice_get l p) shows.waiting ∙ at) in
+      (one.0, one.1, one.2, ends_all (world_steps e) p d moved w one.0 (λ n h. hands_shorter e p d n w one.0 found.0 found.1 (ap length found.2 ∙ count) h) one.3);
+  seen = ends_all (net_steps m f) p d moved old new (λ n h. inr ((frames, at, count), refl)) drives.seen;
+  clock = drives.clock;
+  left = drives.left;
+  count = drives.count;
+}
 
-pub turns_is : {E : Type 0} (made : ℕ → World → World → Type 0) (stops : Option Outcome → World → World → Type 0) (w v : World) (r : Result Turning E) (t : Turning) → r ≡ Ok t → Turns r made stops w v → Turns {E = E} (Ok t) made stops w v
-turns_is {E} made stops w v r t is h = subst (λ (z : Result Turning E). Turns z made stops w v) is h
+pub turns_is : {W E : Type 0} (made : ℕ → W → W → Type 0) (stops : Option Outcome → W → W → Type 0) (w v : W) (r : Result Turning E) (t : Turning) → r ≡ Ok t → Turns r made stops w v → Turns {E = E} (Ok t) made stops w v
+turns_is {W} {E} made stops w v r t is h = subst (λ (z : Result Turning E). Turns z made stops w v) is h
 
 -- the turns and the posts of a round
-abbrev pub PostedSo : {F : Type 0} → Environment F → (E : Type 0) → Turning → World → World → Type 0
-PostedSo e E t w v = (u : World) × Turns {E = E} (Ok t) (InOrder (TurnsAt e) (length w.nodes)) (TurnsStop e) w u × InOrder (PostsAt e) (length u.nodes) 0 u v
+abbrev pub PostedSo : {W : Type 0} → DrainSteps W → (E : Type 0) → Turning → W → W → Type 0
+PostedSo {W} s E t w v = (u : W) × Turns {E = E} (Ok t) (InOrder (TurnsAt s) (s.count w)) (TurnsStop s) w u × InOrder (PostsAt s) (s.count u) 0 u v
 
-pub posted_so : {F : Type 0} (e : Environment F) (E : Type 0) (t : Turning) (w u v : World) → Turns {E = E} (Ok t) (InOrder (TurnsAt e) (length w.nodes)) (TurnsStop e) w u → InOrder (PostsAt e) (length u.nodes) 0 u v → PostedSo e E t w v
-posted_so e E t w u v turns posts = (u, turns, posts)
+pub posted_so : {W : Type 0} (s : DrainSteps W) (E : Type 0) (t : Turning) (w u v : W) → Turns {E = E} (Ok t) (InOrder (TurnsAt s) (s.count w)) (TurnsStop s) w u → InOrder (PostsAt s) (s.count u) 0 u v → PostedSo s E t w v
+posted_so s E t w u v turns posts = (u, turns, posts)
 
 -- ---- what a node has to send
 

@@ -9,13 +9,14 @@ use Rattle.network_core.specs.declared.steps.Outcome.{Outcome}
 use Rattle.network_core.specs.declared.steps.Step.{Step}
 use Rattle.network_core.specs.Worlds.{World, NodeWorld, Choice, Coherent}
 use Rattle.network_core.specs.Served.{Serve}
-use Rattle.network_core.specs.Drains.{DoesAt}
+use Rattle.network_core.specs.Drains.{world_steps}
+use Rattle.network_core.specs.Rounds.{DoesAt}
 
 -- worlds that steps lead to, and turns, posts and deliveries, also such for which memory ran out
 pub data Reaches {F : Type 0} (e : Environment F) : World → World → Type 0 where
   here : {w v : World} → v ≡ w → Reaches e w v
   by_step : {w u v : World} (s : Step) (o : Option Outcome) → Reaches e w u → Serve e s u o v → Reaches e w v
-  by_part : {w u v : World} (p : ℕ) (o : Option Outcome) → Reaches e w u → DoesAt e p u o v → Reaches e w v
+  by_part : {w u v : World} (p : ℕ) (o : Option Outcome) → Reaches e w u → DoesAt (world_steps e) p u o v → Reaches e w v
 
 -- A node that is up has this cause in its journal. What a start, a turn or a taken item was answered over is the last of these.
 pub record Acknowledged {F : Type 0} (e : Environment F) (w : World) (p : ℕ) (cause : Cause) : Type 0 where

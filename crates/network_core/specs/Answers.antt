@@ -31,6 +31,7 @@ use Rattle.network_core.specs.declared.steps.Step.{Step}
 use Rattle.network_core.specs.declared.steps.Step.TheVariants as step
 use Rattle.network_core.specs.Worlds.{NetSeen}
 use Rattle.network_core.specs.Serves.{waits_on, without}
+use Rattle.network_core.specs.Rounds.{DrainSteps, EndsHands, DrainsTo}
 
 -- the outcome of a call that had one, none at want of memory
 abbrev pub said : {E : Type 0} → Result Outcome E → Option Outcome
@@ -244,27 +245,37 @@ LoseServes place at old result new =
 
 -- ---- steps
 
--- an outcome, or want of memory
-abbrev pub Answer : Type 0
-Answer = Result Outcome (Unit {0})
+-- the answer that has an outcome, none at want of memory
+abbrev pub answer_of : Option Outcome → Result Outcome (Unit {0})
+answer_of (Some o) = Ok o
+answer_of None = Err tt
 
--- a turn, a post or a delivery of a drain at a place, and what it answers
-abbrev pub PartServes : {F : Type 0} → Machine F → Reads F → ℕ → NetSeen → Answer → NetSeen → Type 0
-PartServes m frame_at place old answer new =
-    (AtPlace place old answer new (λ n r k. TurnServes m frame_at old.now None n r k) × (new.now ≡ old.now))
-    ⊎ (PostServes frame_at place old answer new ⊎ HandServes m frame_at false place 0 old answer new)
+-- a turn of a drain at a place
+abbrev pub NetTurn : {F : Type 0} → Machine F → Reads F → ℕ → NetSeen → Option Outcome → NetSeen → Type 0
+NetTurn m frame_at place old o new = AtPlace place old (answer_of o) new (λ n r k. TurnServes m frame_at old.now None n r k) × (new.now ≡ old.now)
 
--- networks that turns, posts and deliveries lead to, one after another
-pub data Parts {F : Type 0} (m : Machine F) (frame_at : Reads F) : NetSeen → NetSeen → Type 0 where
-  still : {old new : NetSeen} → new ≡ old → Parts m frame_at old new
-  then : {old mid new : NetSeen} (place : ℕ) (answer : Answer) → Parts m frame_at old mid → PartServes m frame_at place mid answer new → Parts m frame_at old new
+-- a post of a drain at a place
+abbrev pub NetPost : {F : Type 0} → Reads F → ℕ → NetSeen → Option Outcome → NetSeen → Type 0
+NetPost frame_at place old o new = PostServes frame_at place old (answer_of o) new
 
--- what a drain answers: how it ended, none at want of memory
-abbrev pub DrainSays : Option Outcome → Type 0
-DrainSays o = (o ≡ None) ⊎ ((full : Bool) × (o ≡ Some (outcome.Drained full)))
+-- a delivery of a drain at a place
+abbrev pub NetHand : {F : Type 0} → Machine F → Reads F → ℕ → NetSeen → Option Outcome → NetSeen → Type 0
+NetHand m frame_at place old o new = HandServes m frame_at false place 0 old (answer_of o) new
+
+-- so many frames wait at a place
+abbrev pub AreWaiting : NetSeen → ℕ → ℕ → Type 0
+AreWaiting net place n = (frames : List (List ℕ)) × (slice_get net.waiting place ≡ Some frames) × (length frames ≡ n)
+
+-- the deliveries at a place end: no frame waits, or the node is down; or as many were made as frames waited there before them
+abbrev pub NetEnds : {F : Type 0} → Machine F → Reads F → ℕ → ℕ → NetSeen → NetSeen → NetSeen → Type 0
+NetEnds m frame_at place count old mid new = EndsHands (NetHand m frame_at) place mid new ⊎ (AreWaiting old place count × (new ≡ mid))
+
+-- what a drain is made of, over any disks
+abbrev pub net_steps : {F : Type 0} → Machine F → Reads F → DrainSteps NetSeen
+net_steps m frame_at = record { count = λ net. length net.nodes; turn = NetTurn m frame_at; post = NetPost frame_at; hand = NetHand m frame_at; ends = NetEnds m frame_at }
 
 -- What a step answers, and what it makes of the network, whatever its disks tell and its journals hold: each refusal, each fault and each
--- outcome has its cause. A drain is a chain of turns, posts and deliveries, each of which has its own.
+-- outcome has its cause. A drain is rounds of turns, posts and deliveries, each of which has its own, and which end as its outcome says.
 abbrev pub Answered : {F E : Type 0} → Machine F → Reads F → Step → NetSeen → Result Outcome E → NetSeen → Type 0
 Answered m frame_at (step.Clock to) old result new = (o : Outcome) × (said result ≡ Some o) × ClockServes to.0 old o new
 Answered m frame_at (step.Start node class args) old result new = AtPlace node old result new (λ n r k. StartServes m frame_at old.now class args n r k) × (new.now ≡ old.now)
@@ -276,4 +287,4 @@ Answered m frame_at (step.Lose node at) old result new = LoseServes node at old 
 Answered m frame_at (step.Cut node calls kind) old result new =
     ((3 < kind) × (said result ≡ Some (outcome.Refused 1)) × (new ≡ old)) ⊎ ((kind ≤ 3) × AtPlace node old result new (λ n r k. CutServes calls kind n r k) × (new.now ≡ old.now))
 Answered m frame_at (step.Boot node) old result new = AtPlace node old result new (λ n r k. BootServes frame_at n r k) × BootClock frame_at node old new
-Answered m frame_at step.Drain old result new = DrainSays (said result) × Parts m frame_at old new × (new.now ≡ old.now)
+Answered m frame_at step.Drain old result new = DrainsTo (net_steps m frame_at) old (said result) new × (new.now ≡ old.now)

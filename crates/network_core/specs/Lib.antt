@@ -1,4 +1,5 @@
 pub mod Worlds
+pub mod Rounds
 pub mod Answers
 pub mod Serves
 pub mod Drains

@@ -7,14 +7,7 @@ use Rattle.network_core.specs.declared.steps.Step.{Step}
 use Rattle.network_core.specs.declared.steps.Step.TheVariants as step
 use Rattle.network_core.specs.Worlds.{World}
 use Rattle.network_core.specs.Serves.{WorldClock, WorldPlace, WorldStarts, WorldTurns, WorldPosts, WorldHands, LosesAt, WorldCuts, WorldBoots}
-use Rattle.network_core.specs.Drains.{IsDrained, DrainStops}
-
--- what a drain makes of a world, by its outcome
-abbrev pub WorldDrains : {F : Type 0} → Environment F → World → Option Outcome → World → Type 0
-WorldDrains e w None v = DrainStops e None w v
-WorldDrains e w (Some (outcome.Drained true)) v = DrainStops e (Some (outcome.Refused 9)) w v
-WorldDrains e w (Some (outcome.Drained false)) v = IsDrained e w v
-WorldDrains e w (Some _) v = ⊥
+use Rattle.network_core.specs.Drains.{WorldDrains}
 
 -- what each step makes of a world, and its outcome, none at want of memory
 abbrev pub Serve : {F : Type 0} → Environment F → Step → World → Option Outcome → World → Type 0

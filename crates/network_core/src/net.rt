@@ -7,7 +7,8 @@ ghost use Rattle.network_core.specs.Worlds.{KeepsWorld};
 ghost use Rattle.std.specs.List.{AllByRecursion};
 ghost use Rattle.network_core.specs.Answers.{Answered, AtPlace, StartServes, TurnServes, PostServes, HandServes, LoseServes, CutServes, BootServes, ClockServes, BootClock, said};
 ghost use Rattle.network_core.specs.Begins.{BeginsWorld, IsRefused, BootsUpTo, nodes_over as over_disks};
-ghost use Rattle.network_core.specs.Drains.{DeliversAt, Drains, Drives, HandStops, HandsStop, InOrder, Posts, Round, RoundStops, StopsAt, Turns, TurnsAt, TurnsStop, heard, joined, room, turned};
+ghost use Rattle.network_core.specs.Drains.{Drains, Drives, room};
+ghost use Rattle.network_core.specs.Rounds.{DeliversAt, HandStops, HandsStop, InOrder, Posts, Round, RoundStops, StopsAt, Turns, TurnsAt, TurnsStop, drain_outcome, heard, joined, turned};
 ghost use Rattle.network_core.specs.Served.{Serve, Follows};
 ghost use Rattle.network_core.specs.declared.net.Turning.TheVariants as turning;
 
@@ -184,7 +185,7 @@ impl<D: Bay, F: FlowSet> Net<D, F> {
     ///
     /// `AllocError` for want of memory at a turn, a post or a delivery; what was done before it stays.
     pub fn drain(&mut self, alloc: Global) -> Result<bool, AllocError>
-        ensures { Drives F.machine F.reading self.old self.new (λ e w v. Drains e w result v) }
+        ensures { Drains F.machine F.reading self.old (drain_outcome result) self.new }
     {
         'rounds: loop {
             match self.round(alloc)? {
@@ -197,7 +198,7 @@ impl<D: Bay, F: FlowSet> Net<D, F> {
 
     /// Makes the turns, then the posts, then the deliveries, until something meets a full journal.
     fn round(&mut self, alloc: Global) -> Result<Turning, AllocError>
-        ensures drives { Drives F.machine F.reading self.old self.new (λ e w v. Turns result (Round e) (RoundStops e) w v) }
+        ensures drives { Drives F.machine F.reading self.old self.new (λ W s w v. Turns result (Round s) (RoundStops s) w v) }
         ensures moved { IfOk result (λ t. t ≡ turning.Moved → room self.new < room self.old) }
     {
         let turns = self.turns(alloc)?;
@@ -211,7 +212,7 @@ impl<D: Bay, F: FlowSet> Net<D, F> {
 
     /// Makes the turns at each node in the order of places, until one meets a full journal.
     fn turns(&mut self, alloc: Global) -> Result<Turning, AllocError>
-        ensures drives { Drives F.machine F.reading self.old self.new (λ e w v. Turns result (InOrder (TurnsAt e) (length w.nodes)) (TurnsStop e) w v) }
+        ensures drives { Drives F.machine F.reading self.old self.new (λ W s w v. Turns result (InOrder (TurnsAt s) (s.count w)) (TurnsStop s) w v) }
         ensures moved { IfOk result (λ t. t ≡ turning.Moved → room self.new < room self.old) }
     {
         let mut any_moved = false;
@@ -229,7 +230,7 @@ impl<D: Bay, F: FlowSet> Net<D, F> {
     /// Makes turns at one node, until no flow of it can go on, its disk failed, or it is down; or until one meets a full journal.
     fn turns_at(&mut self, alloc: Global, place: usize) -> Result<Turning, AllocError>
         requires { place < length self.old.nodes }
-        ensures drives { Drives F.machine F.reading self.old self.new (λ e w v. Turns result (TurnsAt e place) (StopsAt e place) w v) }
+        ensures drives { Drives F.machine F.reading self.old self.new (λ W s w v. Turns result (TurnsAt s place) (StopsAt s place) w v) }
         ensures moved { IfOk result (λ t. t ≡ turning.Moved → room self.new < room self.old) }
     {
         let mut moved = false;
@@ -245,7 +246,7 @@ impl<D: Bay, F: FlowSet> Net<D, F> {
 
     /// Posts each node, in the order of places.
     fn posts(&mut self, alloc: Global) -> Result<(), AllocError>
-        ensures { Drives F.machine F.reading self.old self.new (λ e w v. Posts e w result v) }
+        ensures { Drives F.machine F.reading self.old self.new (λ W s w v. Posts s w result v) }
     {
         let count = self.nodes.len();
         'places: for place in 0..count {
@@ -256,7 +257,7 @@ impl<D: Bay, F: FlowSet> Net<D, F> {
 
     /// Makes the deliveries at each node in the order of places, until one meets a full journal.
     fn deliveries(&mut self, alloc: Global) -> Result<Turning, AllocError>
-        ensures drives { Drives F.machine F.reading self.old self.new (λ e w v. Turns result (InOrder (DeliversAt e) (length w.nodes)) (HandsStop e) w v) }
+        ensures drives { Drives F.machine F.reading self.old self.new (λ W s w v. Turns result (InOrder (DeliversAt s) (s.count w)) (HandsStop s) w v) }
         ensures moved { IfOk result (λ t. t ≡ turning.Moved → room self.new < room self.old) }
     {
         let mut any_moved = false;
@@ -275,7 +276,7 @@ impl<D: Bay, F: FlowSet> Net<D, F> {
     /// that takes a frame sends nothing to itself, so none waits in the end.
     fn deliveries_at(&mut self, alloc: Global, place: usize) -> Result<Turning, AllocError>
         requires { place < length self.old.nodes }
-        ensures drives { Drives F.machine F.reading self.old self.new (λ e w v. Turns result (DeliversAt e place) (HandStops e place) w v) }
+        ensures drives { Drives F.machine F.reading self.old self.new (λ W s w v. Turns result (DeliversAt s place) (HandStops s place) w v) }
         ensures moved { IfOk result (λ t. t ≡ turning.Moved → room self.new < room self.old) }
     {
         let mut moved = false;

@@ -1,8 +1,11 @@
-use Rattle.std.proofs.Common.{inl, inr, refl, arith, true, false}
+use Rattle.std.proofs.Common.{inr, refl, ap, arith, true, false, Some, None}
+use Rattle.network_core.specs.declared.steps.Outcome.TheVariants as outcome
+use Rattle.network_core.specs.Rounds.{drain_outcome}
 use Rattle.network_core.proofs.Places.{start_world, turn_world, cut_within, clock_world, lose_world}
 use Rattle.network_core.proofs.Booting.{boot_world}
 use Rattle.network_core.proofs.Delivering.{post_world, hand_world}
-use Rattle.network_core.proofs.Turning.{same_count, drained_world, short_world}
+use Rattle.network_core.proofs.Driving.{same_count}
+use Rattle.network_core.proofs.Turning.{drained_as}
 use Rattle.network_core.specs.Answers.{StartServes, TurnServes, CutServes, BootServes}
 use Rattle.network_core.proofs.net.Net.apply.Goals as goal
 
@@ -23,10 +26,10 @@ pub returns-in-Boot-clause-serves : goal.returns-in-Boot-clause-serves
 returns-in-Boot-clause-serves g c = rw c.in-Boot.is (boot_world g.F.FlowSet.machine g.F.Spelt.reading c.in-Boot.node c.args.self.now c.boot.new.self c.boot.result c.boot.ensures.clock c.boot.ensures.serves)
 
 pub returns-in-Ok-clause-serves : goal.returns-in-Ok-clause-serves
-returns-in-Ok-clause-serves g c = rw c.in-Drain.is (drained_world g.F.FlowSet.machine g.F.Spelt.reading c.args.self.now c.drain.new.self c.drain.result c.in-Ok.full c.in-Ok.is c.drain.ensures.world)
+returns-in-Ok-clause-serves g c = rw c.in-Drain.is (drained_as g.F.FlowSet.machine g.F.Spelt.reading c.args.self.now c.drain.new.self c.drain.result (Some (outcome.Drained c.in-Ok.full)) (ap drain_outcome c.in-Ok.is) c.drain.ensures).world
 
 pub returns-in-Err-clause-serves : goal.returns-in-Err-clause-serves
-returns-in-Err-clause-serves g c = rw c.in-Drain.is (short_world g.F.FlowSet.machine g.F.Spelt.reading c.args.self.now c.drain.new.self c.drain.result c.in-Err.fault c.in-Err.is c.drain.ensures.world)
+returns-in-Err-clause-serves g c = rw c.in-Drain.is (drained_as g.F.FlowSet.machine g.F.Spelt.reading c.args.self.now c.drain.new.self c.drain.result None (ap drain_outcome c.in-Err.is) c.drain.ensures).world
 
 pub returns-in-Start-clause-count : goal.returns-in-Start-clause-count
 returns-in-Start-clause-count g c = same_count c.in-Start.node c.args.self.now c.start.new.self c.start.result (λ n r k. StartServes g.F.FlowSet.machine g.F.Spelt.reading c.args.self.now.now c.in-Start.class c.in-Start.args n r k) c.start.ensures.serves
@@ -82,7 +85,7 @@ pub returns-in-Boot-clause-answers : goal.returns-in-Boot-clause-answers
 returns-in-Boot-clause-answers g c = rw c.in-Boot.is (c.boot.ensures.serves, c.boot.ensures.clock)
 
 pub returns-in-Ok-clause-answers : goal.returns-in-Ok-clause-answers
-returns-in-Ok-clause-answers g c = rw c.in-Drain.is (inr (c.in-Ok.full, refl), c.drain.ensures.parts, c.drain.ensures.clock)
+returns-in-Ok-clause-answers g c = rw c.in-Drain.is ((drained_as g.F.FlowSet.machine g.F.Spelt.reading c.args.self.now c.drain.new.self c.drain.result (Some (outcome.Drained c.in-Ok.full)) (ap drain_outcome c.in-Ok.is) c.drain.ensures).seen, c.drain.ensures.clock)
 
 pub returns-in-Err-clause-answers : goal.returns-in-Err-clause-answers
-returns-in-Err-clause-answers g c = rw c.in-Drain.is (inl refl, c.drain.ensures.parts, c.drain.ensures.clock)
+returns-in-Err-clause-answers g c = rw c.in-Drain.is ((drained_as g.F.FlowSet.machine g.F.Spelt.reading c.args.self.now c.drain.new.self c.drain.result None (ap drain_outcome c.in-Err.is) c.drain.ensures).seen, c.drain.ensures.clock)
