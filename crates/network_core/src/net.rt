@@ -176,10 +176,12 @@ impl<D: Bay, F: FlowSet> Net<D, F> {
         true
     }
 
-    /// Makes rounds. A round makes turns at each node in the order of places, until no flow of it can go on, its disk failed, or it is
-    /// down; then it posts each node; then it delivers at each node one frame after another, until none waits or it is down. After the
-    /// first round in which nothing was committed no flow at a node that is up can go on, and what nodes that are up sent each other has
-    /// arrived: the answer is false. A turn or a delivery that meets a full journal ends all: the answer is true.
+    /// Makes rounds, until one commits nothing: the answer is false. A round makes turns at each node in the order of places, until no flow of
+    /// it can go on, its disk failed, or it is down; then it posts each node; then it delivers at each node one frame after another, until
+    /// none is left of those that waited, or it is down. A turn or a delivery that meets a full journal ends all: the answer is true.
+    ///
+    /// Over a coherent world, where the answer is false, no flow at a node that is up can go on then, and what nodes that are up sent each
+    /// other has arrived.
     ///
     /// # Errors
     ///
