@@ -9,7 +9,7 @@ use Rattle.network_core.specs.declared.steps.Outcome.{Outcome}
 use Rattle.network_core.specs.declared.steps.Step.{Step}
 use Rattle.network_core.specs.declared.steps.Step.TheVariants as step
 use Rattle.network_core.specs.Served.{Serve}
-use Rattle.network_core.specs.Answers.{Answered}
+use Rattle.network_core.specs.Answers.{Answered, answer_of}
 use Rattle.network_core.specs.Worlds.{World, NetSeen, KeepsWorld}
 use Rattle.shell_words.specs.declared.commands.Command.{Command}
 use Rattle.shell_words.specs.declared.commands.Command.TheVariants as command
@@ -17,7 +17,7 @@ use Rattle.shell_words.specs.Script.{command_of, words_of, has_no_answer, is_rea
 use Rattle.node_shell.specs.declared.replies.Reply.{Reply}
 use Rattle.node_shell.specs.declared.replies.Reply.TheVariants.{Told}
 use Rattle.node_shell.specs.Serve.{step_of, start_step, started_by, place_of, Answers, Comes, LineComes, StepComes, Serves, Leaves}
-use Rattle.node_shell.specs.Responds.{StartsNone, IsShown, StepResponds, Responds, CommandResponds, LineResponds, given, came_to, ran_out}
+use Rattle.node_shell.specs.Responds.{StartsNone, IsShown, StepResponds, Responds, CommandResponds, LineResponds, given}
 use Rattle.node_shell.proofs.Shown.{shown_answers}
 
 -- nothing was done
@@ -46,7 +46,7 @@ abbrev err_outcome : {E : Type 0} → E → Result Outcome E
 err_outcome fault = Err fault
 
 module _ {F : Type 0} (E : Type 0) (m : Machine F) (f : Reads F) (old new : NetSeen) where
-  as_told : (s : Step) (o : Outcome) → Answered m f s old (ok_outcome E o) new → Answered m f s old (came_to o) new
+  as_told : (s : Step) (o : Outcome) → Answered m f s old (ok_outcome E o) new → Answered m f s old (answer_of (Some o)) new
   as_told (step.Clock to) o h = h
   as_told (step.Start node class args) o h = h
   as_told (step.Turn node pick) o h = h
@@ -58,7 +58,7 @@ module _ {F : Type 0} (E : Type 0) (m : Machine F) (f : Reads F) (old new : NetS
   as_told (step.Boot node) o h = h
   as_told step.Drain o h = h
 
-  as_untold : (s : Step) (fault : E) → Answered m f s old (err_outcome fault) new → Answered m f s old ran_out new
+  as_untold : (s : Step) (fault : E) → Answered m f s old (err_outcome fault) new → Answered m f s old (answer_of None) new
   as_untold (step.Clock to) fault h = h
   as_untold (step.Start node class args) fault h = h
   as_untold (step.Turn node pick) fault h = h
