@@ -1,7 +1,7 @@
 -- A transaction that the Cash contract accepts conserves every token, also those that it doesn't speak of.
 use Rattle.std.proofs.Common.{◌≡◌, ℕ, ◌+◌, ◌||◌, not, Bool, true, false, List, [], ◌∷◌, ◌++◌, Option, Some, None, cond, filter_map, sum_by, refl, ap, sym, subst, ◌∙◌, arith}
 use Rattle.std.specs.List.{list_any, cons_option}
-use Rattle.std.proofs.lemmas.Bool.{or_parts, and_parts, eqb-true}
+use Rattle.std.proofs.lemmas.Bool.{or_parts, and_parts, eqb-true, not-false}
 use Rattle.std.proofs.lemmas.List.Folds.{list_any-append}
 use Rattle.std.proofs.lemmas.List.Sums.{sum_by-cons}
 use Rattle.std.proofs.lemmas.Slice.Eq.{bytes_eq-Decides}
@@ -34,18 +34,13 @@ same_token a b h =
     let code = (bytes_eq-Decides a.code b.code).0 parts.1 in
     λ i. record { issuer = record { 0 = issuer i }; code = code i }
 
--- what isn't refused is so
-kept : (b : Bool) → not b ≡ false → b ≡ true
-kept true h = refl
-kept false h = absurd cc
-
 -- of tokens that all pass a test, one that is among them passes it
 passes : (test : Token → Bool) (token : Token) (tokens : List Token) → list_any (λ t. token_eq t token) tokens ≡ true → list_any (λ t. not (test t)) tokens ≡ false → test token ≡ true
 passes test token [] among all = absurd cc
 passes test token (t ∷ tokens) among all =
     let parts = or_parts (not (test t)) (list_any (λ u. not (test u)) tokens) all in
     (elim (token_eq t token) as (λ b. token_eq t token ≡ b → test token ≡ true) [
-      | true ↦ λ e. subst (λ (u : Token). test u ≡ true) (same_token t token e) (kept (test t) parts.0)
+      | true ↦ λ e. subst (λ (u : Token). test u ≡ true) (same_token t token e) (not-false (test t) parts.0)
       | false ↦ λ e. passes test token tokens (subst (λ (b : Bool). (b || list_any (λ u. token_eq u token) tokens) ≡ true) e among) parts.1
     ]) refl
 

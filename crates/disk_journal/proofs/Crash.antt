@@ -1,8 +1,9 @@
 -- What a power cut leaves in each step of an append.
-use Rattle.std.proofs.Common.{◌≡◌, ◌≢◌, ◌⊎◌, inl, inr, ℕ, suc, ◌+◌, ◌-◌, ◌<◌, ◌≤◌, max, nat_le, Bool, true, false, List, [], ◌∷◌, ◌++◌, length, get_or, take, drop, Option, Some, refl, sym, ◌∙◌, ap, arith, length-drop, length-take, take-append-drop}
+use Rattle.std.proofs.Common.{◌≡◌, ◌≢◌, ◌⊎◌, inl, inr, ℕ, suc, ◌+◌, ◌-◌, ◌<◌, ◌≤◌, max, nat_le, true, false, List, [], ◌∷◌, ◌++◌, length, get_or, take, drop, Option, Some, sym, ◌∙◌, ap, arith, length-drop, length-take, take-append-drop}
 use Rattle.std.proofs.lemmas.List.{append-nil, take-take, drop-drop, drop-take, get_or-take, get_or-drop}
 use Rattle.std.proofs.lemmas.Grind.{same_number_lists}
 use Rattle.std.proofs.lemmas.Bool.Decides.{nat_tests}
+use Rattle.std.proofs.lemmas.Bool.{cases_Bool}
 use Rattle.outside.specs.Disk.{IsImage, clean, with_range}
 use Rattle.net_base.specs.declared.names.Identity.{Identity}
 use Rattle.disk_journal.specs.Journal.{body_limit, record_limit, bodies, extent, damage, is_closed, named, found, bodies_of, journal_of, IsSound, entry}
@@ -27,12 +28,8 @@ torn_parts at n old new within image = record {
 
 pub found_long : (id : Identity) (c : List ℕ) → found c ≡ Some id → 17 ≤ length c
 unfolding found
-found_long id c is = by (test (nat_le 17 (length c)))
+found_long id c is = by (cases_Bool (nat_le 17 (length c)))
   where
-    test : (b : Bool) → (b ≡ true) ⊎ (b ≡ false)
-    test true = inl refl
-    test false = inr refl
-
     by : (nat_le 17 (length c) ≡ true) ⊎ (nat_le 17 (length c) ≡ false) → 17 ≤ length c
     by (inl le) = grind (arith, nat_tests, le)
     by (inr gt) = absurd (cc (rw gt at is))

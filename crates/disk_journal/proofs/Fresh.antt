@@ -6,14 +6,15 @@ use Rattle.net_base.specs.Names.{IsIdentity}
 use Rattle.net_base.specs.declared.names.Identity.{Identity}
 use Rattle.disk_journal.specs.declared.fault.OpenFault.TheVariants.{NotAJournal, WrongNode}
 use Rattle.disk_journal.specs.Journal.{record_limit, is_whole, bodies, extent, damage, magic, identity_of, named, found, header, bodies_of, journal_of, IsSound, is_unformatted, is_same, damaged, refusal_of, refusal}
-use Rattle.disk_journal.proofs.Records.{whole, is_true, bodies_shut, bodies_closed}
+use Rattle.disk_journal.proofs.Records.{whole, bodies_shut, bodies_closed}
 use Rattle.disk_journal.proofs.Crash.{journal_by, found_long}
 use Rattle.std.proofs.lemmas.List.{get_or-take}
 use Rattle.std.proofs.lemmas.Slice.Eq.{bytes_eq-Decides}
+use Rattle.std.proofs.lemmas.Bool.{cases_Bool}
 
 bodies_short : (n : ℕ) (x : List ℕ) → length x ≤ 5 → bodies n x ≡ []
 bodies_short zero x short = refl
-bodies_short (suc n) x short = by (is_true (is_whole x))
+bodies_short (suc n) x short = by (cases_Bool (is_whole x))
   where
     by : (is_whole x ≡ true) ⊎ (is_whole x ≡ false) → bodies (suc n) x ≡ []
     by (inl is_open) = absurd (omega (arith, (whole x is_open).fits, short))
@@ -61,7 +62,7 @@ unformatted_short x is = grind (arith, nat_tests)
 
 named_byte : (id : Identity) (h : List ℕ) → named h ≡ Some id → get_or h 0 0 ≡ 1
 unfolding named
-named_byte id h is = by (is_true (bytes_eq (take 10 h) magic))
+named_byte id h is = by (cases_Bool (bytes_eq (take 10 h) magic))
   where
     by : (bytes_eq (take 10 h) magic ≡ true) ⊎ (bytes_eq (take 10 h) magic ≡ false) → get_or h 0 0 ≡ 1
     by (inl e) = sym (get_or-take 10 h 0 0 (omega arith)) ∙ ap (λ (l : List ℕ). get_or l 0 0) ((bytes_eq-Decides (take 10 h) magic).0 e)
@@ -69,7 +70,7 @@ named_byte id h is = by (is_true (bytes_eq (take 10 h) magic))
 
 pub first_byte : (id : Identity) (x : List ℕ) → found x ≡ Some id → get_or x 0 0 ≡ 1
 unfolding found
-first_byte id x is = by (is_true (nat_le 17 (length x)))
+first_byte id x is = by (cases_Bool (nat_le 17 (length x)))
   where
     by : (nat_le 17 (length x) ≡ true) ⊎ (nat_le 17 (length x) ≡ false) → get_or x 0 0 ≡ 1
     by (inl le) = sym (get_or-take 16 x 0 0 (omega arith)) ∙ named_byte id (take 16 x) (rw le at is)

@@ -3,7 +3,7 @@ use Rattle.std.proofs.Common.{◌≡◌, ⊎_elim, ℕ, ◌+◌, ◌≤◌, true
 use Rattle.outside.specs.Disk.{DiskState, Durable, IsImage, EachImage, Syncs, clean, with_range}
 use Rattle.outside.proofs.Moments.{started, weaker, then, clean_image, Either, after_sync, settled_kept}
 use Rattle.disk_journal.proofs.Crash.{torn_parts}
-use Rattle.disk_journal.proofs.Steps.{put_length}
+use Rattle.outside.proofs.Writes.{length-overwritten}
 use Rattle.net_base.specs.Names.{IsIdentity}
 use Rattle.net_base.specs.declared.names.Identity.{Identity}
 use Rattle.disk_journal.specs.Journal.{journal_of, is_unformatted, IsSound, WasSpelt, Opened, header, extent, record_limit}
@@ -21,7 +21,7 @@ synced d m was settles =
 pub short_write : (d e : DiskState) (at : ℕ) (bytes : List ℕ) → d.now ≡ clean d.kept → at ≤ length d.kept → length d.kept ≤ 17 → at + length bytes ≤ 17 → EachImage d e (Either d at bytes) → EachImage d e (λ c. length c ≤ 17)
 short_write d e at bytes synced within short small l =
     weaker d e (Either d at bytes) (λ c. length c ≤ 17)
-    (λ c. λ one. ⊎_elim (here c) (λ rest. ⊎_elim (pending c) (λ is. omega (arith, ap (λ (x : List ℕ). length x) is, put_length d.kept bytes at within, short, small)) rest) one) l
+    (λ c. λ one. ⊎_elim (here c) (λ rest. ⊎_elim (pending c) (λ is. omega (arith, ap (λ (x : List ℕ). length x) is, length-overwritten d.kept bytes at within, short, small)) rest) one) l
   where
     here : (c : List ℕ) → IsImage d.now c → length c ≤ 17
     here c image = omega (arith, ap (λ (x : List ℕ). length x) (clean_image d.kept c (subst (λ (s : Durable). IsImage s c) synced image)), short)

@@ -1,9 +1,10 @@
 -- Records at the front of bytes.
-use Rattle.std.proofs.Common.{◌≡◌, ◌≢◌, ◌⊎◌, inl, inr, ℕ, zero, suc, ◌+◌, ◌-◌, ◌<◌, ◌≤◌, Bool, true, false, List, [], ◌∷◌, ◌++◌, length, get_or, take, drop, None, refl, sym, ◌∙◌, ap, arith, length-append, length-take, append_assoc}
+use Rattle.std.proofs.Common.{◌≡◌, ◌≢◌, ◌⊎◌, inl, inr, ℕ, zero, suc, ◌+◌, ◌-◌, ◌<◌, ◌≤◌, true, false, List, [], ◌∷◌, ◌++◌, length, get_or, take, drop, None, refl, sym, ◌∙◌, ap, arith, length-append, length-take, append_assoc}
 use Rattle.std.specs.Int.{w32, from_be_bytes}
 use Rattle.std.proofs.lemmas.List.{take-take, take-append-le, drop-append-le, drop-drop, take_at, drop_at, get_or-take, drop-take}
 use Rattle.std.proofs.lemmas.Nat.{from_be_bytes-to_be_bytes_4}
 use Rattle.std.proofs.lemmas.Bool.Decides.{nat_tests}
+use Rattle.std.proofs.lemmas.Bool.{cases_Bool}
 use Rattle.disk_journal.specs.Journal.{body_limit, length_at, is_whole, is_closed, bodies, extent, damage, entry}
 
 pub record Whole (bytes : List ℕ) : Type 0 where
@@ -35,10 +36,6 @@ same_front x y n le same w fits =
     let five : take 5 y ≡ take 5 x = sym (take-take 5 n y (omega (arith, le))) ∙ ap (λ (l : List ℕ). take 5 l) (sym same) ∙ take-take 5 n x (omega (arith, le)) in
     let len : length_at y ≡ length_at x = length_by_five y ∙ ap (λ (l : List ℕ). from_be_bytes w32 (drop 1 l)) five ∙ sym (length_by_five x) in
     (record { gate = first ∙ w.gate; small = omega (arith, len, w.small); fits = omega (arith, len, le, fits) }, len)
-
-pub is_true : (b : Bool) → (b ≡ true) ⊎ (b ≡ false)
-is_true true = inl refl
-is_true false = inr refl
 
 -- one record, and what is behind it
 module _ (x y : List ℕ) (s : ℕ) (w : Whole x) (some : 0 < length y) where
@@ -143,7 +140,7 @@ module _ (n : ℕ) (x y : List ℕ) (some : 0 < length y) (is : is_whole x ≡ t
 -- what stands behind the records may be other bytes
 pub bodies_swap : (n : ℕ) (x y : List ℕ) → 0 < length y → bodies n (take (extent n x) x ++ y) ≡ bodies n x ++ bodies (n - length (bodies n x)) y
 bodies_swap zero x y some = refl
-bodies_swap (suc n) x y some = by (is_true (is_whole x)) (bodies_swap n (drop (5 + length_at x) x) y some)
+bodies_swap (suc n) x y some = by (cases_Bool (is_whole x)) (bodies_swap n (drop (5 + length_at x) x) y some)
   where
     by : (is_whole x ≡ true) ⊎ (is_whole x ≡ false) → bodies n (take (extent n (drop (5 + length_at x) x)) (drop (5 + length_at x) x) ++ y) ≡ bodies n (drop (5 + length_at x) x) ++ bodies (n - length (bodies n (drop (5 + length_at x) x))) y
         → bodies (suc n) (take (extent (suc n) x) x ++ y) ≡ bodies (suc n) x ++ bodies (suc n - length (bodies (suc n) x)) y
@@ -154,7 +151,7 @@ bodies_swap (suc n) x y some = by (is_true (is_whole x)) (bodies_swap n (drop (5
 
 pub damage_swap : (n at : ℕ) (x y : List ℕ) → 0 < length y → damage n at (take (extent n x) x ++ y) ≡ damage (n - length (bodies n x)) (at + extent n x) y
 damage_swap zero at x y some = let e : at ≡ at + 0 = omega arith in ap (λ (k : ℕ). damage 0 k y) e
-damage_swap (suc n) at x y some = by (is_true (is_whole x)) (damage_swap n (at + (5 + length_at x)) (drop (5 + length_at x) x) y some)
+damage_swap (suc n) at x y some = by (cases_Bool (is_whole x)) (damage_swap n (at + (5 + length_at x)) (drop (5 + length_at x) x) y some)
   where
     by : (is_whole x ≡ true) ⊎ (is_whole x ≡ false) → damage n (at + (5 + length_at x)) (take (extent n (drop (5 + length_at x) x)) (drop (5 + length_at x) x) ++ y) ≡ damage (n - length (bodies n (drop (5 + length_at x) x))) (at + (5 + length_at x) + extent n (drop (5 + length_at x) x)) y
         → damage (suc n) at (take (extent (suc n) x) x ++ y) ≡ damage (suc n - length (bodies (suc n) x)) (at + extent (suc n) x) y
@@ -167,7 +164,7 @@ damage_swap (suc n) at x y some = by (is_true (is_whole x)) (damage_swap n (at +
 
 pub extent_swap : (n : ℕ) (x y : List ℕ) → 0 < length y → extent n (take (extent n x) x ++ y) ≡ extent n x + extent (n - length (bodies n x)) y
 extent_swap zero x y some = refl
-extent_swap (suc n) x y some = by (is_true (is_whole x)) (extent_swap n (drop (5 + length_at x) x) y some)
+extent_swap (suc n) x y some = by (cases_Bool (is_whole x)) (extent_swap n (drop (5 + length_at x) x) y some)
   where
     by : (is_whole x ≡ true) ⊎ (is_whole x ≡ false) → extent n (take (extent n (drop (5 + length_at x) x)) (drop (5 + length_at x) x) ++ y) ≡ extent n (drop (5 + length_at x) x) + extent (n - length (bodies n (drop (5 + length_at x) x))) y
         → extent (suc n) (take (extent (suc n) x) x ++ y) ≡ extent (suc n) x + extent (suc n - length (bodies (suc n) x)) y
@@ -180,12 +177,12 @@ extent_swap (suc n) x y some = by (is_true (is_whole x)) (extent_swap n (drop (5
 
 -- where nothing is damaged, a closed gate stands behind the records
 pub ends : (n at : ℕ) (x : List ℕ) → damage n at x ≡ None → is_closed (drop (extent n x) x) ≡ true
-ends zero at x none = by (is_true (is_closed x))
+ends zero at x none = by (cases_Bool (is_closed x))
   where
     by : (is_closed x ≡ true) ⊎ (is_closed x ≡ false) → is_closed x ≡ true
     by (inl is) = is
     by (inr is) = absurd (cc (rw is at none))
-ends (suc n) at x none = by (is_true (is_whole x)) (ends n (at + (5 + length_at x)) (drop (5 + length_at x) x))
+ends (suc n) at x none = by (cases_Bool (is_whole x)) (ends n (at + (5 + length_at x)) (drop (5 + length_at x) x))
   where
     closed : (is_closed x ≡ true) ⊎ (is_closed x ≡ false) → damage 0 at x ≡ None → is_closed x ≡ true
     closed (inl is) none = is
@@ -193,7 +190,7 @@ ends (suc n) at x none = by (is_true (is_whole x)) (ends n (at + (5 + length_at 
 
     by : (is_whole x ≡ true) ⊎ (is_whole x ≡ false) → (damage n (at + (5 + length_at x)) (drop (5 + length_at x) x) ≡ None → is_closed (drop (extent n (drop (5 + length_at x) x)) (drop (5 + length_at x) x)) ≡ true) → is_closed (drop (extent (suc n) x) x) ≡ true
     by (inl is) next = ap is_closed (ap (λ (k : ℕ). drop k x) (extent_open n x is) ∙ sym (drop-drop (extent n (drop (5 + length_at x) x)) (5 + length_at x) x)) ∙ next (sym (damage_open n x at is) ∙ none)
-    by (inr is) next = ap (λ (k : ℕ). is_closed (drop k x)) (extent_shut n x is) ∙ closed (is_true (is_closed x)) (sym (damage_shut n x at is) ∙ none)
+    by (inr is) next = ap (λ (k : ℕ). is_closed (drop k x)) (extent_shut n x is) ∙ closed (cases_Bool (is_closed x)) (sym (damage_shut n x at is) ∙ none)
 
 pub closed_parts : (x : List ℕ) → is_closed x ≡ true → (0 < length x) × (get_or x 0 0 ≢ 1)
 unfolding is_closed

@@ -2,8 +2,9 @@
 use Rattle.std.proofs.Common.{◌≡◌, ◌⊎◌, inl, inr, ℕ, zero, suc, ◌+◌, ◌-◌, ◌<◌, ◌≤◌, nat_lt, ◌&&◌, true, false, List, [], ◌∷◌, ◌++◌, length, take, drop, Option, Some, None, if◌then◌else◌, refl, sym, ◌∙◌, ap, arith, length-drop, append_assoc}
 use Rattle.std.proofs.lemmas.List.{drop-drop, length-take-le}
 use Rattle.std.proofs.lemmas.Bool.Decides.{nat_tests}
+use Rattle.std.proofs.lemmas.Bool.{cases_Bool}
 use Rattle.disk_journal.specs.Journal.{is_whole, is_closed, length_at, bodies, extent, damage, placed}
-use Rattle.disk_journal.proofs.Records.{whole, is_true, bodies_open, bodies_shut, extent_open, extent_shut, damage_open, damage_shut}
+use Rattle.disk_journal.proofs.Records.{whole, bodies_open, bodies_shut, extent_open, extent_shut, damage_open, damage_shut}
 
 -- what is read next
 abbrev pub next : ℕ → List ℕ → Option ℕ
@@ -26,7 +27,7 @@ next_shut m rest is = let p = positive m in rw (p, is) refl
 
 pub is_next : (left : ℕ) (rest : List ℕ) (n : ℕ) → next left rest ≡ Some n → Next left rest n
 is_next zero rest n is = absurd (cc is)
-is_next (suc m) rest n is = by (is_true (is_whole rest))
+is_next (suc m) rest n is = by (cases_Bool (is_whole rest))
   where
     by : (is_whole rest ≡ true) ⊎ (is_whole rest ≡ false) → Next (suc m) rest n
     by (inl is_open) =
@@ -36,7 +37,7 @@ is_next (suc m) rest n is = by (is_true (is_whole rest))
 
 pub stops : (left at : ℕ) (rest : List ℕ) → next left rest ≡ None → (bodies left rest ≡ []) × (extent left rest ≡ 0) × (damage left at rest ≡ (if is_closed rest then None else Some at))
 stops zero at rest is = (refl, refl, refl)
-stops (suc m) at rest is = by (is_true (is_whole rest))
+stops (suc m) at rest is = by (cases_Bool (is_whole rest))
   where
     by : (is_whole rest ≡ true) ⊎ (is_whole rest ≡ false) → (bodies (suc m) rest ≡ []) × (extent (suc m) rest ≡ 0) × (damage (suc m) at rest ≡ (if is_closed rest then None else Some at))
     by (inl is_open) = absurd (none (sym (next_open m rest is_open) ∙ is))

@@ -1,8 +1,9 @@
 -- How many bytes records take.
 use Rattle.std.proofs.Common.{◌≡◌, ◌⊎◌, inl, inr, ℕ, zero, suc, ◌+◌, true, false, List, [], ◌∷◌, length, take, drop, refl, sym, ◌∙◌, ap, arith, length-drop}
 use Rattle.std.proofs.lemmas.List.{length-take-le}
+use Rattle.std.proofs.lemmas.Bool.{cases_Bool}
 use Rattle.disk_journal.specs.Journal.{is_whole, length_at, bodies, extent, placed, size_of}
-use Rattle.disk_journal.proofs.Records.{whole, is_true, bodies_open, bodies_shut, extent_open, extent_shut}
+use Rattle.disk_journal.proofs.Records.{whole, bodies_open, bodies_shut, extent_open, extent_shut}
 
 pub length-placed : (at : ℕ) (bs : List (List ℕ)) → length (placed at bs) ≡ length bs
 length-placed at [] = refl
@@ -10,7 +11,7 @@ length-placed at (b ∷ bs) = let rest = length-placed (at + (5 + length b)) bs 
 
 pub size-placed : (n at : ℕ) (x : List ℕ) → size_of (placed at (bodies n x)) ≡ extent n x
 size-placed zero at x = refl
-size-placed (suc n) at x = by (size-placed n (at + (5 + length (take (length_at x) (drop 5 x)))) (drop (5 + length_at x) x)) (is_true (is_whole x))
+size-placed (suc n) at x = by (size-placed n (at + (5 + length (take (length_at x) (drop 5 x)))) (drop (5 + length_at x) x)) (cases_Bool (is_whole x))
   where
     by : size_of (placed (at + (5 + length (take (length_at x) (drop 5 x)))) (bodies n (drop (5 + length_at x) x))) ≡ extent n (drop (5 + length_at x) x) → (is_whole x ≡ true) ⊎ (is_whole x ≡ false) → size_of (placed at (bodies (suc n) x)) ≡ extent (suc n) x
     by rest (inl is_open) =

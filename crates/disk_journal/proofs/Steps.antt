@@ -1,32 +1,21 @@
 -- The two steps of an append.
-use Rattle.std.proofs.Common.{◌≡◌, ◌⊎◌, inl, inr, ⊎_elim, ℕ, ◌+◌, ◌<◌, ◌≤◌, max, List, [], ◌∷◌, ◌++◌, length, get_or, take, drop, refl, sym, ◌∙◌, ap, arith, length-append, length-drop, append_assoc}
-use Rattle.std.proofs.lemmas.List.{take-take, take_at, drop_at, drop-drop, drop_more, get_or-take, get_or-drop, length-take-le}
+use Rattle.std.proofs.Common.{◌≡◌, ◌⊎◌, inl, inr, ⊎_elim, ℕ, ◌+◌, ◌<◌, ◌≤◌, List, [], ◌∷◌, ◌++◌, length, get_or, take, drop, refl, sym, ◌∙◌, ap, arith, length-drop}
+use Rattle.std.proofs.lemmas.List.{take-take, drop_at, drop-drop, drop_more, get_or-take, get_or-drop}
 use Rattle.std.proofs.lemmas.Bool.{cases_eq}
 use Rattle.outside.specs.Disk.{overwritten}
+use Rattle.outside.proofs.Writes.{length-overwritten, front-overwritten, back-overwritten}
 use Rattle.net_base.specs.declared.names.Identity.{Identity}
 use Rattle.disk_journal.specs.Journal.{body_limit, record_limit, extent, journal_of, IsSound, entry}
 use Rattle.disk_journal.proofs.Crash.{Parts, gate, gate_within, gate_shut, shut, opened}
 
 -- a write leaves its bytes between the parts
 module _ (old bytes : List ℕ) (at : ℕ) (within : at ≤ length old) where
-  front_len : length (take at old) ≡ at
-  front_len = length-take-le at old within
-
-  pub put_front : take at (overwritten old at bytes) ≡ take at old
-  put_front = ap (take at) (append_assoc (take at old) bytes (drop (at + length bytes) old)) ∙ take_at (take at old) (bytes ++ drop (at + length bytes) old) at front_len
-
-  pub put_back : drop at (overwritten old at bytes) ≡ bytes ++ drop (at + length bytes) old
-  put_back = ap (drop at) (append_assoc (take at old) bytes (drop (at + length bytes) old)) ∙ drop_at (take at old) (bytes ++ drop (at + length bytes) old) at front_len
-
-  pub put_length : length (overwritten old at bytes) ≡ max (length old) (at + length bytes)
-  put_length = omega (arith, length-append (take at old ++ bytes) (drop (at + length bytes) old), length-append (take at old) bytes, front_len, length-drop (at + length bytes) old, within)
-
   pub put_parts : Parts at (length bytes) old (overwritten old at bytes)
   put_parts = record {
-    before = put_front;
-    after = sym (drop-drop (length bytes) at (overwritten old at bytes)) ∙ ap (drop (length bytes)) put_back ∙ drop_at bytes (drop (at + length bytes) old) (length bytes) refl;
-    no_shorter = omega (arith, put_length);
-    no_longer = omega (arith, put_length);
+    before = front-overwritten old bytes at within;
+    after = sym (drop-drop (length bytes) at (overwritten old at bytes)) ∙ ap (drop (length bytes)) (back-overwritten old bytes at within) ∙ drop_at bytes (drop (at + length bytes) old) (length bytes) refl;
+    no_shorter = omega (arith, length-overwritten old bytes at within);
+    no_longer = omega (arith, length-overwritten old bytes at within);
   }
 
 module _ (id : Identity) (old : List ℕ) (sound : IsSound id old) (b : List ℕ) (small : length b ≤ body_limit) where
@@ -53,13 +42,13 @@ module _ (id : Identity) (old : List ℕ) (sound : IsSound id old) (b : List ℕ
   junk = drop (g + 1 + length (entry b)) old
 
   staged_front : take g staged ≡ take g old
-  staged_front = sym (take-take g (g + 1) staged (omega arith)) ∙ ap (take g) (put_front old (entry b) (g + 1) next_within) ∙ take-take g (g + 1) old (omega arith)
+  staged_front = sym (take-take g (g + 1) staged (omega arith)) ∙ ap (take g) (front-overwritten old (entry b) (g + 1) next_within) ∙ take-take g (g + 1) old (omega arith)
 
   staged_back : drop (g + 1) staged ≡ entry b ++ junk
-  staged_back = put_back old (entry b) (g + 1) next_within
+  staged_back = back-overwritten old (entry b) (g + 1) next_within
 
   pub staged_within : g + 1 ≤ length staged
-  staged_within = omega (arith, put_length old (entry b) (g + 1) next_within, next_within)
+  staged_within = omega (arith, length-overwritten old (entry b) (g + 1) next_within, next_within)
 
   behind : (c : List ℕ) → Parts g 1 staged c → drop g c ≡ get_or c g 0 ∷ (entry b ++ junk)
   behind c parts = drop_more c g 0 (omega (arith, parts.no_shorter, staged_within)) ∙ ap (λ (l : List ℕ). get_or c g 0 ∷ l) (parts.after ∙ staged_back)
@@ -81,5 +70,5 @@ module _ (id : Identity) (old : List ℕ) (sound : IsSound id old) (b : List ℕ
       let within : g ≤ length staged = omega (arith, staged_within) in
       let parts = put_parts staged (1 ∷ []) g within in
       let zero_off : g + 0 ≡ g = omega arith in
-      let is : get_or c g 0 ≡ 1 = ap (λ (k : ℕ). get_or c k 0) (sym zero_off) ∙ sym (get_or-drop g c 0 0) ∙ ap (λ (l : List ℕ). get_or l 0 0) (put_back staged (1 ∷ []) g within) in
+      let is : get_or c g 0 ≡ 1 = ap (λ (k : ℕ). get_or c k 0) (sym zero_off) ∙ sym (get_or-drop g c 0 0) ∙ ap (λ (l : List ℕ). get_or l 0 0) (back-overwritten staged (1 ∷ []) g within) in
       opened id old sound c (get_or c g 0 ∷ (entry b ++ junk)) (parts.before ∙ staged_front) (behind c parts) (omega arith) b junk (ap (λ (k : ℕ). k ∷ (entry b ++ junk)) is) small fewer

@@ -1,6 +1,6 @@
 -- A begun formatting can be finished.
 use Rattle.std.proofs.Common.{◌≡◌, ◌≢◌, ◌⊎◌, inl, inr, ⊎_elim, ℕ, ◌<◌, ◌≤◌, ◌==◌, true, false, List, [], ◌∷◌, ◌++◌, length, get_or, drop, None, refl, sym, ◌∙◌, ap, subst, arith}
-use Rattle.std.proofs.lemmas.Bool.{cases_eq}
+use Rattle.std.proofs.lemmas.Bool.{cases_eq, cases_Bool, cases_lt}
 use Rattle.std.proofs.lemmas.Bool.Decides.{nat_tests}
 use Rattle.std.proofs.lemmas.List.{get_or-take, drop_more}
 use Rattle.outside.specs.Disk.{DiskState, Durable, IsImage, EachImage, clean, with_range, overwritten}
@@ -8,7 +8,6 @@ use Rattle.outside.proofs.Moments.{weaker, clean_image, Either}
 use Rattle.net_base.specs.Names.{IsIdentity}
 use Rattle.net_base.specs.declared.names.Identity.{Identity}
 use Rattle.disk_journal.specs.Journal.{header, is_same, is_unformatted, damaged, refusal, IsSound, IsYoung}
-use Rattle.disk_journal.proofs.Records.{is_true}
 use Rattle.disk_journal.proofs.Crash.{Parts, torn_parts}
 use Rattle.disk_journal.proofs.Steps.{put_parts}
 use Rattle.disk_journal.proofs.Fresh.{fresh_sound, found_formatted, refusal_unformatted, refused_harm}
@@ -26,7 +25,7 @@ same_same id =
     rw (a, b, c) refl
 
 sound_opens : (id : Identity) (x : List ℕ) → IsSound id x → refusal id x ≡ None
-sound_opens id x sound = by (is_true (is_unformatted x))
+sound_opens id x sound = by (cases_Bool (is_unformatted x))
   where
     by : (is_unformatted x ≡ true) ⊎ (is_unformatted x ≡ false) → refusal id x ≡ None
     by (inl not_yet) = refusal_unformatted id x not_yet
@@ -61,10 +60,7 @@ by_parts d e at bytes P synced within here pending l =
 
 -- with a closed format gate
 pub shut_young : (id : Identity) (x : List ℕ) → length x ≤ 17 → get_or x 0 0 ≡ 0 → IsYoung id x
-shut_young id x short is = ⊎_elim (λ lt. inl lt) (λ le. inr (inl (omega (arith, short, le), inl is))) (low (length x) 17)
-  where
-    low : (a b : ℕ) → (a < b) ⊎ (b ≤ a)
-    low a b = grind arith
+shut_young id x short is = ⊎_elim (λ lt. inl lt) (λ le. inr (inl (omega (arith, short, le), inl is))) (cases_lt (length x) 17)
 
 pub tail_step : (id : Identity) (old c : List ℕ) (n : ℕ) → n ≤ 16 → 0 < length old → length old ≤ 17 → get_or old 0 0 ≡ 0 → Parts 1 n old c → IsYoung id c
 tail_step id old c n small some short is parts =

@@ -1,16 +1,15 @@
 -- A write is an image of what stood before, with its range.
-use Rattle.std.proofs.Common.{◌≡◌, ◌⊎◌, inl, inr, ⊎_elim, ℕ, ◌+◌, ◌-◌, ◌<◌, ◌≤◌, max, List, [], ◌∷◌, ◌++◌, length, take, drop, get_or, map, refl, sym, ◌∙◌, ap, arith, append_assoc, min, length-append, length-drop, length-take}
-use Rattle.std.proofs.lemmas.List.{length-take-le, get_or-take, get_or-drop, get_or_append_left, get_or-append_right, drop_at, take_at}
-use Rattle.outside.specs.Disk.{Durable, IsImage, IsUntouched, written_end, overwritten, with_range, clean}
+use Rattle.std.proofs.Common.{◌≡◌, ◌⊎◌, inl, inr, ⊎_elim, ℕ, ◌+◌, ◌-◌, ◌<◌, ◌≤◌, max, List, [], ◌∷◌, ◌++◌, length, take, drop, get_or, map, refl, sym, ◌∙◌, ap, arith, min, length-append, length-drop, length-take}
+use Rattle.std.proofs.lemmas.List.{length-take-le, get_or-take, get_or-drop, get_or_append_left, get_or-append_right, take_at}
+use Rattle.outside.specs.Disk.{Durable, IsImage, written_end, overwritten, with_range, clean}
 use Rattle.outside.proofs.Moments.{clean_image}
+use Rattle.outside.proofs.Writes.{length-overwritten, back-overwritten}
+use Rattle.disk_mem.proofs.Ranges.{untouched_parts}
 use Rattle.std.proofs.lemmas.Grind.{same_number_lists}
 use Rattle.disk_mem.specs.Mem.{durable_of, durable}
 use Rattle.disk_mem.specs.declared.lay.Medium.{Medium}
 use Rattle.std.specs.declared.snapshot.Snapshot.{Snapshot}
-
-untouched_push : (ts : List (ℕ × ℕ)) (r : ℕ × ℕ) (i : ℕ) → IsUntouched (ts ++ r ∷ []) i → IsUntouched ts i × ((i < r.0) ⊎ (r.0 + r.1 ≤ i))
-untouched_push [] r i u = (tt, u.0)
-untouched_push (t ∷ ts) r i u = let rest = untouched_push ts r i u.1 in ((u.0, rest.0), rest.1)
+use Rattle.std.proofs.lemmas.Bool.{cases_lt}
 
 reach_push : (n : ℕ) (ts : List (ℕ × ℕ)) (r : ℕ × ℕ) → (r.0 + r.1 ≤ written_end n (ts ++ r ∷ [])) × (written_end n ts ≤ written_end n (ts ++ r ∷ []))
 reach_push n [] r = (omega arith, omega arith)
@@ -19,9 +18,6 @@ reach_push n (t ∷ ts) r = let rest = reach_push n ts r in (omega (arith, rest.
 module _ (old bytes : List ℕ) (at : ℕ) (within : at ≤ length old) where
   front : length (take at old ++ bytes) ≡ at + length bytes
   front = omega (arith, length-append (take at old) bytes, length-take-le at old within)
-
-  pub length-overwritten : length (overwritten old at bytes) ≡ max (length old) (at + length bytes)
-  length-overwritten = omega (arith, front, length-append (take at old ++ bytes) (drop (at + length bytes) old), length-drop (at + length bytes) old)
 
   get-overwritten : (i : ℕ) → i < length old → (i < at) ⊎ (at + length bytes ≤ i) → get_or (overwritten old at bytes) i 0 ≡ get_or old i 0
   get-overwritten i lt (inl before) =
@@ -33,24 +29,21 @@ module _ (old bytes : List ℕ) (at : ℕ) (within : at ≤ length old) where
       ∙ get_or-drop (at + length bytes) old (i - (at + length bytes)) 0
       ∙ ap (λ (n : ℕ). get_or old n 0) (omega (arith, after))
 
-  pub back-overwritten : drop at (overwritten old at bytes) ≡ bytes ++ drop (at + length bytes) old
-  back-overwritten = ap (λ (l : List ℕ). drop at l) (append_assoc (take at old) bytes (drop (at + length bytes) old)) ∙ drop_at (take at old) (bytes ++ drop (at + length bytes) old) at (length-take-le at old within)
-
   -- what was written is there
   pub written-overwritten : take (length bytes) (drop at (overwritten old at bytes)) ≡ bytes
-  written-overwritten = ap (λ (l : List ℕ). take (length bytes) l) back-overwritten ∙ take_at bytes (drop (at + length bytes) old) (length bytes) refl
+  written-overwritten = ap (λ (l : List ℕ). take (length bytes) l) (back-overwritten old bytes at within) ∙ take_at bytes (drop (at + length bytes) old) (length bytes) refl
 
   pub inside-overwritten : (i : ℕ) → at ≤ i → i < at + length bytes → get_or (overwritten old at bytes) i 0 ≡ get_or bytes (i - at) 0
   inside-overwritten i lo hi =
       let off : at + (i - at) ≡ i = omega (arith, lo) in
-      ap (λ (k : ℕ). get_or (overwritten old at bytes) k 0) (sym off) ∙ sym (get_or-drop at (overwritten old at bytes) (i - at) 0) ∙ ap (λ (l : List ℕ). get_or l (i - at) 0) back-overwritten
+      ap (λ (k : ℕ). get_or (overwritten old at bytes) k 0) (sym off) ∙ sym (get_or-drop at (overwritten old at bytes) (i - at) 0) ∙ ap (λ (l : List ℕ). get_or l (i - at) 0) (back-overwritten old bytes at within)
       ∙ get_or_append_left bytes (drop (at + length bytes) old) 0 (i - at) (omega (arith, lo, hi))
 
   pub image_put : (s : Durable) → IsImage s old → IsImage (with_range s at (length bytes)) (overwritten old at bytes)
   image_put s image = record {
-    no_shorter = omega (arith, length-overwritten, image.no_shorter);
-    no_longer = let r = reach_push (length s.synced) s.pending (at, length bytes) in omega (arith, length-overwritten, image.no_longer, r.0, r.1);
-    elsewhere = λ i lt u. let rest = untouched_push s.pending (at, length bytes) i u in get-overwritten i (omega (arith, lt, image.no_shorter)) rest.1 ∙ image.elsewhere i lt rest.0;
+    no_shorter = omega (arith, length-overwritten old bytes at within, image.no_shorter);
+    no_longer = let r = reach_push (length s.synced) s.pending (at, length bytes) in omega (arith, length-overwritten old bytes at within, image.no_longer, r.0, r.1);
+    elsewhere = λ i lt u. let rest = untouched_parts s.pending (at, length bytes) i u in get-overwritten i (omega (arith, lt, image.no_shorter)) rest.1 ∙ image.elsewhere i lt rest.0;
   }
 
 pub past_push : (past : List (Snapshot Medium)) (s : Snapshot Medium) (l : Medium) → s.value ≡ l → map (λ (x : Snapshot Medium). durable_of x.value) (past ++ s ∷ []) ≡ map (λ (x : Snapshot Medium). durable_of x.value) past ++ durable_of l ∷ []
@@ -61,9 +54,6 @@ past_push (p ∷ past) s l is = ap (λ (xs : List Durable). durable_of p.value �
 pub clean_now : (synced : List ℕ) (pending : List (ℕ × ℕ)) (bytes : List ℕ) → length pending ≡ 0 → IsImage (record { synced = synced; pending = pending }) bytes → durable synced pending ≡ clean bytes
 clean_now synced [] bytes none image = λ i. record { synced = sym (clean_image synced bytes image) i; pending = [] }
 clean_now synced (t ∷ ts) bytes none image = absurd (omega (arith, none))
-
-low : (a b : ℕ) → (a < b) ⊎ (b ≤ a)
-low a b = grind arith
 
 -- the second half of a write taken back
 module _ (was bytes covered : List ℕ) (at h from : ℕ) (place : at ≤ length was) (half : h ≤ length bytes) (under : covered ≡ take (min (length bytes) (length was - at)) (drop at was)) (first : from ≡ min h (length covered)) where
@@ -107,7 +97,7 @@ module _ (was bytes covered : List ℕ) (at h from : ℕ) (place : at ≤ length
   outer i out lt = get-overwritten all tail (at + from) fits i lt out
 
   at_place : (i : ℕ) → i < n → get_or mid i 0 ≡ get_or wanted i 0
-  at_place i lt = ⊎_elim before (λ le. ⊎_elim (within le) (behind le) (low i (at + h))) (low i at)
+  at_place i lt = ⊎_elim before (λ le. ⊎_elim (within le) (behind le) (cases_lt i (at + h))) (cases_lt i at)
     where
       in_all : i < length all
       in_all = omega (arith, lt, all_len, half)
@@ -120,7 +110,7 @@ module _ (was bytes covered : List ℕ) (at h from : ℕ) (place : at ≤ length
 
       within : at ≤ i → i < at + h → get_or mid i 0 ≡ get_or wanted i 0
       within le small =
-          let out : (i < at + from) ⊎ (at + from + length tail ≤ i) = ⊎_elim (λ x. inl x) (λ x. inr (omega (arith, x, tail_len, first, small))) (low i (at + from)) in
+          let out : (i < at + from) ⊎ (at + from + length tail ≤ i) = ⊎_elim (λ x. inl x) (λ x. inr (omega (arith, x, tail_len, first, small))) (cases_lt i (at + from)) in
           outer i out in_all ∙ inside-overwritten was bytes at place i le (omega (arith, small, half)) ∙ sym (get_or-take h bytes (i - at) 0 (omega (arith, le, small)))
           ∙ sym (inside-overwritten was (take h bytes) at place i le (omega (arith, small, h_len)))
 
@@ -128,7 +118,7 @@ module _ (was bytes covered : List ℕ) (at h from : ℕ) (place : at ≤ length
       behind le past =
           let in_was : i < length was = omega (arith, lt, past) in
           let last : get_or wanted i 0 ≡ get_or was i 0 = get-overwritten was (take h bytes) at place i in_was (inr (omega (arith, h_len, past))) in
-          ⊎_elim (λ inner. covered_there inner ∙ sym last) (λ beyond. outer i (inr (omega (arith, beyond, tail_len, first))) in_all ∙ get-overwritten was bytes at place i in_was (inr (omega (arith, beyond, covered_len, in_was))) ∙ sym last) (low i (at + length covered))
+          ⊎_elim (λ inner. covered_there inner ∙ sym last) (λ beyond. outer i (inr (omega (arith, beyond, tail_len, first))) in_all ∙ get-overwritten was bytes at place i in_was (inr (omega (arith, beyond, covered_len, in_was))) ∙ sym last) (cases_lt i (at + length covered))
         where
           covered_there : i < at + length covered → get_or mid i 0 ≡ get_or was i 0
           covered_there inner =

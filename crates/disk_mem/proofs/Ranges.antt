@@ -2,6 +2,7 @@
 use Rattle.std.proofs.Common.{◌≡◌, ◌⊎◌, inl, inr, ⊎_elim, ℕ, zero, suc, ◌+◌, ◌-◌, ◌<◌, ◌≤◌, List, [], ◌∷◌, ◌++◌, length, take, drop, get_or, refl, sym, ◌∙◌, ap, subst, arith, length-append, length-drop}
 use Rattle.std.proofs.lemmas.List.{length-take-le, get_or-take, get_or-drop, get_or_append_left, get_or-append_right, get_or_past, take_more}
 use Rattle.std.specs.List.{Contains}
+use Rattle.std.proofs.lemmas.Bool.{cases_lt}
 use borrow.Rule.Slice.PartMut.{put_mid, post_of}
 use Rattle.outside.specs.Disk.{Durable, IsImage, IsUntouched}
 use Rattle.disk_mem.specs.Mem.{durable, IsTouched, IsFilled}
@@ -31,10 +32,7 @@ image_of s old new image low high same = record {
 
 -- inside of a range or outside of it
 pub inside_or_not : (at n i : ℕ) → ((at ≤ i) × (i < at + n)) ⊎ ((i < at) ⊎ (at + n ≤ i))
-inside_or_not at n i = ⊎_elim (λ before. inr (inl before)) (λ le. ⊎_elim (λ lt. inl (le, lt)) (λ past. inr (inr past)) (low i (at + n))) (low i at)
-  where
-    low : (a b : ℕ) → (a < b) ⊎ (b ≤ a)
-    low a b = grind arith
+inside_or_not at n i = ⊎_elim (λ before. inr (inl before)) (λ le. ⊎_elim (λ lt. inl (le, lt)) (λ past. inr (inr past)) (cases_lt i (at + n))) (cases_lt i at)
 
 untouched_push : (ts : List (ℕ × ℕ)) (r : ℕ × ℕ) (i : ℕ) → IsUntouched ts i → ((i < r.0) ⊎ (r.0 + r.1 ≤ i)) → IsUntouched (ts ++ r ∷ []) i
 untouched_push [] r i u out = (out, tt)
@@ -45,12 +43,12 @@ pub untouched_more : (ts : List (ℕ × ℕ)) (k i : ℕ) (r : ℕ × ℕ) → k
 untouched_more ts k i r lt is u out =
     subst (λ (l : List (ℕ × ℕ)). IsUntouched l i) (sym (take_more ts k r lt ∙ ap (λ (x : ℕ × ℕ). take k ts ++ x ∷ []) (sym is))) (untouched_push (take k ts) r i u out)
 
+pub untouched_parts : (ts : List (ℕ × ℕ)) (r : ℕ × ℕ) (i : ℕ) → IsUntouched (ts ++ r ∷ []) i → IsUntouched ts i × ((i < r.0) ⊎ (r.0 + r.1 ≤ i))
+untouched_parts [] r i u = (tt, u.0)
+untouched_parts (t ∷ ts) r i u = let rest = untouched_parts ts r i u.1 in ((u.0, rest.0), rest.1)
+
 pub touched_before : (ts : List (ℕ × ℕ)) (k i : ℕ) (r : ℕ × ℕ) → k < length ts → r ≡ get_or ts k r → IsUntouched (take (k + 1) ts) i → IsUntouched (take k ts) i × ((i < r.0) ⊎ (r.0 + r.1 ≤ i))
-touched_before ts k i r lt is u = split (take k ts) r i (subst (λ (l : List (ℕ × ℕ)). IsUntouched l i) (take_more ts k r lt ∙ ap (λ (x : ℕ × ℕ). take k ts ++ x ∷ []) (sym is)) u)
-  where
-    split : (ts : List (ℕ × ℕ)) (r : ℕ × ℕ) (i : ℕ) → IsUntouched (ts ++ r ∷ []) i → IsUntouched ts i × ((i < r.0) ⊎ (r.0 + r.1 ≤ i))
-    split [] r i u = (tt, u.0)
-    split (t ∷ ts) r i u = let rest = split ts r i u.1 in ((u.0, rest.0), rest.1)
+touched_before ts k i r lt is u = untouched_parts (take k ts) r i (subst (λ (l : List (ℕ × ℕ)). IsUntouched l i) (take_more ts k r lt ∙ ap (λ (x : ℕ × ℕ). take k ts ++ x ∷ []) (sym is)) u)
 
 -- a part of a list that was copied from the same place of another
 pub mid_is : (a k : ℕ) (xs ys zs : List ℕ) (i : ℕ) → length xs ≡ length zs → a + k ≤ length zs → a ≤ length zs → ys ≡ take k (drop a zs) → (i < length zs → (a ≤ i) × (i < a + k)) → get_or (put_mid a k xs ys) i 0 ≡ get_or zs i 0
@@ -59,11 +57,8 @@ mid_is a k xs ys zs i same fits in_zs is inner =
     ⊎_elim
     (λ lt. let at = inner lt in within_mid a k xs ys zs (post_of a k xs) i (omega (arith, same, in_zs)) len at.0 at.1 is)
     (λ past. get_or_past (put_mid a k xs ys) i 0 (omega (arith, whole len, past, same, fits)) ∙ sym (get_or_past zs i 0 past))
-    (low i (length zs))
+    (cases_lt i (length zs))
   where
-    low : (a b : ℕ) → (a < b) ⊎ (b ≤ a)
-    low a b = grind arith
-
     whole : length ys ≡ k → length (put_mid a k xs ys) ≡ length xs
     whole len = omega (arith, length-append (take a xs) (ys ++ post_of a k xs), length-append ys (post_of a k xs), length-take-le a xs (omega (arith, same, in_zs)), length-drop k (drop a xs), length-drop a xs, same, fits)
 
@@ -73,10 +68,7 @@ extended synced content pending image i u =
     ⊎_elim
     (λ lt. get_or_append_left synced (drop (length synced) content) 0 i lt ∙ sym (image.elsewhere i lt u))
     (λ past. get_or-append_right synced (drop (length synced) content) (length synced) i 0 refl past ∙ get_or-drop (length synced) content (i - length synced) 0 ∙ ap (λ (n : ℕ). get_or content n 0) (omega (arith, past)))
-    (low i (length synced))
-  where
-    low : (a b : ℕ) → (a < b) ⊎ (b ≤ a)
-    low a b = grind arith
+    (cases_lt i (length synced))
 
 -- one range more was filled
 pub filled_more : (ts : List (ℕ × ℕ)) (k : ℕ) (r : ℕ × ℕ) (first old new : List ℕ) → k < length ts → r ≡ get_or ts k r → IsFilled (take k ts) first old

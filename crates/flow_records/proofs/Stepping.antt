@@ -1,6 +1,7 @@
 -- Of which step a record tells.
 use Rattle.std.proofs.Common.{◌≡◌, ℕ, ◌==◌, ◌&&◌, Bool, true, false, List, [], length, Option, Some, None, Result, refl, sym, ◌∙◌, is_none, option_map, if◌then◌else◌}
 use Rattle.std.specs.Prelude.{IfSome}
+use Rattle.std.proofs.lemmas.Bool.{and_parts}
 use Rattle.net_base.specs.declared.causes.Cause.{Cause}
 use Rattle.net_base.specs.declared.names.StateRef.{StateRef}
 use Rattle.net_base.proofs.Lists.{no_items}
@@ -19,15 +20,6 @@ use Rattle.flow_records.specs.Steps.{part_after, besides_ledger, owner_of, step_
 
 -- ---- the ledger
 
--- both hold
-left : (a b : Bool) → (a && b) ≡ true → a ≡ true
-left true b h = refl
-left false b h = h
-
-right : (a b : Bool) → (a && b) ≡ true → b ≡ true
-right true b h = h
-right false b h = absurd cc
-
 -- nothing is recorded, locked or booked
 record IsStill (recorded : Option SignedTx) (locked : List StateRef) (booked : Option Entry) : Type 0 where
   recorded_is : recorded ≡ None
@@ -37,10 +29,10 @@ record IsStill (recorded : Option SignedTx) (locked : List StateRef) (booked : O
 -- where the ledger is left, nothing is
 ledger_still : (recorded : Option SignedTx) (locked : List StateRef) (booked : Option Entry) → (is_none recorded && (length locked == 0 && is_none booked)) ≡ true → IsStill recorded locked booked
 ledger_still recorded locked booked h =
-    let rest = right (is_none recorded) _ h in record {
-      recorded_is = none_of recorded (left (is_none recorded) _ h);
-      locked_is = no_items locked (left (length locked == 0) _ rest);
-      booked_is = none_of booked (right (length locked == 0) _ rest);
+    let both = and_parts (is_none recorded) _ h in let rest = and_parts (length locked == 0) _ both.1 in record {
+      recorded_is = none_of recorded both.0;
+      locked_is = no_items locked rest.0;
+      booked_is = none_of booked rest.1;
     }
 
 -- ---- a record

@@ -4,6 +4,7 @@ use Rattle.std.specs.Prelude.{slice_index_or, IfSome}
 use Rattle.std.specs.Option.{option_or, option_and_then}
 use Rattle.std.proofs.lemmas.List.{get_or_default, length-drop}
 use Rattle.std.specs.List.Sorted.{IsNonDecreasingBy}
+use Rattle.std.proofs.Math.Seq.{take-length}
 use Rattle.net_base.specs.declared.causes.Event.{Event}
 use Rattle.session_wire.specs.Sessions.{Session}
 use Rattle.flow_machine.specs.declared.flows.FlowState.{FlowState}
@@ -20,13 +21,9 @@ use Rattle.flow_steps.proofs.Picks.{Built, built_own, same_event}
 pub rising_by : (xs : List ℕ) → IsRising xs → IsNonDecreasingBy (λ (n : ℕ). n) xs
 rising_by xs up i j d le lt = omega (arith, up i j le lt, get_or_default xs i d 0 (omega (arith, le, lt)), get_or_default xs j d 0 lt)
 
-whole : (xs : List ℕ) → take (length xs) xs ≡ xs
-whole [] = refl
-whole (x ∷ xs) = ap (λ (ys : List ℕ). x ∷ ys) (whole xs)
-
 -- the numbers behind a place
 pub behind_place : (n : ℕ) (xs : List ℕ) → take (length xs - n) (drop n xs) ≡ drop n xs
-behind_place n xs = ap (λ (k : ℕ). take k (drop n xs)) (sym (length-drop n xs)) ∙ whole (drop n xs)
+behind_place n xs = ap (λ (k : ℕ). take k (drop n xs)) (sym (length-drop n xs)) ∙ take-length (drop n xs)
 
 -- flows that cannot go on may be passed over
 pub passed_over : {F : Type 0} (sessions : List Session) (now : ℕ) (all : List (FlowState F)) (idle place : ℕ) (numbers : List ℕ) → ((k : ℕ) → k < place → slice_index_or numbers k 0 < idle) → place ≤ length numbers

@@ -4,6 +4,7 @@ use Rattle.std.specs.Prelude.{is_none, IfOk, Ok, Err}
 use Rattle.std.specs.List.{AllByRecursion}
 use Rattle.std.specs.Option.{unwrap_or}
 use Rattle.std.proofs.lemmas.Bool.{ltb-true}
+use Rattle.std.proofs.lemmas.Result.{IfOk-weaker}
 use Rattle.net_base.specs.declared.causes.Cause.{Cause}
 use Rattle.net_base.specs.declared.causes.Event.{Event}
 use Rattle.net_base.specs.declared.causes.Event.TheVariants as event
@@ -13,7 +14,6 @@ use Rattle.net_base.specs.declared.values.Moment.{Moment}
 use Rattle.net_base.specs.declared.values.Party.{Party}
 use Rattle.net_base.specs.Names.{IsIdentity}
 use Rattle.net_base.specs.Values.{IsMoment}
-use Rattle.net_base.proofs.Options.{if_ok}
 use Rattle.ledger_types.specs.declared.value.Value.{Value}
 use Rattle.ledger_types.specs.Values.{IsValue}
 use Rattle.session_wire.specs.declared.body.Body.{Body}
@@ -280,7 +280,7 @@ module _ {F : Type 0} (w : Environment F) (me now : ℕ) (within : F → Type 0)
   -- what becomes of the flow is what its act means, where that is its effect by each event
   pub all_perform : {E : Type 0} (sessions : List Session) (e : Effect F) (r : Result (Step F) E) → ((s : NodeState F) (ev : Event) → s.sessions ≡ sessions → enabled_event w sessions now (state.Live at) ≡ Some ev → effect_on w me s now (state.Live at) ev ≡ Some e)
       → IfOk r (λ step. Becomes within e step) → IfOk r (λ step. Performs w me now within sessions at step)
-  all_perform sessions e r by h = if_ok (λ step. Becomes within e step) (λ step. Performs w me now within sessions at step) r (λ step b. record { effect = e; becomes = b; by = by }) h
+  all_perform sessions e r by h = IfOk-weaker r (λ step. Becomes within e step) (λ step. Performs w me now within sessions at step) (λ step b. record { effect = e; becomes = b; by = by }) h
 
 -- ---- an act that nodes don't perform
 

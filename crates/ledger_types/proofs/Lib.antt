@@ -3,3 +3,4 @@ mod Rows
 pub mod Sizes
 pub mod Names
 pub mod Coins
+pub mod Once

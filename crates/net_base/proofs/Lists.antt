@@ -1,5 +1,5 @@
 -- Lists: what every item passes, what is found, and items by their places.
-use Rattle.std.proofs.Common.{◌≡◌, ◌⊎◌, inl, inr, ⊎_elim, ℕ, zero, suc, ◌<◌, ◌≤◌, ◌==◌, Bool, true, false, ◌||◌, cond, List, [], ◌∷◌, ◌++◌, Some, None, find, option_map, length, reverse, map, filter, take, drop, slice_get, slice_set, refl, sym, ◌∙◌, ap, subst, append-nil, take_all, arith}
+use Rattle.std.proofs.Common.{◌≡◌, ◌⊎◌, inl, inr, ⊎_elim, ℕ, zero, suc, ◌+◌, ◌<◌, ◌≤◌, ◌==◌, Bool, true, false, ◌||◌, cond, List, [], ◌∷◌, ◌++◌, Some, None, find, option_map, length, reverse, map, filter, take, drop, slice_get, slice_set, refl, sym, ◌∙◌, ap, subst, append-nil, take_all, arith}
 use Rattle.std.specs.List.{list_any, list_all, AllByRecursion}
 use Rattle.std.proofs.lemmas.Bool.{and_parts, and_from, or_parts, or_from, or_left, or_right, or_cases}
 use Rattle.std.proofs.lemmas.List.{reverse-append, drop_all}
@@ -111,6 +111,14 @@ none_filter test p (x ∷ xs) none = let both = or_parts (test x) (list_any test
     by here more true = ap (λ c. c || list_any test (filter p xs)) here ∙ more
     by here more false = more
 
+pub all_filter : {X : Type 0} (test p : X → Bool) (xs : List X) → list_all test xs ≡ true → list_all test (filter p xs) ≡ true
+all_filter test p [] all = refl
+all_filter test p (x ∷ xs) all = let both = and_parts (test x) (list_all test xs) all in by both.0 (all_filter test p xs both.1) (p x)
+  where
+    by : test x ≡ true → list_all test (filter p xs) ≡ true → (b : Bool) → list_all test (cond b (x ∷ filter p xs) (filter p xs)) ≡ true
+    by here more true = and_from _ _ here more
+    by here more false = more
+
 -- what follows from a test that all pass, all pass
 pub passes_weaken : {X : Type 0} (test other : X → Bool) (xs : List X) → ((x : X) → test x ≡ true → other x ≡ true) → list_all test xs ≡ true → list_all other xs ≡ true
 passes_weaken test other [] f h = refl
@@ -152,12 +160,6 @@ pub get_below : {A : Type 0} (xs : List A) (n : ℕ) → n < length xs → (a : 
 get_below [] n h = absurd (omega arith)
 get_below (x ∷ xs) zero h = (x, refl)
 get_below (x ∷ xs) (suc n) h = get_below xs n (omega arith)
-
--- and at no other
-pub get_less : {X : Type 0} (xs : List X) (q : ℕ) (x : X) → slice_get xs q ≡ Some x → q < length xs
-get_less [] q x h = cc
-get_less (y ∷ ys) zero x h = omega arith
-get_less (y ∷ ys) (suc q) x h = let k = get_less ys q x h in omega arith
 
 -- in a list with one more at its end
 pub get_push : {X : Type 0} (xs : List X) (y : X) (n : ℕ) (x : X) → slice_get (xs ++ y ∷ []) n ≡ Some x → (slice_get xs n ≡ Some x) ⊎ ((length xs ≡ n) × (y ≡ x))
@@ -238,11 +240,6 @@ pub no_items : {X : Type 0} (xs : List X) → (length xs == 0) ≡ true → xs �
 no_items [] h = refl
 no_items (x ∷ xs) h = absurd (grind (arith, h))
 
--- the same by its length
-pub none_left : {X : Type 0} (xs : List X) → length xs ≡ 0 → xs ≡ []
-none_left [] h = refl
-none_left (x ∷ xs) h = absurd (omega arith)
-
 -- no more pass a test than there are
 pub filter_length : {X : Type 0} (p : X → Bool) (xs : List X) → length (filter p xs) ≤ length xs
 filter_length p [] = omega arith
@@ -270,3 +267,8 @@ map_both g f xs = map_twice g f (λ x. g (f x)) xs (λ x. refl)
 pub take_written : {X : Type 0} (new old : List X) (n : ℕ) → length new ≡ length old → n ≡ length old → take n (new ++ drop (length new) old) ≡ new
 take_written {X} new old n same long =
     ap (λ (l : List X). take n (new ++ l)) (drop_all (length new) old (omega (arith, same))) ∙ ap (take n) (append-nil new) ∙ take_all n new (omega (arith, same, long))
+
+-- one more that passes is one more of those that do
+pub length_filter : {X : Type 0} (P : X → Bool) (xs : List X) (y : X) → P y ≡ true → length (filter P (xs ++ y ∷ [])) ≡ length (filter P xs) + 1
+length_filter P [] y h = rw h refl
+length_filter {X} P (x ∷ xs) y h = let k = length_filter P xs y h in elim (P x) as (λ b. length (cond b (x ∷ filter P (xs ++ y ∷ [])) (filter P (xs ++ y ∷ []))) ≡ length (cond b (x ∷ filter P xs) (filter P xs)) + 1) [ true ↦ omega arith | false ↦ k ]

@@ -10,11 +10,6 @@ pub none_of : {X : Type 0} (o : Option X) → is_none o ≡ true → o ≡ None
 none_of None h = refl
 none_of (Some x) h = cc
 
--- what follows from what is said of a result
-pub if_ok : {X E : Type 0} (P Q : X → Type 0) (r : Result X E) → ((x : X) → P x → Q x) → IfOk r P → IfOk r Q
-if_ok P Q (Ok x) f h = f x h
-if_ok P Q (Err e) f h = h
-
 -- what is said of a result, whatever it is
 pub of_ok : {X E : Type 0} (P : Type 0) (r : Result X E) (x : X) → r ≡ Ok x → IfOk r (λ y. P) → P
 of_ok P (Ok y) x is h = h

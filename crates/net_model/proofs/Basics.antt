@@ -1,6 +1,7 @@
 -- Small facts on options and lists.
 use Rattle.std.proofs.Common.{◌≡◌, ℕ, zero, suc, ◌⊎◌, inl, inr, List, [], ◌∷◌, ◌++◌, Option, Some, None, Bool, true, false, cond, find, option_map, option_and_then, replicate, slice_get, slice_set, refl, ap, subst}
 use Rattle.std.specs.Prelude.{option_to_list}
+use Rattle.std.proofs.lemmas.Option.{option_and_then_some}
 use Rattle.net_base.specs.declared.causes.Cause.{Cause}
 use Rattle.net_base.specs.declared.causes.Event.{Event}
 use Rattle.net_base.specs.declared.causes.Event.TheVariants as event
@@ -18,8 +19,7 @@ from_map P f (Some a) b h p = from_some P h (p a refl)
 
 -- what an option gives that goes on from another
 pub from_then : {A B : Type 0} (P : Type 0) (f : A → Option B) (o : Option A) (b : B) → option_and_then f o ≡ Some b → ((a : A) → o ≡ Some a → f a ≡ Some b → P) → P
-from_then P f None b h p = cc
-from_then P f (Some a) b h p = p a refl h
+from_then P f o b h p = option_and_then_some f o b h p
 
 -- what an option gives that stands under a test
 pub from_cond : {A : Type 0} (P : Type 0) (t : Bool) (o : Option A) (a : A) → cond t o None ≡ Some a → (t ≡ true → o ≡ Some a → P) → P

@@ -15,7 +15,7 @@ replay_more : {F : Type 0} (s : NodeState F) (rs : List (Record F)) (r : Record 
 replay_more s [] r = refl
 replay_more s (x ∷ rs) r = replay_more (apply_effect s x.cause x.effect) rs r
 
-local_more : {F : Type 0} (w : Environment F) (p : ℕ) (s next : NodeState F) (rs : List (Record F)) (r : Record F) (n : ℕ) → IsLocalFrom w p s rs → node_step w p (replay_from s rs) r.cause (stamped n r.effect.change.came) ≡ Some (next, r.effect) → IsLocalFrom w p s (rs ++ r ∷ [])
+pub local_more : {F : Type 0} (w : Environment F) (p : ℕ) (s next : NodeState F) (rs : List (Record F)) (r : Record F) (n : ℕ) → IsLocalFrom w p s rs → node_step w p (replay_from s rs) r.cause (stamped n r.effect.change.came) ≡ Some (next, r.effect) → IsLocalFrom w p s (rs ++ r ∷ [])
 local_more w p s next [] r n h k = (n, next, k, tt)
 local_more {F} w p s next (x ∷ rs) r n h k =
     let st = step_taken w p s h.1 x.cause _ x.effect h.2 in

@@ -1,9 +1,10 @@
 -- Journals are those of a run exactly where each is its node's own and they are matched.
 use Rattle.std.proofs.Common.{◌≡◌, ℕ, zero, suc, ◌+◌, ◌<◌, ◌≤◌, ◌↔◌, List, [], ◌∷◌, Option, Some, None, Bool, true, false, cond, ◌==◌, max, map, option_map, option_and_then, replicate, length, slice_get, slice_set, refl, sym, ap, subst, ◌∙◌, arith}
 use Rattle.std.proofs.lemmas.Bool.{eqb-true, and_parts}
-use Rattle.std.proofs.lemmas.Option.{slice_get-map}
+use Rattle.std.proofs.lemmas.Option.{slice_get-map, slice_get_within}
+use lib.ListN.{length-replicate}
 use Rattle.net_base.specs.declared.causes.Cause.{Cause}
-use Rattle.net_base.proofs.Lists.{get_there, get_less, all_from_get}
+use Rattle.net_base.proofs.Lists.{get_there, all_from_get}
 use Rattle.net_base.proofs.Options.{some_eq}
 use Rattle.net_model.specs.Environment.{Environment}
 use Rattle.net_model.specs.State.{NodeState, Record, apply_effect, fresh, replay, replay_from}
@@ -81,16 +82,12 @@ get_none [] q h = omega arith
 get_none (y ∷ ys) zero h = cc
 get_none (y ∷ ys) (suc q) h = let k = get_none ys q h in omega arith
 
-length_replicate : {X : Type 0} (n : ℕ) (x : X) → length (replicate n x) ≡ n
-length_replicate zero x = refl
-length_replicate (suc n) x = let k = length_replicate n x in omega arith
-
 module _ {F : Type 0} (w : Environment F) (journals : List (List (Record F))) (all_there : length journals ≡ w.nodes) where
   abbrev All : List (ℕ × Record F)
   All = merge record_stamp journals
 
   fresh_at : (q : ℕ) (records : List (Record F)) → slice_get journals q ≡ Some records → slice_get (fresh_net w) q ≡ Some fresh
-  fresh_at q records h = let k = get_less journals q records h in get_replicate w.nodes q fresh (omega arith)
+  fresh_at q records h = let k = slice_get_within journals q records h in get_replicate w.nodes q fresh (omega arith)
 
   end_at : (q : ℕ) (o : Option (List (Record F))) → slice_get journals q ≡ o → slice_get (ends (fresh_net w) All) q ≡ option_map replay o
   unfolding replay
@@ -124,7 +121,7 @@ module _ {F : Type 0} (w : Environment F) (journals : List (List (Record F))) (a
 
   own_faithful : AreLocal w journals → IsMatched journals → IsFaithful w journals
   own_faithful local matched =
-      let size : length (fresh_net w) ≡ length journals = length_replicate w.nodes fresh ∙ sym all_there in
+      let size : length (fresh_net w) ≡ length journals = length-replicate w.nodes fresh ∙ sym all_there in
       own_follows w (fresh_net w) All (rising_of (λ q records there. local_climbs w q fresh records (local q records there)))
       (subst (λ (n : ℕ). AreBelow n All) (sym size) (merge_below journals))
       (λ q s there. own_at_fresh local matched q s (slice_get journals q) refl there)

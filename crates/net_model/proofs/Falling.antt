@@ -3,12 +3,12 @@ use Rattle.std.proofs.Common.{◌≡◌, ℕ, ◌+◌, ◌≤◌, ◌⊎◌, ⊎
 use Rattle.std.specs.Option.{option_len}
 use Rattle.std.specs.List.{list_all}
 use Rattle.std.proofs.lemmas.Bool.{and_parts, not-true, ne_eqb}
+use Rattle.std.proofs.lemmas.Option.{slice_get_within}
 use Rattle.net_base.specs.declared.names.Key.{Key}
 use Rattle.net_base.specs.declared.values.Party.{Party}
 use Rattle.net_base.specs.declared.causes.Cause.{Cause}
 use Rattle.net_base.specs.declared.causes.Event.{Event}
 use Rattle.net_base.specs.declared.causes.Event.TheVariants as event
-use Rattle.net_base.proofs.Lists.{get_less}
 use Rattle.net_base.proofs.Options.{some_eq}
 use Rattle.session_wire.specs.declared.body.Body.{Body}
 use Rattle.session_wire.specs.declared.body.Body.TheVariants as body_of
@@ -228,7 +228,7 @@ module _ {F : Type 0} (w : Environment F) (net : List (NodeState F)) (me : ℕ) 
       let d = ap (Items w net) came in
       let there : at.flow ≡ f = sound.numbered f at is in
       let get : slice_get s.flows at.flow ≡ Some (state.Live at) = ap (slice_get s.flows) there ∙ live_get s f at is in
-      let small = get_less s.flows at.flow (state.Live at) get in
+      let small = slice_get_within s.flows at.flow (state.Live at) get in
       let not_new : (at.flow == length s.flows) ≡ false = ne_eqb at.flow (length s.flows) (λ k. omega arith) in
       let set : flows_on e.flow s.flows ≡ slice_set s.flows at.flow x = flows ∙ ap (λ (t : Bool). cond t (s.flows ++ x ∷ []) (slice_set s.flows at.flow x)) not_new in
       let same : (g : ℕ) → (g ≡ at.flow → ⊥) → owns after g ≡ owns s.sessions g = λ g ne.

@@ -1,14 +1,14 @@
 -- What a step gives fits after a sound state.
-use Rattle.std.proofs.Common.{◌≡◌, ℕ, zero, suc, ◌+◌, ◌<◌, ◌≤◌, ◌^◌, ◌⊎◌, inl, inr, ⊎_elim, List, [], ◌∷◌, ◌++◌, Option, Some, None, Bool, true, false, cond, ◌==◌, not, nat_lt, nat_le, max, map, filter, find, drop, is_none, option_map, option_to_list, length, refl, sym, ap, subst, ◌∙◌, arith, append-nil}
+use Rattle.std.proofs.Common.{◌≡◌, ℕ, ◌+◌, ◌^◌, ◌⊎◌, ⊎_elim, List, [], ◌∷◌, ◌++◌, Option, Some, None, Bool, true, false, cond, ◌==◌, not, nat_lt, nat_le, max, map, filter, find, drop, is_none, option_map, option_to_list, length, refl, sym, ap, subst, ◌∙◌, arith, append-nil}
 use Rattle.std.specs.List.{list_all, list_any, AllByRecursion}
-use Rattle.std.proofs.lemmas.Bool.{and_parts, and_from, or_cases, or_parts, or_left, or_from, both_ways, not-true, not_from_false, eqb-true, eqb-false, eq-eqb, ltb-true, lt-ltb, leb-true, leb-false, false_from_ne_true}
+use Rattle.std.proofs.lemmas.Bool.{and_parts, and_from, or_cases, or_parts, or_left, not-true, not_from_false, eqb-true, eqb-false, eq-eqb, ltb-true, lt-ltb, leb-true, leb-false, false_from_ne_true}
 use Rattle.net_base.specs.declared.names.Key.{Key}
 use Rattle.net_base.specs.declared.values.Party.{Party}
 use Rattle.net_base.specs.declared.causes.Cause.{Cause}
 use Rattle.net_base.specs.declared.causes.Event.{Event}
 use Rattle.net_base.specs.declared.causes.Event.TheVariants as event
 use Rattle.net_base.proofs.Options.{none_of, some_eq}
-use Rattle.net_base.proofs.Lists.{find_map, find_test, find_push, found_passes}
+use Rattle.net_base.proofs.Lists.{find_map, find_test, find_push, found_passes, none_filter, all_filter, length_filter}
 use Rattle.ledger_types.specs.declared.tx.Resolved.{Resolved}
 use Rattle.ledger_types.specs.declared.tx.SignedTx.{SignedTx}
 use Rattle.ledger_types.specs.declared.notary.Request.{Request}
@@ -19,9 +19,10 @@ use Rattle.session_wire.specs.declared.body.Body.{Body}
 use Rattle.session_wire.specs.declared.body.Body.TheVariants as body_of
 use Rattle.flow_machine.specs.declared.acts.Act.{Act}
 use Rattle.flow_machine.specs.declared.flows.Checkpoint.{Checkpoint}
-use Rattle.session_wire.specs.Sessions.{Sent, Session, changed_at, first_item, is_confirm, key_eq, new_session, next_item, session_of, with_sent}
+use Rattle.session_wire.specs.Sessions.{Sent, Session, changed_at, first_item, key_eq, new_session, next_item, session_of, with_sent}
 use Rattle.session_wire.specs.Rules.{owned, next_key, sessions_of, is_no_peer, has_many, is_new_key, direction_out, direction_in, item_on, is_lawful, is_owner, Continues, FitsSent, FitsTaken}
-use Rattle.session_wire.proofs.Keys.{key_exact, key_same}
+use Rattle.session_wire.proofs.Keys.{key_exact, key_same, key_turned}
+use Rattle.session_wire.proofs.Items.{IsLate, late_data, late_error, late_end, found_between}
 use Rattle.net_model.specs.Environment.{Environment, party, identity}
 use Rattle.ledger_types.specs.Stores.{is_stored, resolved_of, untagged}
 use Rattle.ledger_types.specs.Signatures.{tx_id}
@@ -39,15 +40,19 @@ use Rattle.net_model.proofs.Acts.{Performs, tells, opens_to, sends_on, takes_fro
 
 -- ---- keys
 
-length_filter : {X : Type 0} (P : X → Bool) (xs : List X) (y : X) → P y ≡ true → length (filter P (xs ++ y ∷ [])) ≡ length (filter P xs) + 1
-length_filter P [] y h = rw h
-length_filter {X} P (x ∷ xs) y h = let k = length_filter P xs y h in (elim (P x) as (λ b. length (cond b (x ∷ filter P (xs ++ y ∷ [])) (filter P (xs ++ y ∷ []))) ≡ length (cond b (x ∷ filter P xs) (filter P xs)) + 1) [ true ↦ omega arith | false ↦ k ])
-
 -- the initiator of a new key is another node
 pub initiator_other : (nodes me : ℕ) (sessions : List Session) (key : Key) → is_new_key nodes (party me) sessions key ≡ true → (key.initiator.0 == me) ≡ false
 initiator_other nodes me sessions key h =
     let p = and_parts (is_none (session_of key sessions)) (not (is_no_peer nodes (party me) key.initiator)) h in
     (or_parts (key.initiator.0 == me) (nat_le nodes key.initiator.0) (not-true _ p.1)).0
+
+-- some of them differ too
+pub differ_filter : (Q : Session → Bool) (xs : List Session) → keys_differ xs ≡ true → keys_differ (filter Q xs) ≡ true
+differ_filter Q [] h = refl
+differ_filter Q (x ∷ xs) h =
+    let p = and_parts _ _ h in
+    elim (Q x) as (λ b. keys_differ (cond b (x ∷ filter Q xs) (filter Q xs)) ≡ true)
+    [ true ↦ and_from _ _ (not_from_false _ (none_filter (λ y. key_eq x.key y.key) Q xs (not-true _ p.0))) (differ_filter Q xs p.1) | false ↦ differ_filter Q xs p.1 ]
 
 -- ---- the plain cases
 
@@ -102,51 +107,19 @@ module _ {F : Type 0} (w : Environment F) (me : ℕ) (s : NodeState F) (stamp : 
     own_key : (key : Key) (session : Session) → session_of key s.sessions ≡ Some session → session_of session.key s.sessions ≡ Some session
     own_key key session h = let e = key_exact key session.key (find_test (λ x. key_eq key x.key) s.sessions session h) in subst (λ (k : Key). session_of k s.sessions ≡ Some session) e h
 
-    -- a body that stands behind the first items
-    abbrev IsLate : Body → Type 0
-    IsLate body = (d n : ℕ) → (n == 0) ≡ false → is_lawful d n body ≡ true
-
     continues : (session : Session) (sessions : List Session) (body : Body) → IsLate body → (length session.sent == 0) ≡ false → session_of session.key sessions ≡ Some session → Continues (party me) (item_on (party me) session body) sessions
     continues session sessions body late begun there = record { session = session; stands = there; outgoing = refl; next = refl; lawful = late _ _ begun }
-
-    late_data : (v : Value) → IsLate (body_of.Data v)
-    late_data v d n h = not_from_false _ h
-
-    late_error : (code : ℕ) → IsLate (body_of.Error code)
-    late_error code d n h = not_from_false _ h
-
-    late_end : IsLate body_of.End
-    late_end d n h = not_from_false _ h
 
     sends_fit : (f : ℕ) (key : Key) (value : Value) (session : Session) → owned f key s.sessions ≡ Some session → FitsChange w me s stamp s.sessions (Some f) (record nothing { sent = item_on (party me) session (body_of.Data value) ∷ [] })
     sends_fit f key value session h =
         let there = owned_there f (session_of key s.sessions) session h in
         record { opened = tt; sent = (continues session s.sessions (body_of.Data value) (late_data value) (begun_at key session there) (own_key key session there), tt); taken = tt; recorded = refl; locked = refl; once = refl; booked = tt }
 
-    -- the number of a found item
-    first_between : (n : ℕ) (bodies : List Body) (found : ℕ × Body) → first_item n bodies ≡ Some found → (n ≤ found.0) × (found.0 < n + length bodies)
-    first_between n [] found h = cc
-    first_between n (body ∷ bodies) found h =
-        (elim (is_confirm body) as (λ b. cond b (first_item (n + 1) bodies) (Some (n, body)) ≡ Some found → (n ≤ found.0) × (found.0 < n + length (body ∷ bodies))) [
-          | true ↦ λ k. let p = first_between (n + 1) bodies found k in let q = p.0 in let r = p.1 in (omega arith, omega arith)
-          | false ↦ λ k. let e : n ≡ found.0 = ap (λ (x : ℕ × Body). x.0) (some_eq k) in (omega arith, omega arith)
-        ]) h
-
-    length_dropped : {X : Type 0} (n : ℕ) (xs : List X) → (n + length (drop n xs) ≤ length xs) ⊎ (drop n xs ≡ [])
-    length_dropped zero xs = inl (omega arith)
-    length_dropped (suc n) [] = inr refl
-    length_dropped (suc n) (x ∷ xs) = ⊎_elim (λ k. inl (omega arith)) (λ k. inr k) (length_dropped n xs)
-
-    taken_between : (session : Session) (n : ℕ) (found : ℕ × Body) → first_item session.taken (drop session.taken session.came) ≡ Some found → (session.taken ≤ found.0 + 1) × (found.0 + 1 ≤ length session.came)
-    taken_between session n found h =
-        let p = first_between session.taken (drop session.taken session.came) found h in let q = p.0 in let r = p.1 in
-        ⊎_elim (λ k. (omega arith, omega arith)) (λ k. let z : first_item session.taken [] ≡ Some found = rw k at h in cc) (length_dropped session.taken session.came)
-
     takes_part : (key : Key) (session : Session) (ending : Option Body) (next : Option ℕ × Body) → session_of session.key s.sessions ≡ Some session → next_item session ending ≡ Some next → FitsTaken s.sessions (option_map (λ n. (session.key, n + 1)) next.0)
     takes_part key session (Some e) next there h = subst (λ (x : Option ℕ × Body). FitsTaken s.sessions (option_map (λ n. (session.key, n + 1)) x.0)) (some_eq h) tt
     takes_part key session None next there h =
         from_map (λ (x : Option ℕ × Body). FitsTaken s.sessions (option_map (λ n. (session.key, n + 1)) x.0)) (λ found. (Some found.0, found.1)) (first_item session.taken (drop session.taken session.came)) next h
-        (λ found is. let b = taken_between session 0 found is in record { session = session; stands = there; above = b.0; below = b.1 })
+        (λ found is. let b = found_between session found is in record { session = session; stands = there; above = omega (arith, b.0); below = omega (arith, b.1) })
 
     takes_fit : (f : ℕ) (key : Key) (session : Session) (next : Option ℕ × Body) → owned f key s.sessions ≡ Some session → next_item session session.ending ≡ Some next → FitsChange w me s stamp s.sessions (Some f) (record nothing { taken = option_map (λ n. (session.key, n + 1)) next.0 })
     takes_fit f key session next h i =
@@ -191,27 +164,9 @@ module _ {F : Type 0} (w : Environment F) (me : ℕ) (s : NodeState F) (stamp : 
         )
 
     -- each session stands where all keys differ
-    any_filter : {X : Type 0} (P Q : X → Bool) (xs : List X) → list_any P xs ≡ false → list_any P (filter Q xs) ≡ false
-    any_filter P Q [] h = refl
-    any_filter P Q (x ∷ xs) h = let p = or_parts _ _ h in elim (Q x) as (λ b. list_any P (cond b (x ∷ filter Q xs) (filter Q xs)) ≡ false) [ true ↦ or_from _ _ p.0 (any_filter P Q xs p.1) | false ↦ any_filter P Q xs p.1 ]
-
-    all_filter : {X : Type 0} (P Q : X → Bool) (xs : List X) → list_all P xs ≡ true → list_all P (filter Q xs) ≡ true
-    all_filter P Q [] h = refl
-    all_filter P Q (x ∷ xs) h = let p = and_parts _ _ h in elim (Q x) as (λ b. list_all P (cond b (x ∷ filter Q xs) (filter Q xs)) ≡ true) [ true ↦ and_from _ _ p.0 (all_filter P Q xs p.1) | false ↦ all_filter P Q xs p.1 ]
-
-    differ_filter : (Q : Session → Bool) (xs : List Session) → keys_differ xs ≡ true → keys_differ (filter Q xs) ≡ true
-    differ_filter Q [] h = refl
-    differ_filter Q (x ∷ xs) h =
-        let p = and_parts _ _ h in
-        elim (Q x) as (λ b. keys_differ (cond b (x ∷ filter Q xs) (filter Q xs)) ≡ true)
-        [ true ↦ and_from _ _ (not_from_false _ (any_filter (λ y. key_eq x.key y.key) Q xs (not-true _ p.0))) (differ_filter Q xs p.1) | false ↦ differ_filter Q xs p.1 ]
-
     stand_filter : (Q : Session → Bool) (sessions xs : List Session) → Stand sessions xs → Stand sessions (filter Q xs)
     stand_filter Q sessions [] h = tt
     stand_filter Q sessions (x ∷ xs) h = elim (Q x) as (λ b. Stand sessions (cond b (x ∷ filter Q xs) (filter Q xs))) [ true ↦ (h.0, stand_filter Q sessions xs h.1) | false ↦ stand_filter Q sessions xs h.1 ]
-
-    key_turned : (a b : Key) → key_eq a b ≡ false → key_eq b a ≡ false
-    key_turned a b h = false_from_ne_true _ (λ k. both_ways (key_eq a b) h (subst (λ (c : Key). key_eq c b ≡ true) (key_exact b a k) (key_same b)))
 
     stand_behind : (y : Session) (sessions xs : List Session) → list_any (λ x. key_eq y.key x.key) xs ≡ false → Stand sessions xs → Stand (y ∷ sessions) xs
     stand_behind y sessions [] free h = tt

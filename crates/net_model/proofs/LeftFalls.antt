@@ -1,14 +1,15 @@
 -- In a run what is left falls at each cause but Start.
-use Rattle.std.proofs.Common.{◌≡◌, ℕ, suc, ◌+◌, ◌<◌, ◌≤◌, ⊎_elim, List, [], ◌∷◌, ◌++◌, Option, Some, None, Bool, true, false, cond, ◌==◌, not, nat_lt, drop, is_none, option_map, option_and_then, option_to_list, slice_get, slice_set, length, refl, sym, ap, subst, ◌∙◌, arith, length-append, length-set}
+use Rattle.std.proofs.Common.{◌≡◌, ℕ, ◌+◌, ◌<◌, ◌≤◌, ⊎_elim, List, [], ◌∷◌, ◌++◌, Option, Some, None, Bool, true, false, cond, ◌==◌, not, nat_lt, drop, is_none, option_map, option_and_then, option_to_list, slice_get, slice_set, length, refl, sym, ap, subst, ◌∙◌, arith, length-append, length-set}
 use Rattle.std.specs.List.{list_all}
 use Rattle.std.proofs.lemmas.Bool.{and_parts, and_from, eqb-true, eq-eqb, ne_eqb, ltb-true, lt-ltb}
+use Rattle.std.proofs.lemmas.Option.{slice_get_within}
 use Rattle.net_base.specs.declared.names.Key.{Key}
 use Rattle.net_base.specs.declared.values.Party.{Party}
 use Rattle.net_base.specs.declared.causes.Cause.{Cause}
 use Rattle.net_base.specs.declared.causes.Event.{Event}
 use Rattle.net_base.specs.declared.causes.Event.TheVariants as event
 use Rattle.net_base.proofs.Options.{none_of, some_eq}
-use Rattle.net_base.proofs.Lists.{find_map, get_there, get_less, find_test, find_push, passes_weaken}
+use Rattle.net_base.proofs.Lists.{find_map, get_there, find_test, find_push, passes_weaken}
 use Rattle.ledger_types.specs.declared.value.Value.{Value}
 use Rattle.session_wire.specs.declared.body.Body.{Body}
 use Rattle.session_wire.specs.declared.body.Body.TheVariants as body_of
@@ -38,7 +39,7 @@ use Rattle.net_model.proofs.Local.{body_in_item}
 use Rattle.net_model.proofs.Basics.{fresh_get}
 use Rattle.net_model.proofs.Fitting.{step_fits}
 use Rattle.net_model.proofs.Sound.{fits_sound, fresh_sound, came_kept}
-use Rattle.net_model.proofs.Totals.{sessions_come, rest_come, total_le, total_append, total_set, total_less, total_find, drop_less, drop_first, Items, items_append, items_quiet}
+use Rattle.net_model.proofs.Totals.{sessions_come, rest_come, total_le, total_append, total_set, total_less, total_find, drop_less, drop_first, Items, items_append, items_quiet, total_all}
 use Rattle.net_model.proofs.Falling.{costs, gives_lowers, acts_lower, node_parts, owns_append, owns_changed, owns_sent, live_get, items_sent}
 
 -- ---- fair flows stay fair
@@ -151,14 +152,10 @@ module _ {F : Type 0} (w : Environment F) (me : ℕ) (s : NodeState F) (now : �
   does_fair ev body e (arrives key direction number b session i j k l o) = subst (λ (x : Effect F). Fairly w.machine s.flows x.flow) (sym o) (record { fair = refl; owner = refl })
   does_fair ev body e (acts f at i j g) =
       let there : at.flow ≡ f = sound.numbered f at j in
-      let l = get_less s.flows f (state.Live at) (live_get s f at j) in
+      let l = slice_get_within s.flows f (state.Live at) (live_get s f at j) in
       gives_fair at e (omega arith) (fair_at f at j) g
 
 -- ---- what arrived grows, and so what is left of other nodes doesn't
-
-total_index : {X : Type 0} (f g : X → ℕ) (xs : List X) → ((j : ℕ) (x : X) → slice_get xs j ≡ Some x → f x ≤ g x) → total f xs ≤ total g xs
-total_index f g [] h = omega arith
-total_index f g (x ∷ xs) h = let a = h 0 x refl in let b = total_index f g xs (λ j z is. h (suc j) z is) in omega arith
 
 module _ {F : Type 0} (w : Environment F) (net : List (NodeState F)) (p : ℕ) (s : NodeState F) (cause : Cause) (e : Effect F) (is : slice_get net p ≡ Some s) where
   abbrev New : List (NodeState F)
@@ -242,10 +239,10 @@ module _ {F : Type 0} (w : Environment F) (net : List (NodeState F)) (s : NodeSt
   module _ (me : ℕ) (sound : IsSound me s) (fair : IsFair w.machine s) where
     -- the flows of now have no more, where only a flow behind them owns a new session
     old_flows : (new : List Session) → ((g : ℕ) → g < length s.flows → owns new g ≡ owns s.sessions g) → total (flow_left w.machine new) s.flows ≤ total (flow_left w.machine s.sessions) s.flows
-    old_flows new h = total_index (flow_left w.machine new) (flow_left w.machine s.sessions) s.flows (λ j x is. one j x is)
+    old_flows new h = total_all (flow_left w.machine new) (flow_left w.machine s.sessions) s.flows (λ j x is. one j x is)
       where
         one : (j : ℕ) (x : FlowState F) → slice_get s.flows j ≡ Some x → flow_left w.machine new x ≤ flow_left w.machine s.sessions x
-        one j (state.Live at) is = let there : at.flow ≡ j = sound.numbered j at (ap (option_and_then checkpoint_of) is) in let l = get_less s.flows j (state.Live at) is in let a = h at.flow (omega arith) in omega arith
+        one j (state.Live at) is = let there : at.flow ≡ j = sound.numbered j at (ap (option_and_then checkpoint_of) is) in let l = slice_get_within s.flows j (state.Live at) is in let a = h at.flow (omega arith) in omega arith
         one j (state.Ended step class v) is = omega arith
         one j (state.Failed step class code) is = omega arith
 

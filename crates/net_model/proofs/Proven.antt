@@ -1,6 +1,7 @@
 -- Each stored transaction has its whole back-chain, the verdict and the tags.
 use Rattle.std.proofs.Common.{◌≡◌, ℕ, ⊎_elim, List, [], ◌∷◌, ◌++◌, Option, Some, None, option_to_list, slice_set, refl, sym, ap, subst, ◌∙◌}
 use Rattle.std.specs.List.{AllByRecursion}
+use Rattle.net_base.proofs.Lists.{all_append}
 use Rattle.net_base.specs.declared.causes.Cause.{Cause}
 use Rattle.net_base.specs.declared.causes.Event.{Event}
 use Rattle.ledger_types.specs.declared.tx.Tx.{Tx}
@@ -39,10 +40,6 @@ module _ {F : Type 0} (w : Environment F) where
   all_proven : (stored more xs : List SignedTx) → AllByRecursion (IsProven w stored) xs → AllByRecursion (IsProven w (stored ++ more)) xs
   all_proven stored more [] h = tt
   all_proven stored more (x ∷ xs) h = (proven_more stored more x h.0, all_proven stored more xs h.1)
-
-  all_ends : (P : SignedTx → Type 0) (xs ys : List SignedTx) → AllByRecursion P xs → AllByRecursion P ys → AllByRecursion P (xs ++ ys)
-  all_ends P [] ys h k = k
-  all_ends P (x ∷ xs) ys h k = (h.0, all_ends P xs ys h.1 k)
 
   -- what is recorded is proven over what stands
   abbrev Records : List SignedTx → Change → Type 0
@@ -94,7 +91,7 @@ module _ {F : Type 0} (w : Environment F) where
       let st = step_taken w p s _ cause (item_for net p s cause.event) e k.step in
       let more = option_to_list e.change.recorded in
       let new = does_records p s cause.moment.0 cause.event (body_in (item_for net p s cause.event)) e (effect_does w p s cause.moment.0 cause.event _ e st.effect) in
-      let mine : AreProven w (apply_effect s cause e).stored = subst (AreProven w) (sym (apply_stored s cause e)) (all_ends (IsProven w (s.stored ++ more)) s.stored more (all_proven s.stored more s.stored (all p s k.is)) (all_proven s.stored more more new)) in
+      let mine : AreProven w (apply_effect s cause e).stored = subst (AreProven w) (sym (apply_stored s cause e)) (all_append (IsProven w (s.stored ++ more)) s.stored more (all_proven s.stored more s.stored (all p s k.is)) (all_proven s.stored more more new)) in
       let there : StoresHold w (slice_set net p (apply_effect s cause e)) = λ q t is. ⊎_elim
       (λ l. subst (λ (x : NodeState F). AreProven w x.stored) (some_eq (sym l.1 ∙ is)) mine)
       (λ l. all q t (sym l ∙ is))

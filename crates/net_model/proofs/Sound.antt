@@ -2,7 +2,7 @@
 use Rattle.std.proofs.Common.{◌≡◌, ℕ, zero, suc, ◌+◌, ◌≤◌, ◌⊎◌, inl, inr, ⊎_elim, List, [], ◌∷◌, ◌++◌, Option, Some, None, Bool, true, false, cond, ◌==◌, ◌&&◌, ◌||◌, not, nat_lt, map, filter, find, is_none, option_and_then, option_to_list, slice_get, slice_set, length, refl, sym, ap, subst, ◌∙◌, arith, append-nil, length-append}
 use Rattle.std.specs.Prelude.{⊤}
 use Rattle.std.specs.List.{list_all, list_any}
-use Rattle.std.proofs.lemmas.Bool.{and_parts, and_from, or_cases, or_parts, or_left, or_right, or_from, both_ways, not-true, not_from_false, eqb-true, eq-eqb, ltb-true, lt-ltb, ne_eqb, false_from_ne_true}
+use Rattle.std.proofs.lemmas.Bool.{and_parts, and_from, or_cases, or_parts, or_left, or_right, or_from, both_ways, not-true, not_from_false, eqb-true, eq-eqb, ltb-true, lt-ltb, ne_eqb}
 use Rattle.net_base.specs.declared.names.Key.{Key}
 use Rattle.net_base.specs.declared.values.Hash32.{Hash32}
 use Rattle.net_base.specs.declared.values.Party.{Party}
@@ -22,7 +22,7 @@ use Rattle.ledger_types.specs.Names.{hash_eq}
 use Rattle.ledger_types.proofs.Names.{hash_swapped}
 use Rattle.session_wire.specs.Sessions.{Sent, Session, changed_at, key_eq, new_session, opened_on, sent_on, session_of, taken_on, with_came, with_sent, with_taken}
 use Rattle.session_wire.specs.Rules.{is_init_of, is_no_peer}
-use Rattle.session_wire.proofs.Keys.{key_exact, key_same}
+use Rattle.session_wire.proofs.Keys.{key_exact, key_same, key_turned}
 use Rattle.net_model.specs.Environment.{Environment, party}
 use Rattle.ledger_types.specs.Stores.{is_stored, may_record}
 use Rattle.ledger_types.specs.Signatures.{tx_id}
@@ -97,9 +97,6 @@ count_append me (y ∷ ys) x = let k = count_append me ys x in elim (y.key.initi
 count_own : (me : ℕ) (ss : List Session) (x : Session) → (x.key.initiator.0 == me) ≡ true → count me (ss ++ x ∷ []) ≡ count me ss + 1
 count_own me [] x h = rw h (omega arith)
 count_own me (y ∷ ys) x h = let k = count_own me ys x h in elim (y.key.initiator.0 == me) as (λ b. length (cond b (y ∷ filter (λ z. z.key.initiator.0 == me) (ys ++ x ∷ [])) (filter (λ z. z.key.initiator.0 == me) (ys ++ x ∷ []))) ≡ length (cond b (y ∷ filter (λ z. z.key.initiator.0 == me) ys) (filter (λ z. z.key.initiator.0 == me) ys)) + 1) [ true ↦ omega arith | false ↦ k ]
-
-key_turned : (a b : Key) → key_eq a b ≡ false → key_eq b a ≡ false
-key_turned a b h = false_from_ne_true _ (λ k. both_ways (key_eq a b) h (subst (λ (c : Key). key_eq c b ≡ true) (key_exact b a k) (key_same b)))
 
 none_head : {X : Type 0} (P : X → Bool) (x : X) (xs : List X) → find P (x ∷ xs) ≡ None → (P x ≡ false) × (find P xs ≡ None)
 none_head {X} P x xs h = (elim (P x) as (λ b. cond b (Some x) (find P xs) ≡ None → (b ≡ false) × (find P xs ≡ None)) [ true ↦ λ k. cc | false ↦ λ k. (refl, k) ]) h

@@ -34,16 +34,17 @@ total_set f [] i old y h = cc
 total_set f (x ∷ xs) zero old y h = let e = ap f (some_eq h) in omega arith
 total_set f (x ∷ xs) (suc i) old y h = let a = total_set f xs i old y h in omega arith
 
+-- where each has no more
+pub total_all : {X : Type 0} (f g : X → ℕ) (xs : List X) → ((j : ℕ) (x : X) → slice_get xs j ≡ Some x → f x ≤ g x) → total f xs ≤ total g xs
+total_all f g [] h = omega arith
+total_all f g (x ∷ xs) h = let a = h 0 x refl in let b = total_all f g xs (λ j z is. h (suc j) z is) in omega arith
+
 -- with another sum, where all other elements have no more in it
 pub total_set_le : {X : Type 0} (f g : X → ℕ) (xs : List X) (i : ℕ) (old y : X) → slice_get xs i ≡ Some old → ((j : ℕ) (x : X) → (j ≡ i → ⊥) → slice_get xs j ≡ Some x → f x ≤ g x) → total f (slice_set xs i y) + g old ≤ total g xs + f y
 total_set_le f g [] i old y h k = cc
 total_set_le f g (x ∷ xs) zero old y h k =
     let e = ap g (some_eq h) in
     let a = total_all f g xs (λ j z is. k (suc j) z (λ n. cc) is) in omega arith
-  where
-    total_all : {X : Type 0} (f g : X → ℕ) (xs : List X) → ((j : ℕ) (x : X) → slice_get xs j ≡ Some x → f x ≤ g x) → total f xs ≤ total g xs
-    total_all f g [] h = omega arith
-    total_all f g (x ∷ xs) h = let a = h 0 x refl in let b = total_all f g xs (λ j z is. h (suc j) z is) in omega arith
 total_set_le f g (x ∷ xs) (suc i) old y h k =
     let a = k 0 x (λ n. cc) refl in
     let b = total_set_le f g xs i old y h (λ j z ne is. k (suc j) z (λ e. ne (omega arith)) is) in omega arith

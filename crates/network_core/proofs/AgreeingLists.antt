@@ -1,23 +1,16 @@
 -- Lists in which one place was set, and properties of all of a list.
-use Rattle.std.proofs.Common.{◌≡◌, ℕ, zero, suc, ◌⊎◌, inl, inr, ⊎_elim, List, [], ◌∷◌, Some, Bool, true, false, ◌==◌, map, slice_get, slice_set, refl, sym, ap, ◌∙◌}
+use Rattle.std.proofs.Common.{◌≡◌, ℕ, zero, suc, ◌⊎◌, inl, inr, ⊎_elim, List, [], ◌∷◌, Some, map, slice_get, slice_set, refl, sym, ap, ◌∙◌}
 use Rattle.std.specs.List.{AllByRecursion}
-use Rattle.std.proofs.lemmas.Bool.{eqb-true, eqb-false}
+use Rattle.std.proofs.lemmas.Bool.{cases_eq}
 use Rattle.net_base.proofs.Lists.{get_there, get_other}
 use Rattle.net_base.proofs.Options.{some_eq}
-
-pub same_or_not : (a b : ℕ) → (a ≡ b) ⊎ (a ≡ b → ⊥)
-same_or_not a b = by (a == b) refl
-  where
-    by : (t : Bool) → (a == b) ≡ t → (a ≡ b) ⊎ (a ≡ b → ⊥)
-    by true is = inl (eqb-true a b is)
-    by false is = inr (eqb-false a b is)
 
 -- what stands in a list of which a place was set
 pub in_set : {X : Type 0} (xs : List X) (p : ℕ) (x y : X) (q : ℕ) (z : X) → slice_get xs p ≡ Some x → slice_get (slice_set xs p y) q ≡ Some z → ((q ≡ p) × (z ≡ y)) ⊎ ((q ≡ p → ⊥) × (slice_get xs q ≡ Some z))
 in_set {X} xs p x y q z there at = ⊎_elim
     (λ is. inl (is, some_eq (sym at ∙ ap (slice_get (slice_set xs p y)) is ∙ get_there xs p x y there)))
     (λ other. inr (other, sym (get_other xs p y q other) ∙ at))
-    (same_or_not q p)
+    (cases_eq q p)
 
 pub set_twice : {X : Type 0} (xs : List X) (p : ℕ) (a b : X) → slice_set (slice_set xs p a) p b ≡ slice_set xs p b
 set_twice [] p a b = refl

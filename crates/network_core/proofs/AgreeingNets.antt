@@ -2,6 +2,7 @@
 use Rattle.std.proofs.Common.{◌≡◌, ℕ, ◌≤◌, ◌⊎◌, inl, inr, List, [], ◌∷◌, ◌++◌, Option, Some, None, Bool, true, false, cond, map, length, option_map, option_to_list, slice_get, slice_set, refl, ap, ◌∙◌, arith, length-append}
 use Rattle.std.specs.List.{AllByRecursion}
 use Rattle.std.proofs.lemmas.Option.{slice_get-map}
+use Rattle.std.proofs.lemmas.Bool.{cases_eq}
 use Rattle.net_base.specs.declared.names.Key.{Key}
 use Rattle.net_base.specs.declared.values.Party.{Party}
 use Rattle.net_base.specs.declared.causes.Cause.{Cause}
@@ -19,7 +20,6 @@ use Rattle.net_model.specs.Runs.{item_from}
 use Rattle.net_model.proofs.Basics.{find_before, get_before, apply_sessions}
 use Rattle.net_model.proofs.Local.{set_grows}
 use Rattle.network_core.specs.Worlds.{came_at, IsTrue, WaitsAt, AreArrived}
-use Rattle.network_core.proofs.AgreeingLists.{same_or_not}
 
 -- each session keeps its place, its key and its other side, and as many items as arrived in the session of a key are there still
 pub record Keeps (old new : List Session) : Type 0 where
@@ -119,7 +119,7 @@ pub came_there : {F : Type 0} (net : List (NodeState F)) (q : ℕ) (key : Key) (
 came_there net q key s is = rw is
 
 pub set_wider : {F : Type 0} (net : List (NodeState F)) (p : ℕ) (s : NodeState F) (cause : Cause) (e : Effect F) → slice_get net p ≡ Some s → Wider net (slice_set net p (apply_effect s cause e))
-set_wider {F} net p s cause e is = record { items = (set_grows net p s cause e is).on; came = λ q key. by q key (same_or_not q p) }
+set_wider {F} net p s cause e is = record { items = (set_grows net p s cause e is).on; came = λ q key. by q key (cases_eq q p) }
   where
     next : NodeState F
     next = apply_effect s cause e

@@ -1,6 +1,7 @@
 -- A coherent world stays coherent where one node changes as said here.
 use Rattle.std.proofs.Common.{◌≡◌, ℕ, ◌⊎◌, ⊎_elim, List, Some, None, true, map, length, slice_get, slice_set, sym, ap, subst, ◌∙◌}
 use Rattle.std.specs.List.{AllByRecursion}
+use Rattle.net_base.proofs.Options.{some_eq}
 use Rattle.net_base.proofs.Lists.{get_there, set_length, set_own, get_beside, get_other}
 use Rattle.net_model.specs.Environment.{Environment}
 use Rattle.net_model.specs.State.{NodeState}
@@ -59,14 +60,11 @@ module _ {F : Type 0} (e : Environment F) where
         count = set_length lists p back.0 ∙ choice.count ∙ set_length w.nodes p y;
         each = λ q z l at list_at. ⊎_elim
             (λ here.
-            let same : z ≡ x = some_same z x (sym at ∙ ap (slice_get w.nodes) here.0 ∙ there) in
+            let same : z ≡ x = some_eq (sym at ∙ ap (slice_get w.nodes) here.0 ∙ there) in
             subst (λ (k : NodeWorld). MaySpell k l) (sym same) (subst (λ (j : List (List ℕ)). MaySpell x j) (sym here.1) back.1))
             (λ other. choice.each q z l (get_other w.nodes p y q other.0 ∙ at) other.1)
             (in_set lists p mine.0 back.0 q l mine.1 list_at);
       }
-        where
-          some_same : (a b : NodeWorld) → Some a ≡ Some b → a ≡ b
-          some_same a b h = cc
 
       restored : slice_set before p mine.0 ≡ lists
       restored = set_twice lists p back.0 mine.0 ∙ set_own lists p mine.0 mine.1

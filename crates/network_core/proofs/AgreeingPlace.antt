@@ -6,11 +6,11 @@ use Rattle.net_base.specs.declared.causes.Event.{Event}
 use Rattle.net_base.proofs.Lists.{map_set, map_twice}
 use Rattle.session_wire.specs.Sessions.{Sent}
 use Rattle.net_model.specs.Environment.{Environment}
-use Rattle.net_model.specs.State.{NodeState, Record, Effect, apply_effect, fresh, replay, replay_from}
+use Rattle.net_model.specs.State.{NodeState, Record, Effect, apply_effect, fresh, replay}
 use Rattle.net_model.specs.Steps.{node_step, next_cause}
-use Rattle.net_model.specs.Runs.{IsLocalFrom, IsItem, IsMatched, accepts, stamped, item_for}
+use Rattle.net_model.specs.Runs.{IsItem, IsMatched, accepts, stamped, item_for}
 use Rattle.net_model.proofs.Effects.{effect_bare, effect_accepts, step_taken, step_is_its_effect}
-use Rattle.net_model.proofs.Commits.{commits_keep_matched}
+use Rattle.net_model.proofs.Commits.{commits_keep_matched, local_more}
 use Rattle.node_tables.specs.Journals.{records_of, state_of}
 use Rattle.node_tables.proofs.Runs.{records_push}
 use Rattle.node_core.specs.Seen.{Pends}
@@ -25,12 +25,6 @@ pub record Takes {F : Type 0} (item : Option Sent) (effect : Effect F) : Type 0 
 module _ {F : Type 0} (e : Environment F) (p : ℕ) where
   abbrev state : List (List ℕ) → NodeState F
   state bodies = state_of e.frame_at bodies
-
-  local_push : (s : NodeState F) (rs : List (Record F)) (r : Record F) (stamp : ℕ) (next : NodeState F) → IsLocalFrom e p s rs → node_step e p (replay_from s rs) r.cause (stamped stamp r.effect.change.came) ≡ Some (next, r.effect) → IsLocalFrom e p s (rs ++ r ∷ [])
-  local_push s [] r stamp next local step = (stamp, next, step, tt)
-  local_push s (x ∷ xs) r stamp next (n, after, here, rest) step =
-      let same : after ≡ apply_effect s x.cause x.effect = step_is_its_effect e p s after x.cause (stamped n x.effect.change.came) x.effect here in
-      (n, after, here, local_push after xs r stamp next rest (subst (λ (z : NodeState F). node_step e p (replay_from z xs) r.cause (stamped stamp r.effect.change.came) ≡ Some (next, r.effect)) (sym same) step))
 
   moment_at : (s next : NodeState F) (cause : Cause) (effect : Effect F) (now : ℕ) → next ≡ apply_effect s cause effect → cause.moment.0 ≡ now → next.moment ≤ now
   unfolding apply_effect
@@ -72,7 +66,7 @@ module _ {F : Type 0} (e : Environment F) (p : ℕ) where
     sound_push fits sound =
         let takes = takes_of item refl fits in
         let step : node_step e p (state bodies) cause (stamped takes.stamp pends.effect.change.came) ≡ Some (state (bodies ++ body ∷ []), pends.effect) = rw takes.is pends.step in
-        let local = local_push fresh (records_of e.frame_at bodies) added takes.stamp (state (bodies ++ body ∷ [])) sound.local step in
+        let local = local_more e p fresh (state (bodies ++ body ∷ [])) (records_of e.frame_at bodies) added takes.stamp sound.local step in
         record {
           local = rw pushed local;
           whole = ap length pushed ∙ length-append (records_of e.frame_at bodies) (added ∷ []) ∙ ap (λ n. n + 1) sound.whole ∙ sym (length-append bodies (body ∷ []));

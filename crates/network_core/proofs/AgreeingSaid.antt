@@ -1,7 +1,7 @@
 -- What is said of a frame that waits.
 use Rattle.std.proofs.Common.{◌≡◌, ℕ, zero, suc, ◌+◌, ◌≤◌, ◌⊎◌, inl, inr, List, [], ◌∷◌, Option, Some, None, Bool, true, false, cond, not, ◌==◌, ◌&&◌, ◌||◌, max, nat_lt, is_none, length, slice_get, refl, sym, ap, subst, arith, eq-eqb, length-append}
 use Rattle.std.specs.Prelude.{⊤}
-use Rattle.std.proofs.lemmas.Bool.{and_parts, or_parts, not-false, eqb-true}
+use Rattle.std.proofs.lemmas.Bool.{and_parts, or_parts, not-false, eqb-true, cond_both}
 use Rattle.net_base.specs.declared.names.Identity.{Identity}
 use Rattle.net_base.specs.declared.names.Key.{Key}
 use Rattle.net_base.specs.declared.values.Party.{Party}
@@ -21,7 +21,6 @@ use Rattle.session_frames.specs.declared.judged.Judged.TheVariants.{Garbled, Not
 use Rattle.session_frames.specs.Items.{BeginsSession, GoesOn}
 use Rattle.session_frames.specs.Judging.{is_other, is_no_node, is_with, arrived, sent, lacks_session, or_else, judge}
 use Rattle.session_frames.specs.Sending.{addressee}
-use Rattle.session_frames.proofs.Further.{at_if}
 use Rattle.net_model.specs.State.{came_on}
 use Rattle.net_model.specs.Runs.{accepts}
 use Rattle.node_core.specs.Takes.{accepting}
@@ -49,16 +48,16 @@ module _ (node : Identity) (ss : List Session) where
       let o = session_of key ss in
       let f = Message from to key direction seq stamp body in
       let P : Option Judged → Type 0 = λ said. Says f (or_else said (Next from key direction seq stamp body)) in
-      at_if P (is_other to node.party) (Some (NotMine to)) _ (λ other. not_mine to other) (λ mine.
-      at_if P (is_no_node node.nodes from || lacks_session from direction o) (Some NoSession) _ (λ none. tt) (λ known.
-      at_if P (nat_lt seq (arrived o)) (Some (Again from key direction (arrived o))) _ (λ below. refl) (λ above.
-      at_if P (nat_lt (arrived o) seq) (Some (Early (arrived o))) None (λ early. tt) (λ at. (to, refl)))))
+      cond_both (is_other to node.party) (Some (NotMine to)) _ P (λ other. not_mine to other) (λ mine.
+      cond_both (is_no_node node.nodes from || lacks_session from direction o) (Some NoSession) _ P (λ none. tt) (λ known.
+      cond_both (nat_lt seq (arrived o)) (Some (Again from key direction (arrived o))) _ P (λ below. refl) (λ above.
+      cond_both (nat_lt (arrived o) seq) (Some (Early (arrived o))) None P (λ early. tt) (λ at. (to, refl)))))
   says (Ack from to key direction upto) =
       let o = session_of key ss in
       let P : Judged → Type 0 = Says (Ack from to key direction upto) in
-      at_if P (is_other to node.party) (NotMine to) _ (λ other. not_mine to other) (λ mine.
-      at_if P (is_no_node node.nodes from || not (is_with from o)) NoSession _ (λ none. tt) (λ known.
-      at_if P (nat_lt (sent o) upto) (Early (sent o)) (Acked key direction upto) (λ early. tt) (λ at. (from, to, refl, not-false _ (or_parts _ _ known).1))))
+      cond_both (is_other to node.party) (NotMine to) _ P (λ other. not_mine to other) (λ mine.
+      cond_both (is_no_node node.nodes from || not (is_with from o)) NoSession _ P (λ none. tt) (λ known.
+      cond_both (nat_lt (sent o) upto) (Early (sent o)) (Acked key direction upto) P (λ early. tt) (λ at. (from, to, refl, not-false _ (or_parts _ _ known).1))))
 
 -- ---- acknowledged numbers that are raised
 

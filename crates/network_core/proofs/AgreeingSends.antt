@@ -2,6 +2,7 @@
 use Rattle.std.proofs.Common.{◌≡◌, ℕ, suc, ◌+◌, inl, ⊎_elim, List, [], ◌∷◌, ◌++◌, Option, Some, None, Bool, true, false, cond, map, option_map, nat_le, slice_get, slice_set, refl, sym, ap, subst, ◌∙◌, arith, eq-eqb}
 use Rattle.std.specs.List.{AllByRecursion}
 use Rattle.std.proofs.lemmas.Option.{slice_get-map}
+use Rattle.std.proofs.lemmas.Bool.{cases_eq}
 use Rattle.net_base.specs.declared.values.Party.{Party}
 use Rattle.net_base.proofs.Lists.{all_append, all_kept, get_there, all_weaken, set_length, get_beside, get_other}
 use Rattle.net_base.proofs.Options.{some_eq}
@@ -20,7 +21,7 @@ use Rattle.network_core.specs.declared.steps.Outcome.{Outcome}
 use Rattle.network_core.specs.declared.steps.Outcome.TheVariants as outcome
 use Rattle.network_core.specs.Worlds.{NodeWorld, World, MaySpell, Choice, states_of, WaitsAt, Coherent}
 use Rattle.network_core.specs.Serves.{with_frame, sent_to, sent_once, sent_all, PostsFrom}
-use Rattle.network_core.proofs.AgreeingLists.{same_or_not, all_map}
+use Rattle.network_core.proofs.AgreeingLists.{all_map}
 use Rattle.network_core.proofs.AgreeingKeys.{sound_keys, found_by_key}
 use Rattle.network_core.proofs.AgreeingOnce.{goes_coherent}
 
@@ -66,7 +67,7 @@ module _ {F : Type 0} (e : Environment F) where
             let may : MaySpell (with_frame o.bytes x) l = choice.each q (with_frame o.bytes x) l (ap (slice_get (slice_set u.nodes o.to.0 (with_frame o.bytes x))) here ∙ get_there u.nodes o.to.0 x (with_frame o.bytes x) is) there in
             subst (λ (k : NodeWorld). MaySpell k l) same may)
             (λ other. choice.each q z l (get_other u.nodes o.to.0 (with_frame o.bytes x) q other ∙ at) there)
-            (same_or_not q o.to.0);
+            (cases_eq q o.to.0);
       }
 
   told_after : (u : World) (o next : Outgoing) → Told u next → Told (after u o) next

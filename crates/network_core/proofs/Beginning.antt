@@ -2,12 +2,12 @@
 use Rattle.std.proofs.Common.{◌≡◌, ◌⊎◌, inl, inr, ⊎_elim, ℕ, zero, suc, ◌+◌, ◌<◌, ◌≤◌, true, false, List, [], ◌∷◌, length, map, Option, Some, None, refl, sym, ◌∙◌, ap, subst, arith}
 use Rattle.std.specs.List.{slice_get, AllByRecursion}
 use Rattle.std.proofs.lemmas.Bool.{cases_lt, true≢false}
-use Rattle.std.proofs.lemmas.Option.{same_Some, none-some}
+use Rattle.std.proofs.lemmas.Option.{same_Some, none-some, slice_get_within}
 use Rattle.std.proofs.lemmas.List.{length-map}
 use Rattle.outside.specs.Disk.{DiskView, IsImage}
 use Rattle.net_base.specs.declared.names.Identity.{Identity}
 use Rattle.net_base.specs.declared.values.Party.{Party}
-use Rattle.net_base.proofs.Lists.{get_below, get_less, all_from_get, get_beside, get_map}
+use Rattle.net_base.proofs.Lists.{get_below, all_from_get, get_beside, get_map}
 use Rattle.flow_machine.specs.Machine.{Machine}
 use Rattle.disk_journal.specs.Journal.{journal_of}
 use Rattle.net_model.specs.Environment.{Environment, environment}
@@ -224,7 +224,7 @@ module _ {F : Type 0} (m : Machine F) (f : Reads F) (nodes : ℕ) (notary : Part
       let one = λ (p : ℕ) (k : NodeSeen) (x : NodeWorld) (i : slice_get net.nodes p ≡ Some k) (j : slice_get w.nodes p ≡ Some x).
       let there = get_beside net.nodes olds p k b.count i in
       let n = there.0 in
-      let below : p < length disks = omega (arith, get_less olds p n there.1, long) in
+      let below : p < length disks = omega (arith, slice_get_within olds p n there.1, long) in
       up_world e p n k x (shows.each p n x there.1 j) (over_down nodes notary 0 disks p n there.1) (empty_at now w shows p x j) (b.done p n k below there.1 i) in
       let all : Chosen Ups net.nodes w.nodes = choose Ups net.nodes w.nodes counts one in
       let v : World = record { nodes = all.cs; now = net.now } in
@@ -244,7 +244,7 @@ module _ {F : Type 0} (m : Machine F) (f : Reads F) (nodes : ℕ) (notary : Part
             let x = get_beside all.cs w.nodes p y all.count k in
             let n = get_beside w.nodes net.nodes p x.0 (sym counts) x.1 in
             let shown = all.each p n.0 x.0 y n.1 x.1 k in
-            latest_at n.0.journal y net.now shown.0.journal (ap (λ z. z.up) shown.1.after) (b.latest p (get_beside net.nodes olds p n.0 b.count n.1).0 n.0 (omega (arith, get_less net.nodes p n.0 n.1, b.count, long)) (get_beside net.nodes olds p n.0 b.count n.1).1 n.1);
+            latest_at n.0.journal y net.now shown.0.journal (ap (λ z. z.up) shown.1.after) (b.latest p (get_beside net.nodes olds p n.0 b.count n.1).0 n.0 (omega (arith, slice_get_within net.nodes p n.0 n.1, b.count, long)) (get_beside net.nodes olds p n.0 b.count n.1).1 n.1);
         reached = ⊎_elim (λ none. inl none) (λ (p, k, below, i, last). reached_at net v shows_now p k i last) b.reached;
       } in
       (v, shows_now, begun_coherent e w v coherent begun, begun)
@@ -377,4 +377,4 @@ pub all_by_last : {F : Type 0} (f : Reads F) (olds news : List NodeSeen) (now : 
 all_by_last f olds news now b =
     all_from_get (λ n. IsBy f n.journal now) news (λ p k at.
     let there = get_beside news olds p k b.count at in
-    b.latest p there.0 k (get_less olds p there.0 there.1) there.1 at)
+    b.latest p there.0 k (slice_get_within olds p there.0 there.1) there.1 at)

@@ -4,6 +4,7 @@ use Rattle.std.specs.List.{slice_get, AllByRecursion}
 use Rattle.std.specs.Option.{MatchOption}
 use Rattle.std.proofs.lemmas.Bool.{cases_lt, false_from_ne_true}
 use Rattle.std.proofs.lemmas.Option.{same_Some, none-some}
+use Rattle.network_core.proofs.Loops.{by_later, by_last}
 use Rattle.outside.specs.Disk.{DiskView, IsImage}
 use Rattle.outside.specs.Faults.{Rose}
 use Rattle.net_base.specs.declared.names.Identity.{Identity}
@@ -263,16 +264,8 @@ boot_world m f p old new result clock at id w shows coherent =
 
 -- ---- the moments of the nodes after a boot
 
-by_later : {F : Type 0} (f : Reads F) (journal : Option (List (List ℕ))) (now later : ℕ) → now ≤ later → IsBy f journal now → IsBy f journal later
-by_later f None now later le by = tt
-by_later f (Some b) now later le by = omega (arith, le, by)
-
 pub all_later : {F : Type 0} (f : Reads F) (ns : List NodeSeen) (now later : ℕ) → now ≤ later → AllByRecursion (λ n. IsBy f n.journal now) ns → AllByRecursion (λ n. IsBy f n.journal later) ns
 all_later f ns now later le all = all_weaken (λ n. IsBy f n.journal now) (λ n. IsBy f n.journal later) ns (λ n by. by_later f n.journal now later le by) all
-
-by_last : {F : Type 0} (f : Reads F) (journal : Option (List (List ℕ))) (last later : ℕ) → MatchOption journal (last ≡ 0) (λ b. last ≡ (state_of f b).moment) → last ≤ later → IsBy f journal later
-by_last f None last later is le = tt
-by_last f (Some b) last later is le = omega (arith, is, le)
 
 pub all_by : {F : Type 0} (f : Reads F) (ns : List NodeSeen) (i : ℕ) (k : NodeSeen) (now last later : ℕ) → AllByRecursion (λ n. IsBy f n.journal now) ns → MatchOption k.journal (last ≡ 0) (λ b. last ≡ (state_of f b).moment) → later ≡ max now last
     → AllByRecursion (λ n. IsBy f n.journal later) (slice_set ns i k)

@@ -2,7 +2,7 @@
 use Rattle.std.proofs.Common.{◌≡◌, inl, inr, ⊎_elim, ℕ, ◌<◌, Bool, true, false, List, length, map, slice_set, Option, Some, None, IsSome, IsErr, Result, Ok, Err, refl, sym, ◌∙◌, ap, subst, arith}
 use Rattle.std.specs.List.{slice_get}
 use Rattle.std.specs.Option.{option_map, option_to_list}
-use Rattle.std.proofs.lemmas.Option.{MatchOption-at_some, same_Some, none-some}
+use Rattle.std.proofs.lemmas.Option.{MatchOption-at_some, same_Some, none-some, slice_get-map}
 use Rattle.net_base.specs.declared.names.Identity.{Identity}
 use Rattle.net_base.proofs.Lists.{get_below, map_set, set_length, set_own, get_beside}
 use Rattle.session_table.specs.Tables.{unacked}
@@ -21,7 +21,7 @@ use Rattle.network_core.specs.Worlds.{NodeWorld, World, NetSeen, ShowsJournal, N
 use Rattle.network_core.specs.Answers.{said, take_sent, mailed, count_fresh, parted, Posting, PostServes, Handed, Handing, HandServes, TakeServes, reached, replied}
 use Rattle.network_core.specs.Serves.{WorldPosts, PostsFrom, WorldTakes, WorldHands, handed_over, waits_on, without, sent_all, count_new}
 use Rattle.network_core.proofs.Agreeing.{post_coherent, hand_coherent, never_garbled}
-use Rattle.network_core.proofs.Mailing.{waits_in, map_set_same, get_map_is, sent_all_waits, sent_all_length, sent_all_get, count_is}
+use Rattle.network_core.proofs.Mailing.{waits_in, map_set_same, sent_all_waits, sent_all_length, sent_all_get, count_is}
 use Rattle.network_core.proofs.Placing.{get_set_both}
 use Rattle.network_core.proofs.Places.{shows_but}
 use Rattle.network_core.proofs.Served.{takes}
@@ -153,7 +153,7 @@ hand_world m f repeated p i old new result (inl (past, is, same)) id w shows coh
     (w, subst (λ (z : NetSeen). Shows (environment m f id) z w) (sym same) shows, coherent, inl (omega (arith, past, shows.count), is, refl))
 hand_world m f repeated p i old new result (inr (n, frames, at, waiting, handing)) id w shows coherent =
     let found = get_beside old.nodes w.nodes p n (sym shows.count) at in
-    let there : slice_get (waits_in w.nodes) p ≡ Some found.0.waiting = get_map_is (λ (z : NodeWorld). z.waiting) w.nodes p ∙ ap (option_map (λ (z : NodeWorld). z.waiting)) found.1 in
+    let there : slice_get (waits_in w.nodes) p ≡ Some found.0.waiting = slice_get-map (λ (z : NodeWorld). z.waiting) w.nodes p ∙ ap (option_map (λ (z : NodeWorld). z.waiting)) found.1 in
     let waits : found.0.waiting ≡ frames = same_Some _ _ (sym there ∙ ap (λ l. slice_get l p) shows.waiting ∙ waiting) in
     hand_any m f id repeated p i old new w shows coherent n found.0 frames (shows.each p n found.0 at found.1) at found.1 waits (said result) handing
 
@@ -249,7 +249,7 @@ module _ {F : Type 0} (m : Machine F) (f : Reads F) (repeated : Bool) (place at 
       )
 
 pub list_there : {W : Type 0} (g : W → List (List ℕ)) (items : List W) (p : ℕ) (a : W) (frames : List (List ℕ)) → slice_get items p ≡ Some a → slice_get (map g items) p ≡ Some frames → g a ≡ frames
-list_there g items p a frames at there = same_Some _ _ (sym (get_map_is g items p ∙ ap (option_map g) at) ∙ there)
+list_there g items p a frames at there = same_Some _ _ (sym (slice_get-map g items p ∙ ap (option_map g) at) ∙ there)
 
 pub got_some : {X Y : Type 0} (g : X → Y) (o : Option X) (ys : List Y) (i : ℕ) → option_map g o ≡ slice_get ys i → i < length ys → IsSome o
 got_some g None ys i is lt = let found = get_below ys i lt in absurd (none-some _ (is ∙ found.1))

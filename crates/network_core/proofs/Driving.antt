@@ -195,6 +195,7 @@ module _ {F : Type 0} (m : Machine F) (f : Reads F) where
         (two.0, two.1, two.2, (drain_ends (world_steps e) w one.0 two.0 one.3 two.3, λ is. quiet e one.0 two.0 one.2 two.3));
     seen = drain_ends (net_steps m f) old mid new before.seen after.seen;
     clock = after.clock ∙ before.clock;
+    left = omega (arith, before.left, after.left);
     count = after.count ∙ before.count;
   }
 
@@ -206,5 +207,6 @@ module _ {F : Type 0} (m : Machine F) (f : Reads F) where
         (one.0, one.1, one.2, (one.3, λ is. absurd (other is)));
     seen = d.seen;
     clock = d.clock;
+    left = d.left;
     count = d.count;
   }

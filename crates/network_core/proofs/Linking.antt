@@ -1,18 +1,13 @@
 -- Steps, one after another.
-use Rattle.std.proofs.Common.{◌≡◌, ◌≤◌, length, arith, ℕ, zero, suc, take, drop, List, [], ◌∷◌, ◌++◌, Some, None, true, false, refl, ap, subst}
+use Rattle.std.proofs.Common.{◌≡◌, ◌≤◌, length, ℕ, zero, suc, take, drop, List, [], ◌∷◌, ◌++◌, Some, None, true, false, refl, ap, subst}
 use Rattle.std.specs.List.{slice_get}
+use Rattle.std.proofs.lemmas.List.{take_all}
 use Rattle.flow_machine.specs.Machine.{Machine}
 use Rattle.node_tables.specs.Journals.{Reads}
 use Rattle.network_core.specs.declared.steps.Outcome.{Outcome}
 use Rattle.network_core.specs.declared.steps.Step.{Step}
 use Rattle.network_core.specs.Worlds.{NetSeen, KeepsWorld}
 use Rattle.network_core.specs.Served.{Serve, Links, none, more, Follows}
-
-take_past : {X : Type 0} (xs : List X) (i : ℕ) → length xs ≤ i → take i xs ≡ xs
-take_past [] zero le = refl
-take_past [] (suc i) le = refl
-take_past (x ∷ xs) zero le = absurd (omega (arith, le))
-take_past (x ∷ xs) (suc i) le = ap (λ l. x ∷ l) (take_past xs i (omega (arith, le)))
 
 module _ {F : Type 0} (m : Machine F) (f : Reads F) where
   pub links_none : (net : NetSeen) (outcomes : List Outcome) → outcomes ≡ [] → KeepsWorld m f net net (λ e w v. Links e [] outcomes w v)
@@ -34,7 +29,7 @@ module _ {F : Type 0} (m : Machine F) (f : Reads F) where
 
   -- all steps
   pub links_all : (old new : NetSeen) (steps : List Step) (i : ℕ) (outcomes : List Outcome) → length steps ≤ i → KeepsWorld m f old new (λ e w v. Links e (take i steps) outcomes w v) → KeepsWorld m f old new (λ e w v. Follows e steps outcomes true w v)
-  links_all old new steps i outcomes le keeps = subst (λ (l : List Step). KeepsWorld m f old new (λ e w v. Links e l outcomes w v)) (take_past steps i le) keeps
+  links_all old new steps i outcomes le keeps = subst (λ (l : List Step). KeepsWorld m f old new (λ e w v. Links e l outcomes w v)) (take_all i steps le) keeps
 
 pub split_there : {X : Type 0} (xs : List X) (i : ℕ) (x : X) → slice_get xs i ≡ Some x → (xs ≡ take i xs ++ x ∷ drop (suc i) xs) × (take (suc i) xs ≡ take i xs ++ x ∷ [])
 split_there [] i x e = cc

@@ -1,12 +1,13 @@
 -- The loops by which a network begins, and gives its disks back.
-use Rattle.std.proofs.Common.{◌≡◌, inl, inr, ⊎_elim, ℕ, zero, suc, ◌+◌, max, ◌<◌, ◌≤◌, List, [], ◌∷◌, ◌++◌, length, map, Option, Some, None, Result, Ok, Err, refl, sym, ◌∙◌, ap, subst, arith, slice_set}
+use Rattle.std.proofs.Common.{◌≡◌, inl, inr, ⊎_elim, ℕ, ◌+◌, max, ◌<◌, ◌≤◌, List, [], ◌∷◌, ◌++◌, length, map, Option, Some, None, Result, Ok, Err, refl, sym, ◌∙◌, ap, subst, arith, slice_set}
 use Rattle.std.specs.List.{slice_get, AllByRecursion}
 use Rattle.std.proofs.lemmas.Bool.{cases_lt}
-use Rattle.std.proofs.lemmas.Option.{same_Some}
+use Rattle.std.proofs.lemmas.Option.{same_Some, slice_get_within}
+use Rattle.network_core.proofs.Placing.{set_here, set_apart}
 use Rattle.outside.specs.Disk.{DiskView}
 use Rattle.net_base.specs.declared.values.Party.{Party}
 use Rattle.net_base.specs.declared.values.Moment.{Moment}
-use Rattle.net_base.proofs.Lists.{get_less, set_length, get_set}
+use Rattle.net_base.proofs.Lists.{set_length, get_there, get_other}
 use Rattle.node_core.specs.declared.faults.BootFault.{BootFault}
 use Rattle.node_tables.specs.Journals.{Reads}
 use Rattle.node_core.specs.Disks.{roomless}
@@ -35,6 +36,16 @@ map_push : {X Y : Type 0} (f : X → Y) (xs : List X) (x : X) (ys : List Y) → 
 map_push f [] x ys = refl
 map_push f (z ∷ xs) x ys = ap (λ l. f z ∷ l) (map_push f xs x ys)
 
+-- ---- moments
+
+pub by_later : {F : Type 0} (f : Reads F) (journal : Option (List (List ℕ))) (now later : ℕ) → now ≤ later → IsBy f journal now → IsBy f journal later
+by_later f None now later le by = tt
+by_later f (Some b) now later le by = omega (arith, le, by)
+
+pub by_last : {F : Type 0} (f : Reads F) (journal : Option (List (List ℕ))) (last later : ℕ) → IsLast f journal last → last ≤ later → IsBy f journal later
+by_last f None last later is le = tt
+by_last f (Some b) last later is le = omega (arith, is, le)
+
 -- ---- boots in order
 
 module _ {F : Type 0} (f : Reads F) (old : List NodeSeen) where
@@ -47,35 +58,6 @@ module _ {F : Type 0} (f : Reads F) (old : List NodeSeen) where
     reached = inl refl;
   }
 
-  by_later : (journal : Option (List (List ℕ))) (now later : ℕ) → now ≤ later → IsBy f journal now → IsBy f journal later
-  by_later None now later le by = tt
-  by_later (Some b) now later le by = omega (arith, le, by)
-
-  by_last : (journal : Option (List (List ℕ))) (last later : ℕ) → IsLast f journal last → last ≤ later → IsBy f journal later
-  by_last None last later is le = tt
-  by_last (Some b) last later is le = omega (arith, is, le)
-
-  -- the node at a place of a list in which one place was set
-  set_here : (xs : List NodeSeen) (i : ℕ) (k n : NodeSeen) → slice_get (slice_set xs i k) i ≡ Some n → n ≡ k
-  set_here [] i k n at = cc
-  set_here (x ∷ xs) zero k n at = cc
-  set_here (x ∷ xs) (suc i) k n at = set_here xs i k n at
-
-  set_other : (xs : List NodeSeen) (i q : ℕ) (k n : NodeSeen) → (q ≡ i → ⊥) → slice_get (slice_set xs i k) q ≡ Some n → slice_get xs q ≡ Some n
-  set_other xs i q k n other at = ⊎_elim (λ s. absurd (other s.0)) (λ s. s) (get_set xs i k q n at)
-
-  set_get : (xs : List NodeSeen) (i q : ℕ) (k n : NodeSeen) → (q ≡ i → ⊥) → slice_get xs q ≡ Some n → slice_get (slice_set xs i k) q ≡ Some n
-  set_get [] i q k n other at = at
-  set_get (x ∷ xs) zero zero k n other at = absurd (other refl)
-  set_get (x ∷ xs) zero (suc q) k n other at = at
-  set_get (x ∷ xs) (suc i) zero k n other at = at
-  set_get (x ∷ xs) (suc i) (suc q) k n other at = set_get xs i q k n (λ s. other (ap suc s)) at
-
-  set_at : (xs : List NodeSeen) (i : ℕ) (k n : NodeSeen) → slice_get xs i ≡ Some n → slice_get (slice_set xs i k) i ≡ Some k
-  set_at [] i k n at = cc
-  set_at (x ∷ xs) zero k n at = refl
-  set_at (x ∷ xs) (suc i) k n at = set_at xs i k n at
-
   -- the place of a node that wasn't booted yet
   pub boots_same : (place now : ℕ) (cur : List NodeSeen) (n k : NodeSeen) → BootsUpTo f place now old cur → slice_get old place ≡ Some n → slice_get cur place ≡ Some k → k ≡ n
   boots_same place now cur n k b i j = b.rest place n k (omega arith) i j
@@ -87,25 +69,25 @@ module _ {F : Type 0} (f : Reads F) (old : List NodeSeen) where
       record {
         count = set_length cur place k ∙ b.count;
         done = λ p a c lt i j. ⊎_elim
-            (λ below. b.done p a c below i (set_other cur place p k c (λ s. absurd (omega (arith, s, below))) j))
+            (λ below. b.done p a c below i (set_apart cur place p k c (λ s. absurd (omega (arith, s, below))) j))
             (λ above. let here : p ≡ place = omega (arith, above, lt) in
             let mine : c ≡ k = set_here cur place k c (subst (λ (q : ℕ). slice_get (slice_set cur place k) q ≡ Some c) here j) in
             let first : n ≡ a = b.rest place a n (omega arith) (subst (λ (q : ℕ). slice_get old q ≡ Some a) here i) at in
             rw (mine, ← first) up)
             (cases_lt p place);
-        rest = λ p a c le i j. b.rest p a c (omega (arith, le)) i (set_other cur place p k c (λ s. absurd (omega (arith, s, le))) j);
+        rest = λ p a c le i j. b.rest p a c (omega (arith, le)) i (set_apart cur place p k c (λ s. absurd (omega (arith, s, le))) j);
         latest = λ p a c lt i j. ⊎_elim
-            (λ below. by_later c.journal now later (omega (arith, raised)) (b.latest p a c below i (set_other cur place p k c (λ s. absurd (omega (arith, s, below))) j)))
+            (λ below. by_later f c.journal now later (omega (arith, raised)) (b.latest p a c below i (set_apart cur place p k c (λ s. absurd (omega (arith, s, below))) j)))
             (λ above. let here : p ≡ place = omega (arith, above, lt) in
             let mine : c ≡ k = set_here cur place k c (subst (λ (q : ℕ). slice_get (slice_set cur place k) q ≡ Some c) here j) in
-            rw mine (by_last k.journal last later known (omega (arith, raised))))
+            rw mine (by_last f k.journal last later known (omega (arith, raised))))
             (cases_lt p place);
         reached = ⊎_elim
-            (λ less. inr (place, k, omega arith, set_at cur place k n at, subst (λ (t : ℕ). IsLast f k.journal t) (omega (arith, raised, less)) known))
+            (λ less. inr (place, k, omega arith, get_there cur place n k at, subst (λ (t : ℕ). IsLast f k.journal t) (omega (arith, raised, less)) known))
             (λ le. let same : now ≡ later = omega (arith, raised, le) in
             ⊎_elim
             (λ none. inl (sym same ∙ none))
-            (λ (p, c, below, i, was). inr (p, c, omega (arith, below), set_get cur place p k c (λ s. absurd (omega (arith, s, below))) i, subst (λ (t : ℕ). IsLast f c.journal t) same was))
+            (λ (p, c, below, i, was). inr (p, c, omega (arith, below), get_other cur place k p (λ s. absurd (omega (arith, s, below))) ∙ i, subst (λ (t : ℕ). IsLast f c.journal t) same was))
             b.reached)
             (cases_lt now last);
       }
@@ -117,21 +99,21 @@ module _ {F : Type 0} (f : Reads F) (old : List NodeSeen) where
       record {
         count = set_length cur place k ∙ b.count;
         within = within;
-        done = λ p a c lt i j. b.done p a c lt i (set_other cur place p k c (λ s. absurd (omega (arith, s, lt))) j);
+        done = λ p a c lt i j. b.done p a c lt i (set_apart cur place p k c (λ s. absurd (omega (arith, s, lt))) j);
         refused = λ a c i j.
             let mine : c ≡ k = set_here cur place k c j in
             let first : n ≡ a = b.rest place a n (omega arith) i at in
             rw (mine, ← first) no;
-        rest = λ p a c lt i j. b.rest p a c (omega (arith, lt)) i (set_other cur place p k c (λ s. absurd (omega (arith, s, lt))) j);
+        rest = λ p a c lt i j. b.rest p a c (omega (arith, lt)) i (set_apart cur place p k c (λ s. absurd (omega (arith, s, lt))) j);
       }
 
   pub boots_whole : (place now : ℕ) (cur : List NodeSeen) → length old ≤ place → BootsUpTo f place now old cur → BootsUpTo f (length old) now old cur
   boots_whole place now cur le b = record {
     count = b.count;
     done = λ p n k lt i j. b.done p n k (omega (arith, lt, le)) i j;
-    rest = λ p n k past i j. absurd (omega (arith, past, get_less old p n i));
+    rest = λ p n k past i j. absurd (omega (arith, past, slice_get_within old p n i));
     latest = λ p n k lt i j. b.latest p n k (omega (arith, lt, le)) i j;
-    reached = ⊎_elim (λ none. inl none) (λ (p, k, below, i, was). inr (p, k, omega (arith, b.count, get_less cur p k i), i, was)) b.reached;
+    reached = ⊎_elim (λ none. inl none) (λ (p, k, below, i, was). inr (p, k, omega (arith, b.count, slice_get_within cur p k i), i, was)) b.reached;
   }
 
 -- ---- frames that wait

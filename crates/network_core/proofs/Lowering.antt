@@ -2,6 +2,7 @@
 use Rattle.std.proofs.Common.{◌≡◌, ℕ, zero, suc, ◌+◌, ◌≤◌, inl, inr, ⊎_elim, List, [], ◌∷◌, ◌++◌, Option, Some, None, Bool, true, false, cond, nat_le, length, map, option_map, option_and_then, slice_get, slice_set, refl, sym, ap, subst, ◌∙◌, arith}
 use Rattle.std.specs.Prelude.{⊤}
 use Rattle.std.specs.Option.{option_or}
+use Rattle.net_model.proofs.Basics.{no_item}
 use Rattle.net_base.specs.declared.names.Key.{Key}
 use Rattle.net_base.specs.declared.values.Party.{Party}
 use Rattle.net_base.specs.declared.causes.Cause.{Cause}
@@ -78,13 +79,6 @@ accepts_no_start (event.Answer key) h = refl
 accepts_no_start (event.Arrive key direction number) h = refl
 accepts_no_start (event.Move flow) h = refl
 accepts_no_start (event.Lapse flow) h = refl
-
-no_item_for : {F : Type 0} (net : List (NodeState F)) (p : ℕ) (s : NodeState F) (ev : Event) → accepts ev ≡ false → item_for net p s ev ≡ None
-no_item_for net p s (event.Start flow class args) h = refl
-no_item_for net p s (event.Answer key) h = cc
-no_item_for net p s (event.Arrive key direction number) h = cc
-no_item_for net p s (event.Move flow) h = refl
-no_item_for net p s (event.Lapse flow) h = refl
 
 -- no event, or one that isn't a start
 abbrev NoStart : Option Event → Type 0
@@ -182,7 +176,7 @@ module _ {F : Type 0} (e : Environment F) (falls : Falls e.machine) (load : Load
     item_is y ev item send fit = by (accepts ev) refl
       where
         none : (o : Option Sent) → item ≡ o → accepts ev ≡ false → item_for net p here ev ≡ item
-        none None is other = no_item_for net p here ev other ∙ sym is
+        none None is other = no_item net p here ev other ∙ sym is
         none (Some i) is other = let yes = fit i is in cc
 
         by : (b : Bool) → accepts ev ≡ b → item_for net p here ev ≡ item

@@ -3,6 +3,7 @@ use Rattle.std.proofs.Common.{◌≡◌, ⊎_elim, ℕ, zero, suc, ◌+◌, Bool
 use Rattle.std.specs.List.{slice_get}
 use Rattle.std.specs.Option.{option_map}
 use Rattle.std.proofs.lemmas.List.{length-map}
+use Rattle.std.proofs.lemmas.Option.{slice_get-map}
 use Rattle.net_base.proofs.Lists.{map_set, set_length, get_set}
 use Rattle.session_frames.specs.declared.sending.Outgoing.{Outgoing}
 use Rattle.network_core.specs.Worlds.{NodeWorld}
@@ -19,17 +20,12 @@ map_set_same g [] i x y at same = cc
 map_set_same g (z ∷ xs) zero x y at same = let is : z ≡ x = cc in ap (λ a. a ∷ map g xs) (same ∙ ap g (sym is))
 map_set_same g (z ∷ xs) (suc i) x y at same = ap (λ l. g z ∷ l) (map_set_same g xs i x y at same)
 
-pub get_map_is : {X Y : Type 0} (g : X → Y) (xs : List X) (i : ℕ) → slice_get (map g xs) i ≡ option_map g (slice_get xs i)
-get_map_is g [] i = refl
-get_map_is g (x ∷ xs) zero = refl
-get_map_is g (x ∷ xs) (suc i) = get_map_is g xs i
-
 sent_to_waits : (o : Outgoing) (nodes : List NodeWorld) (r : Option NodeWorld) → waits_in (sent_to o nodes r) ≡ mailed_to o (waits_in nodes) (option_map (λ (x : NodeWorld). x.waiting) r)
 sent_to_waits o nodes None = refl
 sent_to_waits o nodes (Some x) = map_set (λ (z : NodeWorld). z.waiting) nodes o.to.0 (with_frame o.bytes x)
 
 sent_once_waits : (o : Outgoing) (nodes : List NodeWorld) → waits_in (sent_once o nodes) ≡ mailed_once o (waits_in nodes)
-sent_once_waits o nodes = sent_to_waits o nodes (slice_get nodes o.to.0) ∙ ap (mailed_to o (waits_in nodes)) (sym (get_map_is (λ (x : NodeWorld). x.waiting) nodes o.to.0))
+sent_once_waits o nodes = sent_to_waits o nodes (slice_get nodes o.to.0) ∙ ap (mailed_to o (waits_in nodes)) (sym (slice_get-map (λ (x : NodeWorld). x.waiting) nodes o.to.0))
 
 -- frames that are sent in a world are sent among those that wait
 pub sent_all_waits : (os : List Outgoing) (nodes : List NodeWorld) → waits_in (sent_all os nodes) ≡ mailed os (waits_in nodes)
@@ -44,7 +40,7 @@ new_is_fresh bytes (Some x) = refl
 pub count_is : (os : List Outgoing) (nodes : List NodeWorld) → count_new os nodes ≡ count_fresh os (waits_in nodes)
 count_is [] nodes = refl
 count_is (o ∷ os) nodes =
-    let one : new_at o.bytes (slice_get nodes o.to.0) ≡ fresh_at o.bytes (slice_get (waits_in nodes) o.to.0) = new_is_fresh o.bytes (slice_get nodes o.to.0) ∙ ap (fresh_at o.bytes) (sym (get_map_is (λ (x : NodeWorld). x.waiting) nodes o.to.0)) in
+    let one : new_at o.bytes (slice_get nodes o.to.0) ≡ fresh_at o.bytes (slice_get (waits_in nodes) o.to.0) = new_is_fresh o.bytes (slice_get nodes o.to.0) ∙ ap (fresh_at o.bytes) (sym (slice_get-map (λ (x : NodeWorld). x.waiting) nodes o.to.0)) in
     let rest : count_new os (sent_once o nodes) ≡ count_fresh os (mailed_once o (waits_in nodes)) = count_is os (sent_once o nodes) ∙ ap (count_fresh os) (sent_once_waits o nodes) in
     omega (arith, one, rest)
 
@@ -83,11 +79,11 @@ module _ {W : Type 0} (g : W → List (List ℕ)) (items : List W) (o : Outgoing
   -- a frame joins at its addressee
   pub joins_at : (a b : W) → slice_get items o.to.0 ≡ Some a → g b ≡ joined o.bytes (g a) → map g (slice_set items o.to.0 b) ≡ mailed_once o (map g items)
   joins_at a b at is =
-      let there : slice_get (map g items) o.to.0 ≡ Some (g a) = get_map_is g items o.to.0 ∙ ap (option_map g) at in
+      let there : slice_get (map g items) o.to.0 ≡ Some (g a) = slice_get-map g items o.to.0 ∙ ap (option_map g) at in
       map_set g items o.to.0 b ∙ ap (slice_set (map g items) o.to.0) is ∙ sym (ap (mailed_to o (map g items)) there)
 
   pub joins_none : slice_get items o.to.0 ≡ None → map g items ≡ mailed_once o (map g items)
-  joins_none none = sym (ap (mailed_to o (map g items)) (get_map_is g items o.to.0 ∙ ap (option_map g) none))
+  joins_none none = sym (ap (mailed_to o (map g items)) (slice_get-map g items o.to.0 ∙ ap (option_map g) none))
 
   abbrev one_if : Bool → ℕ
   one_if b = if b then 1 else 0
@@ -99,11 +95,11 @@ module _ {W : Type 0} (g : W → List (List ℕ)) (items : List W) (o : Outgoing
   -- and is new there, or not
   pub fresh_there : (a : W) (b : Bool) → slice_get items o.to.0 ≡ Some a → b ≡ not (is_waiting o.bytes (g a)) → ◌≡◌ {A = ℕ} (if b then 1 else 0) (fresh_at o.bytes (slice_get (map g items) o.to.0))
   fresh_there a b at is =
-      let there : slice_get (map g items) o.to.0 ≡ Some (g a) = get_map_is g items o.to.0 ∙ ap (option_map g) at in
+      let there : slice_get (map g items) o.to.0 ≡ Some (g a) = slice_get-map g items o.to.0 ∙ ap (option_map g) at in
       ap (λ (c : Bool). one_if c) is ∙ flip (is_waiting o.bytes (g a)) ∙ sym (ap (fresh_at o.bytes) there)
 
   pub fresh_nowhere : slice_get items o.to.0 ≡ None → 0 ≡ fresh_at o.bytes (slice_get (map g items) o.to.0)
-  fresh_nowhere none = sym (ap (fresh_at o.bytes) (get_map_is g items o.to.0 ∙ ap (option_map g) none))
+  fresh_nowhere none = sym (ap (fresh_at o.bytes) (slice_get-map g items o.to.0 ∙ ap (option_map g) none))
 
 -- the frame at a place of a node is taken away
 pub parts_at : {W : Type 0} (g : W → List (List ℕ)) (items : List W) (place at : ℕ) (a b : W) → slice_get items place ≡ Some a → g b ≡ without at (g a) → map g (slice_set items place b) ≡ parted false place at (g a) (map g items)

@@ -103,4 +103,5 @@ pub record Drains {F : Type 0} (m : Machine F) (frame_at : Reads F) (old : NetSe
   pub world : KeepsWorld m frame_at old new (λ e w v. WorldDrains e w o v)
   pub seen : DrainsTo (net_steps m frame_at) old o new
   pub clock : new.now ≡ old.now
+  pub left : room new ≤ room old
   pub count : length new.nodes ≡ length old.nodes

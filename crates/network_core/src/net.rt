@@ -275,7 +275,7 @@ impl<D: Bay, F: FlowSet> Net<D, F> {
     }
 
     /// Delivers at one node the frames that wait there, one after another, as long as it is up; or until one meets a full journal. A node
-    /// that takes a frame sends nothing to itself, so none waits in the end.
+    /// that takes a frame sends nothing to itself: so in a coherent world none waits in the end.
     fn deliveries_at(&mut self, alloc: Global, place: usize) -> Result<Turning, AllocError>
         requires { place < length self.old.nodes }
         ensures drives { Drives F.machine F.reading self.old self.new (λ W s w v. Turns result (DeliversAt s place) (HandStops s place) w v) }

@@ -1,9 +1,9 @@
 -- How a script goes on by a line, and that a story of networks is one of worlds.
 use Rattle.std.proofs.Common.{◌≡◌, inl, inr, ℕ, ◌+◌, ◌<◌, ◌≤◌, List, [], ◌∷◌, ◌++◌, length, Option, Bool, true, false, Result, Ok, Err, sym, ap, subst, ◌∙◌, append-nil}
 use Rattle.std.specs.Io.KnownBytes.{Consumes, IsAtEnd}
-use Rattle.outside.proofs.Pieces.{Keeps-same}
+use Rattle.std.proofs.KnownBytes.{Keeps-refl}
+use Rattle.std.proofs.lemmas.List.{nil_from_length}
 use Rattle.net_base.specs.declared.names.Identity.{Identity}
-use Rattle.net_base.proofs.Lists.{none_left}
 use Rattle.flow_machine.specs.Machine.{Machine}
 use Rattle.net_model.specs.Environment.{Environment, environment}
 use Rattle.node_tables.specs.Journals.{Reads}
@@ -29,20 +29,20 @@ module _ {W : Type 0} (link : W → List ℕ → List ℕ → W → Type 0) (sho
   -- the input ended behind a whole line
   pub last_empty : length line ≡ 0 → count ≤ 16777216 → IsAtEnd left1 → Progress link start left0 left1 written0 written1 count old line → ScriptRun link short start left0 left1 written0 written1 count old status.Finished
   last_empty none small end h =
-      let same : last_line line ≡ [] = ap last_line (none_left line none) in
+      let same : last_line line ≡ [] = ap last_line (nil_from_length line none) in
       let all : whole_lines h.lines ++ last_line line ≡ whole_lines h.lines = ap (λ l. whole_lines h.lines ++ l) same ∙ append-nil (whole_lines h.lines) in
-      run_finished h (Keeps-same left1) end small (subst (λ lines. Answered link start written0 written1 lines old) (sym all) h.answered)
+      run_finished h (Keeps-refl left1) end small (subst (λ lines. Answered link start written0 written1 lines old) (sym all) h.answered)
 
 module _ {W : Type 0} (link : W → List ℕ → List ℕ → W → Type 0) (short : W → List ℕ → W → Type 0) {start old : W} (new : W) {line : List ℕ} {left0 left1 written0 written1 : Option (List ℕ)} (written2 : Option (List ℕ)) {count : ℕ} where
   -- the input ended, and the line that it ended with was answered
   pub last_done : (quit : Bool) → AnswerComes link short old line written1 written2 (done quit) new → count ≤ 16777216 → IsAtEnd left1 → 0 < length line → Progress link start left0 left1 written0 written1 count old line
       → ScriptRun link short start left0 left1 written0 written2 count new status.Finished
-  last_done quit k small end some h = run_finished h (Keeps-same left1) end small (answered_more h.answered h.open_end k.1 k.2 (ap (λ l. whole_lines h.lines ++ l) (last_one line some)))
+  last_done quit k small end some h = run_finished h (Keeps-refl left1) end small (answered_more h.answered h.open_end k.1 k.2 (ap (λ l. whole_lines h.lines ++ l) (last_one line some)))
 
   -- the input ended, and the line that it ended with was not answered
   pub last_stopped : (why : Stop) → AnswerComes link short old line written1 written2 (stopped_by why) new → count ≤ 16777216 → IsAtEnd left1 → 0 < length line → Progress link start left0 left1 written0 written1 count old line
       → ScriptRun link short start left0 left1 written0 written2 count new (status_of why)
-  last_stopped why k small end some h = run_cut_at_end h why (Keeps-same left1) end small some k
+  last_stopped why k small end some h = run_cut_at_end h why (Keeps-refl left1) end small some k
 
   module _ (left2 : Option (List ℕ)) where
     -- a line was answered, and the script goes on

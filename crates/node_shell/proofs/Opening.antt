@@ -3,10 +3,10 @@ use Rattle.std.proofs.Common.{◌≡◌, ◌⊎◌, inl, inr, ⊎_elim, ℕ, tru
 use Rattle.std.specs.Prelude.{codes, decimal, None, ◌<◌, ◌≤◌}
 use Rattle.std.specs.List.{slice_get}
 use Rattle.std.proofs.lemmas.Option.{slice_get_within}
+use Rattle.std.proofs.lemmas.Bool.{cases_Bool}
 use Rattle.outside.specs.Disk.{DiskView, IfTold}
 use Rattle.disk_journal.specs.Journal.{journal_of, placed, is_unformatted, formatted, refusal}
 use Rattle.disk_journal.proofs.Fresh.{unformatted_short, short_spells, refusal_unformatted}
-use Rattle.disk_journal.proofs.Records.{is_true}
 use Rattle.disk_journal.specs.declared.fault.OpenFault.{OpenFault}
 use Rattle.disk_journal.specs.declared.fault.OpenFault.TheVariants as open_fault
 use Rattle.net_base.specs.declared.names.Identity.{Identity}
@@ -41,7 +41,7 @@ no_memory same = cc
 
 -- bytes that are refused are those of a journal that was begun and finished
 refused_begun : (id : Identity) (x : List ℕ) (why : OpenFault) → refusal id x ≡ Some why → is_unformatted x ≡ false
-refused_begun id x why is = by (is_true (is_unformatted x))
+refused_begun id x why is = by (cases_Bool (is_unformatted x))
   where
     by : (is_unformatted x ≡ true) ⊎ (is_unformatted x ≡ false) → is_unformatted x ≡ false
     by (inl young) = let none = refusal_unformatted id x young in cc
@@ -53,7 +53,7 @@ none_misfits f id = refl
 
 -- and so are those with a record that does not fit
 misfit_begun : {F : Type 0} (f : Reads F) (id : Identity) (x : List ℕ) (at : ℕ) → misfit f id.nodes id.party (placed 16 (journal_of x)) ≡ Some at → is_unformatted x ≡ false
-misfit_begun f id x at is = by (is_true (is_unformatted x))
+misfit_begun f id x at is = by (cases_Bool (is_unformatted x))
   where
     by : (is_unformatted x ≡ true) ⊎ (is_unformatted x ≡ false) → is_unformatted x ≡ false
     by (inl young) =

@@ -1,15 +1,15 @@
 -- How a run goes on by one byte, and how it ends.
 use Rattle.std.proofs.Common.{◌≡◌, ◌≢◌, ℕ, ◌+◌, ◌<◌, ◌≤◌, List, [], ◌∷◌, ◌++◌, length, Option, false, true, refl, sym, ap, subst, ◌∙◌, inl, inr, append-nil, length-append, arith}
-use Rattle.std.proofs.lemmas.List.{take_all}
+use Rattle.std.proofs.lemmas.List.{take_all, take_at}
 use Rattle.std.specs.Io.KnownBytes.{Appends, Consumes, Keeps, IsAtEnd}
-use Rattle.outside.proofs.Pieces.{Appends-nil, Appends-trans, Consumes-nil, Consumes-trans, Consumes-kept}
+use Rattle.std.proofs.KnownBytes.{Appends-nil, Appends-trans, Consumes-nil, Consumes-trans, Consumes-kept}
 use Rattle.node_shell.specs.declared.statuses.Status.{Status}
 use Rattle.node_shell.specs.declared.statuses.Status.TheVariants as status
 use Rattle.node_shell.specs.declared.session.Stop.{Stop}
 use Rattle.node_shell.specs.declared.session.Stop.TheVariants as stop
 use Rattle.shell_words.specs.Script.{AreLines, without_cr, whole_lines, last_line, is_quit}
 use Rattle.node_shell.specs.Story.{begins, goes_on, NoneQuits, Answered, all_lines, Progress, EndsWith, ScriptRun, StopsAs, status_of}
-use Rattle.shell_words.proofs.Splitting.{lines_none, lines_byte, lines_end, whole_more, last_one, take_known}
+use Rattle.shell_words.proofs.Splitting.{lines_none, lines_byte, lines_end, whole_more, last_one}
 
 none_push : (lines : List (List ℕ)) (line : List ℕ) → NoneQuits lines → is_quit line ≡ false → NoneQuits (lines ++ line ∷ [])
 none_push [] line none goes = (goes, tt)
@@ -97,7 +97,7 @@ module _ {W : Type 0} {link : W → List ℕ → List ℕ → W → Type 0} {sta
       rest = rest;
       consumed = Consumes-trans left0 left1 left2 _ _ r.consumed c;
       counted = omega (arith, length-append r.read (b ∷ []), r.counted);
-      split = subst (λ bytes. AreLines bytes r.lines rest) (sym (take_known 16777216 r.read (b ∷ []) (r.counted ∙ full))) r.split;
+      split = subst (λ bytes. AreLines bytes r.lines rest) (sym (take_at r.read (b ∷ []) 16777216 (r.counted ∙ full))) r.split;
       ends = (omega (arith, full), r.open_end, r.answered);
     }
 

@@ -9,7 +9,7 @@ use Rattle.net_base.specs.declared.causes.Cause.{Cause}
 use Rattle.net_base.specs.declared.causes.Event.{Event}
 use Rattle.net_base.specs.declared.causes.Event.TheVariants as event
 use Rattle.net_base.specs.Names.{IsKey}
-use Rattle.net_base.proofs.Lists.{all_weaken, all_push}
+use Rattle.net_base.proofs.Lists.{all_weaken, all_push, length_filter}
 use Rattle.net_base.proofs.Options.{some_eq}
 use Rattle.session_wire.specs.declared.body.Body.{Body}
 use Rattle.session_wire.specs.declared.body.Body.TheVariants as body_of
@@ -33,11 +33,6 @@ module _ {X : Type 0} (P : X → Bool) where
   filter_other : (xs : List X) (x : X) → P x ≡ false → length (filter P (xs ++ x ∷ [])) ≡ length (filter P xs)
   filter_other [] x h = rw h refl
   filter_other (y ∷ ys) x h = let k = filter_other ys x h in elim (P y) as (λ b. length (cond b (y ∷ filter P (ys ++ x ∷ [])) (filter P (ys ++ x ∷ []))) ≡ length (cond b (y ∷ filter P ys) (filter P ys))) [ true ↦ omega arith | false ↦ k ]
-
-  -- one more that does
-  filter_own : (xs : List X) (x : X) → P x ≡ true → length (filter P (xs ++ x ∷ [])) ≡ length (filter P xs) + 1
-  filter_own [] x h = rw h (omega arith)
-  filter_own (y ∷ ys) x h = let k = filter_own ys x h in elim (P y) as (λ b. length (cond b (y ∷ filter P (ys ++ x ∷ [])) (filter P (ys ++ x ∷ []))) ≡ length (cond b (y ∷ filter P ys) (filter P ys)) + 1) [ true ↦ omega arith | false ↦ k ]
 
   -- as many, where a change keeps who does
   filter_map : (change : X → X) → ((x : X) → P (change x) ≡ P x) → (xs : List X) → length (filter P (map change xs)) ≡ length (filter P xs)
@@ -146,7 +141,7 @@ came_owned w me s (event.Answer key) e m limits h more below all =
     x = new_session key key.initiator (flow_of e.flow) (option_to_list e.change.came)
 
     one_more : (f : ℕ) → length (sessions_of f s.sessions) ≡ 0 → (b : Bool) → is_owner f x.owner ≡ b → length (sessions_of f (s.sessions ++ x ∷ [])) ≤ 64
-    one_more f none true is = let one = filter_own (λ y. is_owner f y.owner) s.sessions x is in omega (arith, one, none)
+    one_more f none true is = let one = length_filter (λ y. is_owner f y.owner) s.sessions x is in omega (arith, one, none)
     one_more f none false is = let same = filter_other (λ y. is_owner f y.owner) s.sessions x is in omega (arith, same, none)
 
 opened_owned : {F : Type 0} (w : Environment F) (me : ℕ) (s : NodeState F) (owner : Option ℕ) (sent : List SentItem) (opened : Option (Key × Party)) (ss : List Session) (m : ℕ) → IfSome opened IsOpened → FitsOpened w me s (opened_on opened owner ss) owner sent opened → IfSome owner (λ f. f < m) → AreOwned m ss

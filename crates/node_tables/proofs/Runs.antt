@@ -4,12 +4,13 @@ use Rattle.std.specs.List.{AllByRecursion, list_all}
 use Rattle.std.specs.Option.{option_and_then, IfSome}
 use Rattle.std.proofs.lemmas.Bool.{ltb-true, ltb-false}
 use Rattle.std.proofs.lemmas.List.{append-nil, map-append}
+use Rattle.std.proofs.lemmas.Option.{slice_get_within}
 use Rattle.net_base.specs.declared.values.Party.{Party}
 use Rattle.net_base.specs.declared.names.Key.{Key}
 use Rattle.net_base.specs.declared.causes.Cause.{Cause}
 use Rattle.net_base.specs.declared.causes.Event.{Event}
 use Rattle.net_base.specs.declared.causes.Event.TheVariants as event
-use Rattle.net_base.proofs.Lists.{all_get, get_less, all_weaken, all_put}
+use Rattle.net_base.proofs.Lists.{all_get, all_weaken, all_put}
 use Rattle.session_wire.specs.Rules.{IsHeld}
 use Rattle.session_wire.specs.declared.body.Body.{Body}
 use Rattle.session_wire.specs.declared.body.Body.TheVariants as body_of
@@ -124,7 +125,7 @@ live_get flows f m None at is h all = cc
 live_get flows f m (Some (Live x)) at is h all =
     let same : x ≡ at = cc in
     let old = all_get (λ flow. steps_of flow ≤ m) flows f (Live x) all is in
-    (get_less flows f (Live x) is, subst (λ c. c.step ≤ m) same old)
+    (slice_get_within flows f (Live x) is, subst (λ c. c.step ≤ m) same old)
 live_get flows f m (Some (Ended step class value)) at is h all = cc
 live_get flows f m (Some (Failed step class code)) at is h all = cc
 

@@ -154,7 +154,3 @@ pub sync_kept : (d : DiskState) (at : ℕ) (bytes : List ℕ) → IsImage (writt
 sync_kept d at bytes image e (inl same) = inr (subst (λ (x : DiskState). IsImage (with_range d.now at (length bytes)) x.kept) (sym same) image)
 sync_kept d at bytes image e (inr (inl stays)) = inr stays.left
 sync_kept d at bytes image e (inr (inr lost)) = inr lost.left
-
-pub on_ok : {T E : Type 0} (r : Result T E) (P Q : Type 0) → (P → Q) → OnOk r P → OnOk r Q
-on_ok (Ok u) P Q to p = to p
-on_ok (Err u) P Q to p = tt

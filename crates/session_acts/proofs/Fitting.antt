@@ -1,13 +1,13 @@
 -- What is sent, accepted and taken fits the sessions.
-use Rattle.std.proofs.Common.{◌≡◌, ℕ, suc, ◌+◌, ⊎_elim, Bool, true, false, ◌==◌, not, nat_lt, List, [], ◌∷◌, Option, Some, None, refl, sym, ◌∙◌, ap, subst, cond, map, filter, length, slice_get, option_map, arith, eq-eqb, is_none}
+use Rattle.std.proofs.Common.{◌≡◌, ℕ, suc, ◌+◌, ⊎_elim, Bool, true, false, ◌==◌, not, nat_lt, List, [], ◌∷◌, Option, Some, None, refl, sym, ◌∙◌, ap, subst, cond, map, length, slice_get, option_map, arith, eq-eqb, is_none}
 use Rattle.std.specs.Prelude.{⊤, is_some}
 use Rattle.std.specs.List.{list_all, list_any}
 use Rattle.std.specs.Option.{option_and_then}
-use Rattle.std.proofs.lemmas.Bool.{and_parts, and_from, or_cases, or_parts, or_left, eqb-true, eqb-false, ltb-true, not-true, not_from_false, false_from_ne_true}
+use Rattle.std.proofs.lemmas.Bool.{and_parts, and_from, or_cases, or_parts, or_left, eqb-true, eqb-false, ltb-true, not-true, false_from_ne_true}
 use Rattle.net_base.specs.declared.names.Key.{Key}
 use Rattle.net_base.specs.declared.values.Party.{Party}
 use Rattle.net_base.proofs.Options.{none_of}
-use Rattle.net_base.proofs.Lists.{find_map, find_push, found_passes, none_filter}
+use Rattle.net_base.proofs.Lists.{find_map, find_push, found_passes}
 use Rattle.ledger_types.specs.declared.value.Value.{Value}
 use Rattle.session_wire.specs.declared.body.Body.{Body}
 use Rattle.session_wire.specs.declared.body.Body.TheVariants as body_of
@@ -15,9 +15,11 @@ use Rattle.session_wire.specs.declared.change.SentItem.{SentItem}
 use Rattle.session_wire.specs.Sessions.{Sent, Session, key_eq, session_of, changed_at, new_session, next_item, with_sent}
 use Rattle.session_wire.specs.Rules.{is_opened_by, is_no_peer, next_key, direction_out, is_owner, sessions_of, owned_by, owned, item_on, is_new_key, is_init, is_lawful, FitsSent, FitsTaken, Continues}
 use Rattle.session_wire.proofs.Keys.{key_same}
+use Rattle.session_wire.proofs.Items.{IsLate, late_error, late_end}
 use Rattle.session_table.specs.Changes.{IsFitting}
 use Rattle.session_table.specs.Tables.{item_there}
 use Rattle.net_model.specs.Fits.{is_counted, keys_differ}
+use Rattle.net_model.proofs.Fitting.{differ_filter}
 use Rattle.session_acts.specs.Parts.{is_last, AreSound}
 use Rattle.session_acts.proofs.Owning.{key_found, found_own, place_between}
 
@@ -63,16 +65,9 @@ opening_made me stamp nodes list f to class first number sent sound other e is =
 pub begun_at : (list : List Session) (key : Key) (s : Session) → list_all (λ session. not (length session.sent == 0)) list ≡ true → session_of key list ≡ Some s → (length s.sent == 0) ≡ false
 begun_at list key s begun h = not-true _ (found_passes (λ session. not (length session.sent == 0)) (λ x. key_eq key x.key) list s begun h)
 
--- a body that is lawful at each number but the first
-abbrev pub IsLate : Body → Type 0
-IsLate body = (d n : ℕ) → (n == 0) ≡ false → is_lawful d n body ≡ true
-
-pub late_data : (v : Value) → IsLate (body_of.Data v)
-late_data v d n h = rw h refl
-
 pub late_last : (body : Body) → is_last body ≡ true → IsLate body
-late_last (body_of.Error code) h = λ d n e. rw e refl
-late_last body_of.End h = λ d n e. rw e refl
+late_last (body_of.Error code) h = late_error code
+late_last body_of.End h = late_end
 late_last (body_of.Init class first) h = cc
 late_last body_of.Confirm h = cc
 late_last (body_of.Reject code) h = cc
@@ -134,19 +129,13 @@ lasts_fit me stamp list (s ∷ ss) body late differ h =
     let p = and_parts (not (list_any (λ other. key_eq s.key other.key) ss)) (keys_differ ss) differ in
     (continues me list s body late h.0.1 h.0.0, lasts_fit me stamp (changed_at s.key (with_sent (record { body = body; stamp = stamp })) list) ss body late p.1 (stand_apart list ss s.key (record { body = body; stamp = stamp }) (not-true _ p.0) h.1))
 
-differ_less : (P : Session → Bool) (xs : List Session) → keys_differ xs ≡ true → keys_differ (filter P xs) ≡ true
-differ_less P [] h = refl
-differ_less P (x ∷ xs) h =
-    let p = and_parts (not (list_any (λ other. key_eq x.key other.key) xs)) (keys_differ xs) h in
-    (elim (P x) as (λ b. keys_differ (cond b (x ∷ filter P xs) (filter P xs)) ≡ true) [ true ↦ and_from _ _ (not_from_false _ (none_filter (λ other. key_eq x.key other.key) P xs (not-true _ p.0))) (differ_less P xs p.1) | false ↦ differ_less P xs p.1 ])
-
 -- the last items of a flow fit
 pub ending_fits : (me : Party) (stamp : ℕ) (list : List Session) (f : ℕ) (body : Body) → AreSound me list → is_last body ≡ true
     → IsFitting me stamp list (record { opened = None; owner = f; sent = map (λ s. item_on me s body) (sessions_of f list); came = None; came_key = None; taken = None })
 ending_fits me stamp list f body sound last = record {
   came = tt;
   opened = tt;
-  sent = lasts_fit me stamp list (sessions_of f list) body (late_last body last) (differ_less (λ s. is_owner f s.owner) list sound.keys)
+  sent = lasts_fit me stamp list (sessions_of f list) body (late_last body last) (differ_filter (λ s. is_owner f s.owner) list sound.keys)
       (stand_each list (sessions_of f list) (λ n s k. let own = found_own (λ x. is_owner f x.owner) list n s sound.keys k in (own, begun_at list s.key s sound.begun own)));
   taken = tt;
 }

@@ -1,5 +1,5 @@
 -- The sessions that a flow owns, and the items that are there.
-use Rattle.std.proofs.Common.{◌≡◌, ℕ, zero, suc, ◌+◌, ◌<◌, ◌≤◌, ◌⊎◌, ⊎_elim, inl, inr, Bool, true, false, not, List, [], ◌∷◌, ◌++◌, Option, Some, None, refl, sym, ◌∙◌, ap, subst, cond, map, filter, find, drop, length, slice_get, option_map, arith, nat_le}
+use Rattle.std.proofs.Common.{◌≡◌, ℕ, zero, suc, ◌+◌, ◌<◌, ◌≤◌, ◌⊎◌, ⊎_elim, Bool, true, false, not, List, [], ◌∷◌, ◌++◌, Option, Some, None, refl, sym, ◌∙◌, ap, subst, cond, map, filter, find, drop, length, slice_get, option_map, arith, nat_le}
 use Rattle.std.specs.Prelude.{is_some}
 use Rattle.std.specs.List.{list_any}
 use Rattle.std.specs.Option.{option_and_then}
@@ -11,9 +11,10 @@ use Rattle.net_base.proofs.Lists.{find_test, drop_get}
 use Rattle.flow_machine.specs.declared.acts.Resumed.{Resumed}
 use Rattle.session_wire.specs.declared.body.Body.{Body}
 use Rattle.session_wire.specs.declared.change.SentItem.{SentItem}
-use Rattle.session_wire.specs.Sessions.{Session, key_eq, session_of, next_item, first_item, is_confirm}
+use Rattle.session_wire.specs.Sessions.{Session, key_eq, session_of, next_item, first_item}
 use Rattle.session_wire.specs.Rules.{is_owner, sessions_of, owned_by, owned}
 use Rattle.session_wire.proofs.Keys.{key_exact, key_same}
+use Rattle.session_wire.proofs.Items.{found_between}
 use Rattle.session_table.specs.Tables.{item_there, of_flow}
 use Rattle.net_model.specs.State.{nothing}
 use Rattle.net_model.specs.Steps.{Done, handed, takes, receives}
@@ -43,26 +44,6 @@ mapped_there f None = refl
 mapped_there f (Some x) = refl
 
 -- ---- what is received
-
--- the number of a found item
-pub first_between : (n : ℕ) (bodies : List Body) (found : ℕ × Body) → first_item n bodies ≡ Some found → (n ≤ found.0) × (found.0 < n + length bodies)
-first_between n [] found h = cc
-first_between n (body ∷ bodies) found h =
-    (elim (is_confirm body) as (λ b. cond b (first_item (n + 1) bodies) (Some (n, body)) ≡ Some found → (n ≤ found.0) × (found.0 < n + length (body ∷ bodies))) [
-      | true ↦ λ k. let p = first_between (n + 1) bodies found k in let q = p.0 in let r = p.1 in (omega arith, omega arith)
-      | false ↦ λ k. let one : (n, body) ≡ found = cc k in let e : n ≡ found.0 = ap (λ (x : ℕ × Body). x.0) one in (omega arith, omega arith)
-    ]) h
-
-length_dropped : {X : Type 0} (n : ℕ) (xs : List X) → (n + length (drop n xs) ≤ length xs) ⊎ (drop n xs ≡ [])
-length_dropped zero xs = inl (omega arith)
-length_dropped (suc n) [] = inr refl
-length_dropped (suc n) (x ∷ xs) = ⊎_elim (λ k. inl (omega arith)) (λ k. inr k) (length_dropped n xs)
-
--- an item that is there is past those that were taken, and arrived
-pub found_between : (s : Session) (found : ℕ × Body) → first_item s.taken (drop s.taken s.came) ≡ Some found → (s.taken ≤ found.0) × (found.0 < length s.came)
-found_between s found h =
-    let p = first_between s.taken (drop s.taken s.came) found h in let q = p.0 in let r = p.1 in
-    ⊎_elim (λ k. (q, omega arith)) (λ k. let z : first_item s.taken [] ≡ Some found = rw k at h in cc) (length_dropped s.taken s.came)
 
 -- the number of the item that is there
 pub place_between : (s : Session) (ending : Option Body) (n : ℕ) → option_and_then (λ (found : Option ℕ × Body). found.0) (next_item s ending) ≡ Some n → (s.taken ≤ n) × (n < length s.came)

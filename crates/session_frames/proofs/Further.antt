@@ -1,7 +1,7 @@
 -- What holds of what was judged.
 use Rattle.std.proofs.Common.{◌≡◌, ◌≢◌, ◌⊎◌, inl, inr, ◌≤◌, ℕ, Bool, true, false, cond, not, ◌&&◌, ◌||◌, List, [], ◌∷◌, Option, Some, None, refl, ap, sym, subst, ◌∙◌, nat_eq, nat_lt, eq-eqb, length, arith}
 use Rattle.std.specs.List.{AllByRecursion}
-use Rattle.std.proofs.lemmas.Bool.{eqb-true, ne_eqb, ltb-true, ltb-false, or_parts, and_from, not-false, not_from_false}
+use Rattle.std.proofs.lemmas.Bool.{eqb-true, ne_eqb, ltb-true, ltb-false, or_parts, and_from, not-false, not_from_false, and_left, and_right, cond_both}
 use Rattle.net_base.specs.declared.names.Identity.{Identity}
 use Rattle.net_base.specs.declared.names.Key.{Key}
 use Rattle.net_base.specs.declared.values.Party.{Party}
@@ -20,11 +20,6 @@ use Rattle.session_frames.specs.Lawful.{IsAnswered, IsLawful, AreLawful}
 use Rattle.session_frames.specs.Items.{BeginsSession, GoesOn, IsOfSent, GoesFurther}
 use Rattle.session_frames.proofs.Routes.{IsRoute, side_of, differ_of, party_exact, incoming, acknowledged, answer_route}
 use Rattle.session_frames.proofs.Bodies.{lawful_at, no_init_at, init_first}
-
--- what holds of both cases of a test
-pub at_if : {A : Type 0} (P : A → Type 0) (b : Bool) (x y : A) → (b ≡ true → P x) → (b ≡ false → P y) → P (cond b x y)
-at_if P true x y f g = f refl
-at_if P false x y f g = g refl
 
 -- a frame that is not for another is for the node
 pub is_mine : (me to : Party) → is_other to me ≡ false → to.0 ≡ me.0
@@ -88,24 +83,17 @@ goes_on node sessions from to key direction number body s route lawful mine lack
     answer initiator = at.0.answered (subst (λ (k : Key). is_opened_by node.party k ≡ false) at.1 (other initiator))
 
     with_sender : nat_eq direction 1 ≡ true → is_with from (Some s) ≡ true
-    with_sender one = not-false _ (and_right (nat_eq direction 1) (not (is_with from (Some s))) one lacking)
+    with_sender one = not-false _ (other_false (nat_eq direction 1) (not (is_with from (Some s))) one lacking)
       where
-        and_right : (a b : Bool) → a ≡ true → (a && b) ≡ false → b ≡ false
-        and_right true b is lacks = lacks
-        and_right false b is lacks = absurd (cc is)
+        other_false : (a b : Bool) → a ≡ true → (a && b) ≡ false → b ≡ false
+        other_false true b is lacks = lacks
+        other_false false b is lacks = absurd (cc is)
 
     no_first : (nat_eq direction 0 && nat_eq number 0) ≡ false
     no_first = elim (side_of key direction from to route.1) [
-      | inl o ↦ second_false (nat_eq direction 0) (nat_eq number 0) (ne_eqb number 0 (λ e. absurd (omega (arith, e, next, (answer o.1).came))))
-      | inr o ↦ first_false (nat_eq direction 0) (nat_eq number 0) (ne_eqb direction 0 (λ e. absurd (omega (arith, e, o.0))))
+      | inl o ↦ and_right (nat_eq direction 0) (nat_eq number 0) (ne_eqb number 0 (λ e. absurd (omega (arith, e, next, (answer o.1).came))))
+      | inr o ↦ and_left (nat_eq direction 0) (nat_eq number 0) (ne_eqb direction 0 (λ e. absurd (omega (arith, e, o.0))))
     ]
-      where
-        second_false : (a b : Bool) → b ≡ false → (a && b) ≡ false
-        second_false true b is = is
-        second_false false b is = refl
-
-        first_false : (a b : Bool) → a ≡ false → (a && b) ≡ false
-        first_false a b is = rw is refl
 
 -- the next item of a message
 is_next_item : (node : Identity) (sessions : List Session) (from to : Party) (key : Key) (direction number : ℕ) (body : Body) → (o : Option Session) → session_of key sessions ≡ o → IsRoute from to key direction from to → IsBodyAt direction number body → to.0 ≡ node.party.0 → is_no_node node.nodes from ≡ false → lacks_session from direction o ≡ false → number ≡ arrived o → AreLawful node.party sessions
@@ -118,11 +106,11 @@ message_further : (node : Identity) (sessions : List Session) (from to : Party) 
 message_further node sessions from to key direction seq stamp body h answered =
     let o = session_of key sessions in
     let next = Next from key direction seq stamp body in
-    at_if P (is_other to node.party) (Some (NotMine to)) _ (λ _. tt) (λ other.
-    at_if P (is_no_node node.nodes from || lacks_session from direction o) (Some NoSession) _ (λ _. tt) (λ known.
-    at_if P (nat_lt seq (arrived o)) (Some (Again from key direction (arrived o))) _
+    cond_both (is_other to node.party) (Some (NotMine to)) _ P (λ _. tt) (λ other.
+    cond_both (is_no_node node.nodes from || lacks_session from direction o) (Some NoSession) _ P (λ _. tt) (λ known.
+    cond_both (nat_lt seq (arrived o)) (Some (Again from key direction (arrived o))) _ P
     (λ below fits. (let route = answer_route node.party from to key direction (h.0, h.1.0) (is_mine node.party to other) in (route.0, (route.1, (omega (arith, ltb-true seq (arrived o) below), fits)))))
-    (λ above. at_if P (nat_lt (arrived o) seq) (Some (Early (arrived o))) None (λ _. tt) (λ ahead.
+    (λ above. cond_both (nat_lt (arrived o) seq) (Some (Early (arrived o))) None P (λ _. tt) (λ ahead.
     let parts = or_parts (is_no_node node.nodes from) (lacks_session from direction o) known in
     let at_number : seq ≡ arrived o = omega (arith, ltb-false seq (arrived o) above, ltb-false (arrived o) seq ahead) in
     let mine = is_mine node.party to other in
@@ -140,9 +128,9 @@ message_further node sessions from to key direction seq stamp body h answered =
 ack_further : (node : Identity) (sessions : List Session) (from to : Party) (key : Key) (direction upto : ℕ) → IsFrame (Ack from to key direction upto) → GoesFurther node sessions (judge node sessions (Ack from to key direction upto))
 ack_further node sessions from to key direction upto h =
     let o = session_of key sessions in
-    at_if (GoesFurther node sessions) (is_other to node.party) (NotMine to) _ (λ _. tt) (λ other.
-    at_if (GoesFurther node sessions) (is_no_node node.nodes from || not (is_with from o)) NoSession _ (λ _. tt) (λ known.
-    at_if (GoesFurther node sessions) (nat_lt (sent o) upto) (Early (sent o)) (Acked key direction upto) (λ _. tt) (λ below.
+    cond_both (is_other to node.party) (NotMine to) _ (GoesFurther node sessions) (λ _. tt) (λ other.
+    cond_both (is_no_node node.nodes from || not (is_with from o)) NoSession _ (GoesFurther node sessions) (λ _. tt) (λ known.
+    cond_both (nat_lt (sent o) upto) (Early (sent o)) (Acked key direction upto) (GoesFurther node sessions) (λ _. tt) (λ below.
     of_session o refl (not-false _ (or_parts _ _ known).1) (ltb-false (sent o) upto below) (acknowledged node.party from to key direction (h.0, h.1.0) (is_mine node.party to other)))))
   where
     of_session : (o : Option Session) → session_of key sessions ≡ o → is_with from o ≡ true → upto ≤ sent o → direction ≡ direction_out node.party key → IsOfSent node.party sessions key direction upto

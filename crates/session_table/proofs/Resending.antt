@@ -1,5 +1,5 @@
 -- The items that aren't acknowledged.
-use Rattle.std.proofs.Common.{◌≡◌, ℕ, zero, suc, ◌+◌, ◌<◌, ◌≤◌, true, false, List, [], ◌∷◌, ◌++◌, Option, Some, None, Result, Ok, Err, OnOk, refl, sym, ◌∙◌, ap, map, filter, drop, length, slice_get, arith, nat_le, Bor}
+use Rattle.std.proofs.Common.{◌≡◌, ℕ, zero, suc, ◌+◌, ◌<◌, ◌≤◌, true, false, List, [], ◌∷◌, ◌++◌, Option, Some, None, refl, sym, ◌∙◌, ap, map, filter, drop, length, slice_get, arith, nat_le, Bor}
 use Rattle.std.proofs.lemmas.Bool.{le-leb, lt-leb}
 use Rattle.std.specs.Prelude.{zip, flat_map, IsSome, option_copied}
 use Rattle.std.proofs.lemmas.List.{append_assoc, length-map, drop_all}
@@ -76,8 +76,3 @@ appended {X} {V} f zs n p done after all at more before =
     ∙ ap (λ (m : ℕ). done ++ (f p ++ flat_map f (drop m zs))) up
     ∙ ap (λ (l : List X). done ++ flat_map f l) (sym (drop_get zs n p at))
     ∙ before
-
--- what follows where a call succeeds
-pub follows : {T E P Q : Type 0} (r : Result T E) → (P → Q) → OnOk r P → OnOk r Q
-follows (Ok v) f h = f h
-follows (Err e) f h = h

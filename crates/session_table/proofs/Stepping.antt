@@ -1,7 +1,7 @@
 -- What a step of the table makes of the sessions that contracts see.
 use Rattle.std.proofs.Common.{◌≡◌, ℕ, Bool, true, false, List, [], ◌∷◌, ◌++◌, Option, Some, None, refl, sym, ◌∙◌, ap, cond, map, length, slice_get, arith, is_some, option_map, true≢false, filter, ◌≤◌, ◌-◌, zero, suc}
 use Rattle.std.specs.Option.{option_and_then}
-use Rattle.std.proofs.lemmas.List.{length-map}
+use Rattle.std.proofs.lemmas.List.{append-nil, length-map, map_push, nil_from_length}
 use Rattle.std.specs.List.{list_all}
 use Rattle.std.specs.Map.{lookup, keys_of}
 use Rattle.net_base.specs.declared.names.Key.{Key}
@@ -50,14 +50,10 @@ list_came sent came lines after k n x v there rewrites =
     ap (map (session_at sent (came ++ (place_of k n, x) ∷ []))) (rewrites.found v there)
     ∙ written k (session_at sent came) (session_at sent (came ++ (place_of k n, x) ∷ [])) (with_came (x ∷ [])) (λ q. refl) other lines v (one_came v) rewrites.unique (sym there) mine
   where
-    append_nil : (xs : List Body) → xs ++ [] ≡ xs
-    append_nil [] = refl
-    append_nil (y ∷ ys) = ap (λ l. y ∷ l) (append_nil ys)
-
     other : (q : Key × Standing) → key_eq k q.0 ≡ false → session_at sent (came ++ (place_of k n, x) ∷ []) q ≡ session_at sent came q
     other q apart =
         let back : key_eq q.0 k ≡ false = flip (key_eq q.0 k) refl in
-        let items : items_of q.0 (came ++ (place_of k n, x) ∷ []) ≡ items_of q.0 came = items_more q.0 came (place_of k n) x ∙ rw back (append_nil (items_of q.0 came)) in
+        let items : items_of q.0 (came ++ (place_of k n, x) ∷ []) ≡ items_of q.0 came = items_more q.0 came (place_of k n) x ∙ rw back (append-nil (items_of q.0 came)) in
         λ i. record (session_at sent came q) { came = items i }
       where
         flip : (b : Bool) → key_eq q.0 k ≡ b → key_eq q.0 k ≡ false
@@ -77,18 +73,10 @@ list_sent sent came lines after k n x v there rewrites =
     ap (map (session_at (sent ++ (place_of k n, x) ∷ []) came)) (rewrites.found v there)
     ∙ written k (session_at sent came) (session_at (sent ++ (place_of k n, x) ∷ []) came) (with_sent (sent_of x)) (λ q. refl) other lines v (one_sent v) rewrites.unique (sym there) mine
   where
-    append_nil : (xs : List Posted) → xs ++ [] ≡ xs
-    append_nil [] = refl
-    append_nil (y ∷ ys) = ap (λ l. y ∷ l) (append_nil ys)
-
-    map_push : (xs : List Posted) → map sent_of (xs ++ x ∷ []) ≡ map sent_of xs ++ sent_of x ∷ []
-    map_push [] = refl
-    map_push (y ∷ ys) = ap (λ l. sent_of y ∷ l) (map_push ys)
-
     other : (q : Key × Standing) → key_eq k q.0 ≡ false → session_at (sent ++ (place_of k n, x) ∷ []) came q ≡ session_at sent came q
     other q apart =
         let back : key_eq q.0 k ≡ false = flip (key_eq q.0 k) refl in
-        let items : items_of q.0 (sent ++ (place_of k n, x) ∷ []) ≡ items_of q.0 sent = items_more q.0 sent (place_of k n) x ∙ rw back (append_nil (items_of q.0 sent)) in
+        let items : items_of q.0 (sent ++ (place_of k n, x) ∷ []) ≡ items_of q.0 sent = items_more q.0 sent (place_of k n) x ∙ rw back (append-nil (items_of q.0 sent)) in
         λ i. record (session_at sent came q) { sent = map sent_of (items i) }
       where
         flip : (b : Bool) → key_eq q.0 k ≡ b → key_eq q.0 k ≡ false
@@ -98,7 +86,7 @@ list_sent sent came lines after k n x v there rewrites =
     mine : session_at (sent ++ (place_of k n, x) ∷ []) came (k, one_sent v) ≡ with_sent (sent_of x) (session_at sent came (k, v))
     mine =
         let items : items_of k (sent ++ (place_of k n, x) ∷ []) ≡ items_of k sent ++ x ∷ [] = items_more k sent (place_of k n) x ∙ rw (key_same k) refl in
-        λ i. record (session_at sent came (k, v)) { sent = (ap (map sent_of) items ∙ map_push (items_of k sent)) i }
+        λ i. record (session_at sent came (k, v)) { sent = (ap (map sent_of) items ∙ map_push sent_of (items_of k sent) x) i }
 
 -- the numbers of what is acknowledged stay
 pub acks_set : (lines after : List (Key × Standing)) (k : Key) (change : Standing → Standing) (v : Standing) → ((v : Standing) → (change v).acked ≡ v.acked) → Some v ≡ lookup (key_eq k) lines → Rewrites k change lines after → map (λ e. e.1.acked) after ≡ map (λ e. e.1.acked) lines
@@ -122,15 +110,11 @@ list_begun sent came lines k w sent_counted came_counted new none_taken none_end
     push [] = refl
     push (e ∷ es) = ap (λ l. session_at sent came e ∷ l) (push es)
 
-    nothing : {V : Type 0} (xs : List V) → length xs ≡ 0 → xs ≡ []
-    nothing [] e = refl
-    nothing (x ∷ xs) e = absurd (omega (arith, e))
-
     none_sent : items_of k sent ≡ []
-    none_sent = nothing (items_of k sent) (sent_counted k ∙ rw new refl)
+    none_sent = nil_from_length (items_of k sent) (sent_counted k ∙ rw new refl)
 
     none_came : items_of k came ≡ []
-    none_came = nothing (items_of k came) (came_counted k ∙ rw new refl)
+    none_came = nil_from_length (items_of k came) (came_counted k ∙ rw new refl)
 
     made : session_at sent came (k, w) ≡ new_session k w.peer w.owner []
     made = λ i. record { key = k; peer = w.peer; owner = w.owner; sent = map sent_of (none_sent i); came = none_came i; taken = none_taken i; ending = none_ended i }

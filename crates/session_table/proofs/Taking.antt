@@ -1,5 +1,6 @@
 -- The first item that may be taken.
 use Rattle.std.proofs.Common.{◌≡◌, ℕ, zero, suc, ◌+◌, ◌<◌, ◌≤◌, true, false, List, [], ◌∷◌, Some, None, refl, ◌∙◌, ap, length, drop, slice_get, arith}
+use Rattle.std.proofs.lemmas.List.{drop_all}
 use Rattle.net_base.proofs.Lists.{drop_get}
 use Rattle.session_wire.specs.declared.body.Body.{Body}
 use Rattle.session_wire.specs.Sessions.{first_item, is_confirm}
@@ -14,13 +15,7 @@ at_confirm came n x e confirm = ap (first_item n) (drop_get came n x e) ∙ rw c
 
 -- behind the last there is none
 pub past_all : (came : List Body) (n : ℕ) → length came ≤ n → first_item n (drop n came) ≡ None
-past_all came n h = ap (first_item n) (none came n h)
-  where
-    none : (xs : List Body) (n : ℕ) → length xs ≤ n → drop n xs ≡ []
-    none [] zero h = refl
-    none [] (suc n) h = refl
-    none (x ∷ xs) zero h = absurd (omega (arith, h))
-    none (x ∷ xs) (suc n) h = none xs n (omega (arith, h))
+past_all came n h = ap (first_item n) (drop_all n came h)
 
 -- an item below the length is there
 pub not_past : (came : List Body) (n : ℕ) → n < length came → None ≡ slice_get came n → ⊥

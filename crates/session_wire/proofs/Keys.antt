@@ -1,6 +1,6 @@
 -- Keys of sessions that are told apart.
-use Rattle.std.proofs.Common.{◌≡◌, ℕ, true, refl, ◌∙◌, ap, eqb-true, eq-eqb}
-use Rattle.std.proofs.lemmas.Bool.{and_parts, and_from}
+use Rattle.std.proofs.Common.{◌≡◌, ℕ, true, false, refl, subst, ◌∙◌, ap, eqb-true, eq-eqb}
+use Rattle.std.proofs.lemmas.Bool.{and_parts, and_from, both_ways, false_from_ne_true}
 use Rattle.net_base.specs.declared.names.Key.{Key}
 use Rattle.session_wire.specs.Sessions.{key_eq}
 
@@ -13,3 +13,6 @@ key_exact a b h =
 
 pub key_same : (a : Key) → key_eq a a ≡ true
 key_same a = and_from _ _ (eq-eqb a.initiator.0 a.initiator.0 refl) (eq-eqb a.number a.number refl)
+
+pub key_turned : (a b : Key) → key_eq a b ≡ false → key_eq b a ≡ false
+key_turned a b h = false_from_ne_true _ (λ k. both_ways (key_eq a b) h (subst (λ (c : Key). key_eq c b ≡ true) (key_exact b a k) (key_same b)))

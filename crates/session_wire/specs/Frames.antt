@@ -3,7 +3,7 @@ use Rattle.std.proofs.Common.{◌≡◌, ◌≢◌, ◌⊎◌, inl, inr, ◌<◌
 use Rattle.std.specs.Prelude.{nat_eq, ◌||◌}
 use Rattle.std.specs.List.{list_any}
 use Rattle.std.specs.Int.{w32, w64}
-use Rattle.std.proofs.lemmas.Bool.{eqb-true, ne_eqb, or_right}
+use Rattle.std.proofs.lemmas.Bool.{eqb-true, ne_eqb, or_right, or_cases}
 use Rattle.net_base.specs.declared.values.Party.{Party}
 use Rattle.net_base.specs.Reading.{number}
 use Rattle.net_base.specs.Forms.{below_at, number_at}
@@ -131,10 +131,6 @@ route_laws first second =
     both_laws u32_laws (λ n hn. kind_laws (side first second f i) (side first second f i ∷ []) (rw (same_is (side first second f i)) refl)))))
 
 -- tests of one number or another
-or_cases : (a b : Bool) → (a || b) ≡ true → (a ≡ true) ⊎ (b ≡ true)
-or_cases true b e = inl refl
-or_cases false b e = inr e
-
 one_of_one : (n k : ℕ) → OneOf n (k ∷ []) → n ≡ k
 one_of_one n k h =
     elim (or_cases (nat_eq k n) false h) [

@@ -1,6 +1,5 @@
 -- The lines of bytes that grow by one.
-use Rattle.std.proofs.Common.{◌≡◌, ◌≢◌, ◌==◌, false, ℕ, zero, suc, ◌<◌, List, [], ◌∷◌, ◌++◌, length, take, refl, sym, ap, ◌∙◌, append_assoc, append-nil, All, arith}
-use Rattle.std.proofs.Math.Seq.{take-append_seam}
+use Rattle.std.proofs.Common.{◌≡◌, ◌≢◌, ◌==◌, false, ℕ, zero, suc, ◌<◌, List, [], ◌∷◌, ◌++◌, length, refl, sym, ap, ◌∙◌, append_assoc, append-nil, All, arith}
 use Rattle.std.proofs.lemmas.List.Elements.{All-append, All-nil, All-cons}
 use Rattle.std.proofs.lemmas.List.{map-append}
 use Rattle.std.proofs.lemmas.Grind.{flat_map-append}
@@ -39,10 +38,6 @@ whole_more lines rest = map-append without_cr lines (rest ∷ [])
 pub last_one : (rest : List ℕ) → 0 < length rest → last_line rest ≡ rest ∷ []
 last_one [] h = absurd (omega arith)
 last_one (b ∷ bs) h = refl
-
--- what a list of known length begins with
-pub take_known : (n : ℕ) (bytes more : List ℕ) → length bytes ≡ n → take n (bytes ++ more) ≡ bytes
-take_known n bytes more h = ap (λ k. take k (bytes ++ more)) (sym h) ∙ take-append_seam bytes more
 
 -- what isn't empty has a byte
 pub some_byte : (n : ℕ) → (n == 0) ≡ false → 0 < n

@@ -4,6 +4,7 @@ use Rattle.std.proofs.lemmas.Bool.{and_parts, and_from}
 use Rattle.std.proofs.lemmas.List.Folds.{list_any-append}
 use Rattle.std.specs.List.{list_all}
 use Rattle.std.specs.Map.{lookup}
+use Rattle.std.proofs.lemmas.Option.{none-some}
 use lib.Pointwise.{pointwise}
 use Rattle.net_base.specs.declared.values.Hash32.{Hash32}
 use Rattle.net_base.specs.declared.names.StateRef.{StateRef}
@@ -66,10 +67,7 @@ in_order_push first (q ∷ list) p h next =
 
 -- what a stored transaction depends on is stored
 pub dependencies_stored : (first list : List Recorded) (id : Hash32) (stx : SignedTx) → may_all_follow first list ≡ true → stored_of list id ≡ Some stx → has_dependencies (first ++ list) stx.tx ≡ true
-dependencies_stored first [] id stx h is = absurd (none_some is)
-  where
-    none_some : {X : Type 0} {x : X} → None ≡ Some x → ⊥
-    none_some e = true≢false (sym (ap is_some e))
+dependencies_stored first [] id stx h is = absurd (none-some stx is)
 dependencies_stored first (p ∷ ps) id stx h is =
     by (hash_eq id p.0) refl (λ found. subst (λ (l : List Recorded). has_dependencies l stx.tx ≡ true) (append_assoc first (p ∷ []) ps) (dependencies_stored (first ++ p ∷ []) ps id stx both.1 found))
   where

@@ -1,6 +1,7 @@
 -- States had one after the other.
-use Rattle.std.proofs.Common.{◌≡◌, add-one, zero, suc, ◌+◌, ◌<◌, length, take, get_or, slice_get, Ok, Err, arith, ℕ, Bool, true, false, List, [], ◌∷◌, ◌++◌, Option, Some, None, refl, sym, ◌∙◌, ap, true≢false, is_some, is_none, option_map}
-use Rattle.std.proofs.Math.Seq.{take-suc}
+use Rattle.std.proofs.Common.{◌≡◌, zero, suc, ◌+◌, ◌<◌, length, take, get_or, slice_get, Ok, Err, arith, ℕ, Bool, true, false, List, [], ◌∷◌, ◌++◌, Option, Some, None, refl, sym, ◌∙◌, ap, is_some, is_none, option_map}
+use Rattle.std.proofs.lemmas.Option.{none-some}
+use Rattle.std.proofs.lemmas.List.{take_more}
 use Rattle.net_base.specs.declared.values.Hash32.{Hash32}
 use Rattle.net_base.specs.declared.names.StateRef.{StateRef}
 use Rattle.ledger_types.specs.declared.state.TxState.{TxState}
@@ -13,13 +14,10 @@ use Rattle.tx_store.specs.declared.fault.ResolveFault.TheVariants.{Lacking, NoOu
 use Rattle.tx_store.specs.Faults.{fault_at, fault_of, value_or, state_or_fault}
 use Rattle.tx_store.proofs.Ordered.{lookup_is, lookup_some}
 
-none_some : {X : Type 0} {x : X} → None ≡ Some x → ⊥
-none_some e = true≢false (sym (ap is_some e))
-
 -- what joins a state to states, taken apart
 pub joined_parts : (s : Option TxState) (rest : Option (List TxState)) (all : List TxState) → joined s rest ≡ Some all → (state : TxState) × ((states : List TxState) × ((s ≡ Some state) × ((rest ≡ Some states) × (all ≡ state ∷ states))))
-joined_parts None rest all e = absurd (none_some e)
-joined_parts (Some s) None all e = absurd (none_some e)
+joined_parts None rest all e = absurd (none-some all e)
+joined_parts (Some s) None all e = absurd (none-some all e)
 joined_parts (Some s) (Some states) all e = (s, (states, (refl, (refl, cc e))))
 
 -- one more state
@@ -76,9 +74,6 @@ had_is None fault state e = absurd (err_ok e)
 had_is (Some s) fault state e = let same : s ≡ state = cc e in ap Some same
 
 -- one more of the list
-take_more : (refs : List StateRef) (i : ℕ) (d : StateRef) → i < length refs → take (i + 1) refs ≡ take i refs ++ get_or refs i d ∷ []
-take_more refs i d lt = ap (λ (n : ℕ). take n refs) (add-one i) ∙ take-suc refs i d lt
-
 pub states_more : (store : List (Hash32 × SignedTx)) (refs : List StateRef) (i : ℕ) (d : StateRef) (states : List TxState) (state : TxState) → i < length refs → states_of store (take i refs) ≡ Some states → state_or_fault store (get_or refs i d) ≡ Ok state → states_of store (take (i + 1) refs) ≡ Some (states ++ state ∷ [])
 states_more store refs i d states state lt had one =
     let r = get_or refs i d in
@@ -86,7 +81,7 @@ states_more store refs i d states state lt had one =
 
 -- a fault of the first list is the fault of both
 pub fault_first : (store : List (Hash32 × SignedTx)) (refs more : List StateRef) (e : ResolveFault) → fault_of store refs ≡ Some e → fault_of store (refs ++ more) ≡ Some e
-fault_first store [] more e is = absurd (none_some is)
+fault_first store [] more e is = absurd (none-some e is)
 fault_first store (q ∷ refs) more e is = by (is_none (state_of store q)) refl (λ rest. fault_first store refs more e rest)
   where
     by : (b : Bool) → is_none (state_of store q) ≡ b → (fault_of store refs ≡ Some e → fault_of store (refs ++ more) ≡ Some e) → fault_of store (q ∷ (refs ++ more)) ≡ Some e

@@ -1,5 +1,5 @@
 -- The coins that a reservation names are coins of the vault, each once.
-use Rattle.std.proofs.Common.{◌≡◌, ◌≤◌, ◌-◌, ◌==◌, ℕ, zero, suc, Bool, true, false, cond, ◌&&◌, List, [], ◌∷◌, Option, Some, None, Result, Ok, Err, IfOk, length, take, filter, option_map, refl, sym, ◌∙◌, ap, subst, arith, if◌then◌else◌}
+use Rattle.std.proofs.Common.{◌≡◌, ◌≤◌, ◌-◌, ◌==◌, ℕ, zero, suc, Bool, true, false, cond, ◌&&◌, List, [], ◌∷◌, Option, Some, None, Result, Ok, Err, IfOk, length, take, drop, filter, option_map, take-append-drop, refl, sym, ◌∙◌, ap, subst, arith, if◌then◌else◌}
 use Rattle.std.specs.List.{list_all, AllByRecursion}
 use Rattle.std.proofs.lemmas.Bool.{and_parts, and_from}
 use Rattle.std.proofs.lemmas.List.{length-take}
@@ -11,10 +11,10 @@ use Rattle.net_base.proofs.Lists.{all_take, all_kept}
 use Rattle.ledger_types.specs.declared.held.Held.{Held}
 use Rattle.ledger_types.specs.Names.{ref_eq, has_repeat}
 use Rattle.ledger_types.specs.Vaults.{is_coin_of, has_coin, cash_amount, coins_of, least_prefix, reserved, IsHeld}
+use Rattle.ledger_types.proofs.Once.{once_filter, once_front}
 use Rattle.ledger_types.proofs.Coins.{coins_there}
 use Rattle.vault.specs.declared.fault.ReserveFault.{ReserveFault}
 use Rattle.vault.specs.Holdings.{is_own, is_own_coin, references_of}
-use Rattle.vault.proofs.Distinct.{once_kept, once_front}
 
 -- some first ones of a list
 record Front (hs list : List Held) : Type 0 where
@@ -84,10 +84,13 @@ own_named me token amount states (Err e) own is = tt
 
 -- ---- each once
 
+once_taken : (n : ℕ) (states : List Held) → has_repeat ref_eq (references_of states) ≡ false → has_repeat ref_eq (references_of (take n states)) ≡ false
+once_taken n states once = once_front (take n states) (drop n states) (subst (λ (l : List Held). has_repeat ref_eq (references_of l) ≡ false) (sym (take-append-drop n states)) once)
+
 pub once_named : (token : Token) (amount : ℕ) (states : List Held) (r : Result (List Held) ReserveFault) → has_repeat ref_eq (references_of states) ≡ false → IfOk r (λ list. reserved token amount states ≡ Some list) → IfOk r (λ list. has_repeat ref_eq (references_of list) ≡ false)
 once_named token amount states (Ok list) once is =
     chosen_by (λ (l : List Held). has_repeat ref_eq (references_of l) ≡ false) token amount states list
-    (λ n. once_front n (take 64 (coins_of token states)) (once_front 64 (coins_of token states) (once_kept (is_coin_of token) states once))) is
+    (λ n. once_taken n (take 64 (coins_of token states)) (once_taken 64 (coins_of token states) (once_filter (is_coin_of token) states once))) is
 once_named token amount states (Err e) once is = tt
 
 -- ---- within their limits

@@ -8,7 +8,7 @@ use Rattle.net_base.specs.Values.{IsHash}
 use Rattle.net_base.specs.declared.values.Hash32.{Hash32}
 use Rattle.net_base.specs.declared.values.Party.{Party}
 use Rattle.net_base.specs.declared.names.StateRef.{StateRef}
-use Rattle.net_base.proofs.Lists.{all_append, all_kept}
+use Rattle.net_base.proofs.Lists.{all_append, all_kept, all_filter}
 use Rattle.ledger_types.specs.declared.state.TxState.{TxState}
 use Rattle.ledger_types.specs.declared.tx.Tx.{Tx}
 use Rattle.ledger_types.specs.declared.held.Held.{Held}
@@ -16,7 +16,6 @@ use Rattle.ledger_types.specs.States.{IsTxState}
 use Rattle.ledger_types.specs.Names.{has_ref}
 use Rattle.ledger_types.specs.Vaults.{is_relevant, outputs_from, IsHeld}
 use Rattle.vault.specs.Holdings.{is_own, AreHeld, held_after, locked_in, is_flow, freed_of}
-use Rattle.vault.proofs.Passing.{all_filter}
 
 -- ---- properties of all of a list
 

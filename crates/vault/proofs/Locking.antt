@@ -89,7 +89,7 @@ locked_less flow (l ∷ locks) r apart = let both = apart_parts l locks apart in
 
 -- ---- no reference is locked twice
 
-pub repeat_more : (xs ys : List StateRef) → has_repeat ref_eq xs ≡ false → has_repeat ref_eq ys ≡ false → ((r : StateRef) → has_ref r ys ≡ true → has_ref r xs ≡ false) → has_repeat ref_eq (xs ++ ys) ≡ false
+repeat_more : (xs ys : List StateRef) → has_repeat ref_eq xs ≡ false → has_repeat ref_eq ys ≡ false → ((r : StateRef) → has_ref r ys ≡ true → has_ref r xs ≡ false) → has_repeat ref_eq (xs ++ ys) ≡ false
 repeat_more [] ys p q apart = q
 repeat_more (x ∷ xs) ys p q apart =
     let both = or_parts (has_ref x xs) (has_repeat ref_eq xs) p in

@@ -1,7 +1,5 @@
 -- Tests over lists.
 use Rattle.std.proofs.Common.{◌≡◌, Bool, true, false, cond, ◌&&◌, List, [], ◌∷◌, map, filter, refl, sym, ◌∙◌, ap}
-use Rattle.std.specs.List.{list_all}
-use Rattle.std.proofs.lemmas.Bool.{and_parts, and_from}
 
 -- a filter of a filter is one filter by both tests
 pub filter_twice : {X : Type 0} (p s q : X → Bool) → ((x : X) → q x ≡ (p x && s x)) → (xs : List X) → filter q xs ≡ filter s (filter p xs)
@@ -25,14 +23,6 @@ filter_changed {X} p g keeps (x ∷ xs) = ap (λ b. cond b (g x ∷ filter p (ma
 pub map_same : {X Y : Type 0} (f g : X → Y) → ((x : X) → f x ≡ g x) → (xs : List X) → map f xs ≡ map g xs
 map_same f g same [] = refl
 map_same f g same (x ∷ xs) = λ i. same x i ∷ map_same f g same xs i
-
-pub all_filter : {X : Type 0} (test p : X → Bool) (xs : List X) → list_all test xs ≡ true → list_all test (filter p xs) ≡ true
-all_filter test p [] all = refl
-all_filter test p (x ∷ xs) all = let both = and_parts (test x) (list_all test xs) all in by both.0 (all_filter test p xs both.1) (p x)
-  where
-    by : test x ≡ true → list_all test (filter p xs) ≡ true → (b : Bool) → list_all test (cond b (x ∷ filter p xs) (filter p xs)) ≡ true
-    by here more true = and_from _ _ here more
-    by here more false = more
 
 pub true_or_false : {P : Type 0} (b : Bool) → (b ≡ true → P) → (b ≡ false → P) → P
 true_or_false true holds fails = holds refl

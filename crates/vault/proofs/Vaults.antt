@@ -7,10 +7,11 @@ use Rattle.std.proofs.lemmas.Simd.{map-map}
 use Rattle.std.proofs.lemmas.List.{map-append, append-nil}
 use Rattle.std.proofs.lemmas.List.Elements.{filter-append}
 use Rattle.std.proofs.lemmas.List.Folds.{list_any-append, list_all-append, list_all-map}
+use Rattle.net_base.proofs.Options.{none_of}
 use Rattle.net_base.specs.declared.values.Hash32.{Hash32}
 use Rattle.net_base.specs.declared.values.Party.{Party}
 use Rattle.net_base.specs.declared.names.StateRef.{StateRef}
-use Rattle.net_base.proofs.Lists.{none_filter, passes_weaken}
+use Rattle.net_base.proofs.Lists.{none_filter, passes_weaken, all_filter}
 use Rattle.ledger_types.specs.declared.state.TxState.{TxState}
 use Rattle.ledger_types.specs.declared.tx.Tx.{Tx}
 use Rattle.ledger_types.specs.declared.held.Held.{Held}
@@ -18,7 +19,7 @@ use Rattle.ledger_types.specs.Names.{hash_eq, ref_eq, has_ref, has_repeat}
 use Rattle.ledger_types.specs.Vaults.{Lock, is_relevant, locked_by, held, outputs_from, is_consumed, all_outputs, vault_of, is_cash, is_free, is_coin, has_coin, locks_of, released}
 use Rattle.ledger_types.proofs.Names.{ref_exact, hash_swapped}
 use Rattle.vault.specs.Holdings.{held_after, locked_in, is_flow, freed_of, is_noted, has_sources, may_note, are_apart, IsVault}
-use Rattle.vault.proofs.Passing.{filter_twice, filter_changed, map_same, all_filter, true_or_false}
+use Rattle.vault.proofs.Passing.{filter_twice, filter_changed, map_same, true_or_false}
 use Rattle.vault.proofs.Distinct.{once_more}
 use Rattle.vault.proofs.Locking.{absent_unlocked, locked_more, locked_less, apart_more, apart_less}
 
@@ -91,16 +92,12 @@ free_unlocked : (locks : List Lock) (r : StateRef) (states : List Held) → has_
 free_unlocked locks r [] found = absurd (true≢false (sym found))
 free_unlocked locks r (h ∷ states) found = true_or_false (ref_eq h.reference r && is_coin (relocked locks h)) here (λ no. free_unlocked locks r states (sym (ap (λ b. b || has_coin (map (relocked locks) states) r) no) ∙ found))
   where
-    none_is : {X : Type 0} (o : Option X) → is_none o ≡ true → o ≡ None
-    none_is None e = refl
-    none_is (Some x) e = absurd (true≢false (sym e))
-
     here : (ref_eq h.reference r && is_coin (relocked locks h)) ≡ true → locked_by locks r ≡ None
     here e =
         let both = and_parts (ref_eq h.reference r) (is_coin (relocked locks h)) e in
         let coin = and_parts (is_cash h.state.body) (is_free (relocked locks h)) both.1 in
         let free = and_parts (is_none h.state.encumbrance) (is_none (locked_by locks h.reference)) coin.1 in
-        subst (λ (s : StateRef). locked_by locks s ≡ None) (ref_exact h.reference r both.0) (none_is (locked_by locks h.reference) free.1)
+        subst (λ (s : StateRef). locked_by locks s ≡ None) (ref_exact h.reference r both.0) (none_of (locked_by locks h.reference) free.1)
 
 coin_unlocked : (me : Party) (recorded : List Noted) (locks : List Lock) (r : StateRef) → has_coin (vault_of me recorded locks) r ≡ true → locked_by locks r ≡ None
 coin_unlocked me recorded locks r coin = free_unlocked locks r (vault_of me recorded locks) (ap (λ (l : List Held). has_coin l r) (sym (vault_relocked me recorded locks locks)) ∙ coin)

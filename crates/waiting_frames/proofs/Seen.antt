@@ -1,8 +1,8 @@
 -- Lists of bytes by what contracts see of them.
-use Rattle.std.proofs.Common.{◌≡◌, ℕ, zero, suc, ◌+◌, arith, Bool, true, false, not, ◌||◌, List, [], ◌∷◌, ◌++◌, refl, sym, ◌∙◌, ap, map, take, drop, remove, slice_get, subst, ◌&&◌}
+use Rattle.std.proofs.Common.{◌≡◌, ℕ, zero, suc, ◌+◌, arith, Bool, true, false, not, ◌||◌, List, [], ◌∷◌, ◌++◌, refl, sym, ◌∙◌, ap, map, take, drop, remove, slice_get, subst}
 use Rattle.std.specs.Prelude.{bytes_eq, if◌then◌else◌}
 use Rattle.std.specs.List.{list_any, IsDistinct, AllByRecursion}
-use Rattle.std.proofs.lemmas.Bool.{and_from}
+use Rattle.std.proofs.lemmas.Bool.{and_from, and_parts}
 use Rattle.std.proofs.lemmas.List.{map-append, take-map, drop-map}
 use Rattle.indexmap.specs.IndexSet.{insert_key}
 use Rattle.waiting_frames.specs.Waiting.{is_waiting, joined, waits_once}
@@ -63,12 +63,8 @@ module _ {V : Type 0} (items : V → List ℕ) where
   pub once_fewer : (n : ℕ) (ks : List V) → waits_once (map items (drop n ks)) ≡ true → waits_once (map items (drop (n + 1) ks)) ≡ true
   once_fewer n ks once = let next : suc n ≡ n + 1 = omega arith in subst (λ k. waits_once (map items (drop k ks)) ≡ true) next (by n ks once)
     where
-      rest : (first others : Bool) → (first && others) ≡ true → others ≡ true
-      rest true others h = h
-      rest false others h = cc
-
       by : (n : ℕ) (ks : List V) → waits_once (map items (drop n ks)) ≡ true → waits_once (map items (drop (suc n) ks)) ≡ true
       by zero [] h = h
-      by zero (k ∷ ks) h = rest _ _ h
+      by zero (k ∷ ks) h = (and_parts _ _ h).1
       by (suc n) [] h = h
       by (suc n) (k ∷ ks) h = by n ks h

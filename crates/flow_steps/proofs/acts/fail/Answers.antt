@@ -1,5 +1,5 @@
 use Rattle.std.proofs.Common.{◌≡◌, List, sym, subst, arith, ◌+◌}
-use Rattle.net_base.proofs.Options.{if_ok}
+use Rattle.std.proofs.lemmas.Result.{IfOk-weaker}
 use Rattle.net_model.specs.State.{NodeState}
 use Rattle.net_model.specs.Steps.{fails}
 use Rattle.session_wire.specs.Sessions.{Session}
@@ -12,9 +12,9 @@ pub returns-clause-becomes : goal.returns-clause-becomes
 returns-clause-becomes g c =
     let at = c.args.at.now in
     let me = c.args.identity.now.party.0 in
-    if_ok (λ step. Becomes g.F.Spelt.within (over me c.args.sessions.now.list at (state.Failed (at.step + 1) at.class c.args.code) (body_of.Error c.args.code)) step)
+    IfOk-weaker c.end-step.result
+    (λ step. Becomes g.F.Spelt.within (over me c.args.sessions.now.list at (state.Failed (at.step + 1) at.class c.args.code) (body_of.Error c.args.code)) step)
     (λ step. (s : NodeState _) → s.sessions ≡ c.args.sessions.now.list → Becomes g.F.Spelt.within (fails me s at c.args.code) step)
-    c.end-step.result
     (λ x b s same. subst (λ (l : List Session). Becomes g.F.Spelt.within (over me l at (state.Failed (at.step + 1) at.class c.args.code) (body_of.Error c.args.code)) x) (sym same) b)
     c.end-step.ensures.becomes
 

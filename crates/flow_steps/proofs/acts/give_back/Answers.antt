@@ -1,5 +1,5 @@
 use Rattle.std.proofs.Common.{◌≡◌, ◌<◌, length, sym, subst, arith}
-use Rattle.net_base.proofs.Options.{if_ok}
+use Rattle.std.proofs.lemmas.Result.{IfOk-weaker}
 use Rattle.net_model.specs.Environment.{environment}
 use Rattle.net_model.specs.Sound.{IsNumbered}
 use Rattle.net_model.specs.State.{NodeState}
@@ -33,8 +33,8 @@ returns-then-depth-eq1-clause-becomes g c =
     let id = c.args.identity.now in
     let w = environment g.F.FlowSet.machine g.F.Spelt.reading id in
     let none : length at.stack.below ≡ 0 = omega (arith, c.if-depth-eq1.true, c.depth.ensures.count) in
-    if_ok (λ step. Becomes g.F.Spelt.within (over id.party.0 c.args.sessions.now.list at c.in_ok-state.state body_of.End) step)
+    IfOk-weaker c.end-step.result
+    (λ step. Becomes g.F.Spelt.within (over id.party.0 c.args.sessions.now.list at c.in_ok-state.state body_of.End) step)
     (λ step. (s : NodeState _) → s.sessions ≡ c.args.sessions.now.list → Becomes g.F.Spelt.within (returns_of w id.party.0 s c.args.cause.moment.0 at c.args.value.now at.stack.below) step)
-    c.end-step.result
     (λ x b s same. subst (λ e. Becomes g.F.Spelt.within e x) (ended_means w id.party.0 c.args.cause.moment.0 at s c.args.sessions.now.list c.in_ok-state.state c.args.value.now at.stack.below same none c.in_ok-state.ensures) b)
     c.end-step.ensures.becomes

@@ -1,5 +1,5 @@
 use Rattle.std.proofs.Common.{◌≡◌, refl}
-use Rattle.net_base.proofs.Options.{if_ok}
+use Rattle.std.proofs.lemmas.Result.{IfOk-weaker}
 use Rattle.flow_machine.specs.declared.acts.Resumed.TheVariants as resumed
 use Rattle.session_wire.specs.Rules.{owned}
 use Rattle.net_model.specs.Environment.{environment}
@@ -78,7 +78,7 @@ returns-in-Return-clause-performs g c =
     let w = environment g.F.FlowSet.machine g.F.Spelt.reading id in
     let list = c.args.sessions.now.list in
     all_perform w me now g.F.Spelt.within at list (returns w me (standing list) now at c.in-Return.value at.stack.below) c.give_back.result (by_return w refl me now list at c.in-Return.value c.in-Return.is)
-    (if_ok (λ step. (s : NodeState _) → s.sessions ≡ list → Becomes g.F.Spelt.within (returns w me s now at c.in-Return.value at.stack.below) step) (λ step. Becomes g.F.Spelt.within (returns w me (standing list) now at c.in-Return.value at.stack.below) step) c.give_back.result (λ step h. h (standing list) refl) c.give_back.ensures.becomes)
+    (IfOk-weaker c.give_back.result (λ step. (s : NodeState _) → s.sessions ≡ list → Becomes g.F.Spelt.within (returns w me s now at c.in-Return.value at.stack.below) step) (λ step. Becomes g.F.Spelt.within (returns w me (standing list) now at c.in-Return.value at.stack.below) step) (λ step h. h (standing list) refl) c.give_back.ensures.becomes)
 
 pub returns-in-Fail-clause-performs : goal.returns-in-Fail-clause-performs
 returns-in-Fail-clause-performs g c =
@@ -89,7 +89,7 @@ returns-in-Fail-clause-performs g c =
     let w = environment g.F.FlowSet.machine g.F.Spelt.reading id in
     let list = c.args.sessions.now.list in
     all_perform w me now g.F.Spelt.within at list (fails me (standing {F = g.row.F.Denot} list) at c.in-Fail.code) c.fail.result (by_fail w refl me now list at c.in-Fail.code c.in-Fail.is)
-    (if_ok (λ step. (s : NodeState _) → s.sessions ≡ list → Becomes g.F.Spelt.within (fails me s at c.in-Fail.code) step) (λ step. Becomes g.F.Spelt.within (fails me (standing {F = g.row.F.Denot} list) at c.in-Fail.code) step) c.fail.result (λ step h. h (standing list) refl) c.fail.ensures.becomes)
+    (IfOk-weaker c.fail.result (λ step. (s : NodeState _) → s.sessions ≡ list → Becomes g.F.Spelt.within (fails me s at c.in-Fail.code) step) (λ step. Becomes g.F.Spelt.within (fails me (standing {F = g.row.F.Denot} list) at c.in-Fail.code) step) (λ step h. h (standing list) refl) c.fail.ensures.becomes)
 
 pub unreachable-requires : goal.unreachable-requires
 unreachable-requires g c =

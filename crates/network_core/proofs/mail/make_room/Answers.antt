@@ -1,6 +1,6 @@
 use Rattle.std.proofs.Common.{◌<◌, ◌≤◌, refl, ◌∙◌, arith, length}
-use Rattle.std.proofs.lemmas.Option.{slice_get_read}
-use Rattle.net_base.proofs.Lists.{get_less, all_from_get, set_length}
+use Rattle.std.proofs.lemmas.Option.{slice_get_read, slice_get_within}
+use Rattle.net_base.proofs.Lists.{all_from_get, set_length}
 use Rattle.waiting_frames.specs.Waiting.{WaitingSeen}
 use Rattle.network_core.proofs.Mailing.{map_set_same}
 use Rattle.network_core.proofs.Placing.{upto_more}
@@ -27,4 +27,4 @@ nodes-preserved c =
 pub returns-clause-room : goal.returns-clause-room
 returns-clause-room c =
     all_from_get (λ (w : WaitingSeen). c.args.more ≤ w.room) c.nodes.waiting.items
-    (λ q w at. c.nodes.invariant.room q w (omega (arith, get_less c.nodes.waiting.items q w at, c.nodes-test.false, c.len-place-end.ensures, c.args.waiting.now.ok.0, c.nodes.invariant.count)) at)
+    (λ q w at. c.nodes.invariant.room q w (omega (arith, slice_get_within c.nodes.waiting.items q w at, c.nodes-test.false, c.len-place-end.ensures, c.args.waiting.now.ok.0, c.nodes.invariant.count)) at)

@@ -2,7 +2,8 @@ use Rattle.std.proofs.Common.{[], ◌∷◌, sym, ◌∙◌, ap, subst}
 use Rattle.ledger_types.specs.Values.{IsValue}
 use Rattle.session_wire.specs.declared.body.Body.TheVariants.{Data}
 use Rattle.session_wire.specs.declared.change.SentItem.{SentItem}
-use Rattle.session_acts.proofs.Fitting.{late_data, sending_made}
+use Rattle.session_wire.proofs.Items.{late_data}
+use Rattle.session_acts.proofs.Fitting.{sending_made}
 use Rattle.session_acts.proofs.Limits.{one_within}
 use Rattle.session_acts.proofs.acts.send.Goals as goal
 

@@ -4,7 +4,8 @@ use Rattle.std.proofs.lemmas.List.Elements.{Contains-push}
 use Rattle.std.specs.List.{Contains}
 use Rattle.outside.specs.Disk.{IsImage, overwritten}
 use Rattle.disk_mem.specs.Mem.{durable_of}
-use Rattle.disk_mem.proofs.Putting.{image_put, length-overwritten, written-overwritten}
+use Rattle.outside.proofs.Writes.{length-overwritten}
+use Rattle.disk_mem.proofs.Putting.{image_put, written-overwritten}
 use Rattle.disk_mem.proofs.mem.MemDisk.write.Goals as goal
 
 pub cover-requires-clause-place : goal.cover-requires-clause-place

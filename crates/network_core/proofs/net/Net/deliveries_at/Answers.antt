@@ -9,10 +9,9 @@ use Rattle.network_core.proofs.Draining.{Counts, hand_stops, hands_over, hands_n
 use Rattle.network_core.proofs.Driving.{drives_map, drives_none, drives_then}
 use Rattle.network_core.proofs.Turning.{all_delivered, drives_hand, hand_falls}
 use Rattle.std.specs.Option.{option_map}
-use Rattle.std.proofs.lemmas.Option.{slice_get_read}
+use Rattle.std.proofs.lemmas.Option.{slice_get_read, slice_get-map}
 use Rattle.waiting_frames.specs.Waiting.{WaitingSeen}
 use Rattle.network_core.specs.Worlds.{NetSeen}
-use Rattle.network_core.proofs.Mailing.{get_map_is}
 use Rattle.network_core.proofs.net.Net.deliveries_at.Goals.{in-Noted, in-Took}
 use Rattle.network_core.proofs.net.Net.deliveries_at.Goals as goal
 
@@ -90,7 +89,7 @@ returns-clause-drives g c =
     let inside : p < length items = omega (arith, c.requires, ap (λ (z : NetSeen). length z.nodes) c.self.view_is, c.self.invariant.4) in
     let at = slice_get_read items (length items) p c.index.result.now refl inside c.index.ensures in
     let frames = c.index.result.now.frames in
-    let there : slice_get c.args.self.now.waiting p ≡ Some frames = ap (λ (z : NetSeen). slice_get z.waiting p) (sym c.self.view_is) ∙ get_map_is (λ (w : WaitingSeen). w.frames) items p ∙ ap (λ o. option_map (λ (w : WaitingSeen). w.frames) o) at in
+    let there : slice_get c.args.self.now.waiting p ≡ Some frames = ap (λ (z : NetSeen). slice_get z.waiting p) (sym c.self.view_is) ∙ slice_get-map (λ (w : WaitingSeen). w.frames) items p ∙ ap (λ o. option_map (λ (w : WaitingSeen). w.frames) o) at in
     let count : length frames ≡ c.frames.counter = omega (arith, c.len-count.ensures, c.frames-test.false, c.frames.invariant.within) in
     drives_map g.F.FlowSet.machine g.F.Spelt.reading _ _ (λ W s w v. Counts c.frames.moved (DeliversAt s p) w v) (λ W s w v. Turns {E = the_row.Denot} (Ok c.turning_of-2.result) (DeliversAt s p) (HandStops s p) w v)
     (λ W s laws w v h. turns_made the_row.Denot (DeliversAt s p) (HandStops s p) w v c.frames.moved c.turning_of-2.result c.turning_of-2.ensures.more c.turning_of-2.ensures.moved c.turning_of-2.ensures.quiet h)

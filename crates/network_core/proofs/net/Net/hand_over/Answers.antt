@@ -1,8 +1,8 @@
 use Rattle.std.proofs.Common.{◌≡◌, ◌<◌, refl, sym, ◌∙◌, ap, arith, length, map, slice_get, slice_set, Some, subst}
 use Rattle.std.specs.Option.{option_map, option_to_list}
-use Rattle.std.proofs.lemmas.Option.{slice_get_read, same_Some}
+use Rattle.std.proofs.lemmas.Option.{slice_get_read, same_Some, slice_get_within}
 use Rattle.std.specs.contracts.alloc.AllocError.{the_row}
-use Rattle.net_base.proofs.Lists.{all_get, get_less, set_length, all_set}
+use Rattle.net_base.proofs.Lists.{all_get, set_length, all_set}
 use Rattle.node_core.specs.Seen.{NodeSeen, IsBy}
 use Rattle.waiting_frames.specs.Waiting.{WaitingSeen}
 use Rattle.network_core.specs.Worlds.{NetSeen}
@@ -21,7 +21,7 @@ returns-in_err-make_room g c =
     let frames = c.requires.frame.0 in
     let at : slice_get items p ≡ Some n = ap (λ (z : NetSeen). slice_get z.nodes p) c.self.view_is ∙ c.requires.node.1 in
     let waits : slice_get (map frames_of lists) p ≡ Some frames = ap (λ (z : NetSeen). slice_get z.waiting p) c.self.view_is ∙ c.requires.frame.1 in
-    let inside : p < length items = get_less items p n at in
+    let inside : p < length items = slice_get_within items p n at in
     let count : length c.make_room.new.waiting.items ≡ length lists = same_lists frames_of lists c.make_room.new.waiting.items c.make_room.ensures.frames in
     let within : p < length c.make_room.new.waiting.items = omega (arith, inside, count, c.self.invariant.4) in
     rw (← c.self.view_is)
@@ -38,7 +38,7 @@ index-requires g c =
     let frames = c.requires.frame.0 in
     let at : slice_get items p ≡ Some n = ap (λ (z : NetSeen). slice_get z.nodes p) c.self.view_is ∙ c.requires.node.1 in
     let waits : slice_get (map frames_of lists) p ≡ Some frames = ap (λ (z : NetSeen). slice_get z.waiting p) c.self.view_is ∙ c.requires.frame.1 in
-    let inside : p < length items = get_less items p n at in
+    let inside : p < length items = slice_get_within items p n at in
     let count : length c.make_room.new.waiting.items ≡ length lists = same_lists frames_of lists c.make_room.new.waiting.items c.make_room.ensures.frames in
     let within : p < length c.make_room.new.waiting.items = omega (arith, inside, count, c.self.invariant.4) in
     omega (arith, within, c.make_room.new.waiting.ok.0)
@@ -53,7 +53,7 @@ unwrap-bytes-requires g c =
     let frames = c.requires.frame.0 in
     let at : slice_get items p ≡ Some n = ap (λ (z : NetSeen). slice_get z.nodes p) c.self.view_is ∙ c.requires.node.1 in
     let waits : slice_get (map frames_of lists) p ≡ Some frames = ap (λ (z : NetSeen). slice_get z.waiting p) c.self.view_is ∙ c.requires.frame.1 in
-    let inside : p < length items = get_less items p n at in
+    let inside : p < length items = slice_get_within items p n at in
     let count : length c.make_room.new.waiting.items ≡ length lists = same_lists frames_of lists c.make_room.new.waiting.items c.make_room.ensures.frames in
     let within : p < length c.make_room.new.waiting.items = omega (arith, inside, count, c.self.invariant.4) in
     let room : slice_get (map frames_of c.make_room.new.waiting.items) p ≡ Some frames = ap (λ l. slice_get l p) c.make_room.ensures.frames ∙ waits in
@@ -71,7 +71,7 @@ index_mut-node-requires g c =
     let frames = c.requires.frame.0 in
     let at : slice_get items p ≡ Some n = ap (λ (z : NetSeen). slice_get z.nodes p) c.self.view_is ∙ c.requires.node.1 in
     let waits : slice_get (map frames_of lists) p ≡ Some frames = ap (λ (z : NetSeen). slice_get z.waiting p) c.self.view_is ∙ c.requires.frame.1 in
-    let inside : p < length items = get_less items p n at in
+    let inside : p < length items = slice_get_within items p n at in
     let count : length c.make_room.new.waiting.items ≡ length lists = same_lists frames_of lists c.make_room.new.waiting.items c.make_room.ensures.frames in
     let within : p < length c.make_room.new.waiting.items = omega (arith, inside, count, c.self.invariant.4) in
     omega (arith, inside, c.self.inside.nodes.ok.0)
@@ -86,7 +86,7 @@ take_at-requires g c =
     let frames = c.requires.frame.0 in
     let at : slice_get items p ≡ Some n = ap (λ (z : NetSeen). slice_get z.nodes p) c.self.view_is ∙ c.requires.node.1 in
     let waits : slice_get (map frames_of lists) p ≡ Some frames = ap (λ (z : NetSeen). slice_get z.waiting p) c.self.view_is ∙ c.requires.frame.1 in
-    let inside : p < length items = get_less items p n at in
+    let inside : p < length items = slice_get_within items p n at in
     let count : length c.make_room.new.waiting.items ≡ length lists = same_lists frames_of lists c.make_room.new.waiting.items c.make_room.ensures.frames in
     let within : p < length c.make_room.new.waiting.items = omega (arith, inside, count, c.self.invariant.4) in
     let node_at = slice_get_read items (length items) p c.index_mut-node.result.now refl inside c.index_mut-node.ensures.value in
@@ -102,7 +102,7 @@ invariant_of-self-in_err-reply g c =
     let frames = c.requires.frame.0 in
     let at : slice_get items p ≡ Some n = ap (λ (z : NetSeen). slice_get z.nodes p) c.self.view_is ∙ c.requires.node.1 in
     let waits : slice_get (map frames_of lists) p ≡ Some frames = ap (λ (z : NetSeen). slice_get z.waiting p) c.self.view_is ∙ c.requires.frame.1 in
-    let inside : p < length items = get_less items p n at in
+    let inside : p < length items = slice_get_within items p n at in
     let count : length c.make_room.new.waiting.items ≡ length lists = same_lists frames_of lists c.make_room.new.waiting.items c.make_room.ensures.frames in
     let within : p < length c.make_room.new.waiting.items = omega (arith, inside, count, c.self.invariant.4) in
     let i = c.self.invariant in
@@ -119,7 +119,7 @@ returns-in_err-reply g c =
     let frames = c.requires.frame.0 in
     let at : slice_get items p ≡ Some n = ap (λ (z : NetSeen). slice_get z.nodes p) c.self.view_is ∙ c.requires.node.1 in
     let waits : slice_get (map frames_of lists) p ≡ Some frames = ap (λ (z : NetSeen). slice_get z.waiting p) c.self.view_is ∙ c.requires.frame.1 in
-    let inside : p < length items = get_less items p n at in
+    let inside : p < length items = slice_get_within items p n at in
     let count : length c.make_room.new.waiting.items ≡ length lists = same_lists frames_of lists c.make_room.new.waiting.items c.make_room.ensures.frames in
     let within : p < length c.make_room.new.waiting.items = omega (arith, inside, count, c.self.invariant.4) in
     let room : slice_get (map frames_of c.make_room.new.waiting.items) p ≡ Some frames = ap (λ l. slice_get l p) c.make_room.ensures.frames ∙ waits in
@@ -144,7 +144,7 @@ settle-requires-clause-place g c =
     let frames = c.requires.frame.0 in
     let at : slice_get items p ≡ Some n = ap (λ (z : NetSeen). slice_get z.nodes p) c.self.view_is ∙ c.requires.node.1 in
     let waits : slice_get (map frames_of lists) p ≡ Some frames = ap (λ (z : NetSeen). slice_get z.waiting p) c.self.view_is ∙ c.requires.frame.1 in
-    let inside : p < length items = get_less items p n at in
+    let inside : p < length items = slice_get_within items p n at in
     let count : length c.make_room.new.waiting.items ≡ length lists = same_lists frames_of lists c.make_room.new.waiting.items c.make_room.ensures.frames in
     let within : p < length c.make_room.new.waiting.items = omega (arith, inside, count, c.self.invariant.4) in
     within
@@ -159,7 +159,7 @@ invariant_of-self-2 g c =
     let frames = c.requires.frame.0 in
     let at : slice_get items p ≡ Some n = ap (λ (z : NetSeen). slice_get z.nodes p) c.self.view_is ∙ c.requires.node.1 in
     let waits : slice_get (map frames_of lists) p ≡ Some frames = ap (λ (z : NetSeen). slice_get z.waiting p) c.self.view_is ∙ c.requires.frame.1 in
-    let inside : p < length items = get_less items p n at in
+    let inside : p < length items = slice_get_within items p n at in
     let count : length c.make_room.new.waiting.items ≡ length lists = same_lists frames_of lists c.make_room.new.waiting.items c.make_room.ensures.frames in
     let within : p < length c.make_room.new.waiting.items = omega (arith, inside, count, c.self.invariant.4) in
     let room : slice_get (map frames_of c.make_room.new.waiting.items) p ≡ Some frames = ap (λ l. slice_get l p) c.make_room.ensures.frames ∙ waits in
@@ -181,7 +181,7 @@ returns g c =
     let frames = c.requires.frame.0 in
     let at : slice_get items p ≡ Some n = ap (λ (z : NetSeen). slice_get z.nodes p) c.self.view_is ∙ c.requires.node.1 in
     let waits : slice_get (map frames_of lists) p ≡ Some frames = ap (λ (z : NetSeen). slice_get z.waiting p) c.self.view_is ∙ c.requires.frame.1 in
-    let inside : p < length items = get_less items p n at in
+    let inside : p < length items = slice_get_within items p n at in
     let count : length c.make_room.new.waiting.items ≡ length lists = same_lists frames_of lists c.make_room.new.waiting.items c.make_room.ensures.frames in
     let within : p < length c.make_room.new.waiting.items = omega (arith, inside, count, c.self.invariant.4) in
     let room : slice_get (map frames_of c.make_room.new.waiting.items) p ≡ Some frames = ap (λ l. slice_get l p) c.make_room.ensures.frames ∙ waits in

@@ -1,9 +1,9 @@
 use Rattle.std.proofs.Common.{◌≡◌, ◌<◌, ◌∙◌, inl, inr, refl, sym, ap, arith, length, map, slice_get, Some}
-use Rattle.std.proofs.lemmas.Option.{slice_get_read}
+use Rattle.std.proofs.lemmas.Option.{slice_get_read, slice_get-map}
 use Rattle.std.specs.Option.{option_map}
 use Rattle.waiting_frames.specs.Waiting.{WaitingSeen}
 use Rattle.network_core.specs.Answers.{said}
-use Rattle.network_core.proofs.Mailing.{get_map_is, map_set_same, parts_at, removed_is, without_none}
+use Rattle.network_core.proofs.Mailing.{map_set_same, parts_at, removed_is, without_none}
 use Rattle.network_core.proofs.net.Net.lose.Goals.{in-Some, in-None}
 use Rattle.network_core.proofs.net.Net.lose.Goals as goal
 
@@ -14,7 +14,7 @@ returns g c =
     let inside : p < length items = omega (arith, c.if-place-len.false, c.len.ensures, c.self.inside.waiting.ok.0) in
     let at = slice_get_read items (length items) p c.index_mut.result.now refl inside c.index_mut.ensures.value in
     let frames = c.index_mut.result.now.frames in
-    let there : slice_get (map (λ (w : WaitingSeen). w.frames) items) p ≡ Some frames = get_map_is (λ (w : WaitingSeen). w.frames) items p ∙ ap (λ o. option_map (λ (w : WaitingSeen). w.frames) o) at in
+    let there : slice_get (map (λ (w : WaitingSeen). w.frames) items) p ≡ Some frames = slice_get-map (λ (w : WaitingSeen). w.frames) items p ∙ ap (λ o. option_map (λ (w : WaitingSeen). w.frames) o) at in
     let gone = c.remove.ensures.frames ∙ removed_is frames c.args.at in
     rw (← c.self.view_is)
     (inr (

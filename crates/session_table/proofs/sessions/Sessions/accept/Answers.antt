@@ -20,9 +20,6 @@ some_is : (o : Option Key) (k : Key) → o ≡ Some k → IsSome o
 some_is None k e = absurd (cc e)
 some_is (Some x) k e = search rules
 
-few_of : (m n : ℕ) → m ≡ n → m + 1 < 4294967296 → n + 1 < 4294967296
-few_of m n e h = omega (arith, e, h)
-
 pub unwrap-requires : goal.unwrap-requires
 unwrap-requires c =
     let n = named c.args.self.now.party c.args.self.now.list c.requires.fits.0 c.args.came_key c.args.came c.in-Some.body c.in-Some.is c.requires.fits.1 in
@@ -36,7 +33,7 @@ accept_item-requires-clause-fits c =
     (c.requires.fits.0, subst (λ (q : Key). AcceptsItem c.args.self.now.party c.args.self.now.list c.requires.fits.0 q c.in-Some.body) one n.1.1)
 
 pub accept_item-requires-clause-few_came : goal.accept_item-requires-clause-few_came
-accept_item-requires-clause-few_came c = few_of _ _ (ap (λ k. arrived_in k c.args.self.now.list) c.unwrap.ensures) c.requires.few_came
+accept_item-requires-clause-few_came c = subst (λ (n : ℕ). n + 1 < 4294967296) (ap (λ k. arrived_in k c.args.self.now.list) c.unwrap.ensures) c.requires.few_came
 
 pub returns-in-Some-clause-list : goal.returns-in-Some-clause-list
 returns-in-Some-clause-list c = c.accept_item.ensures.list ∙ sym (λ i. came_on (c.unwrap.ensures i) (c.in-Some.is i) c.args.owner c.args.self.now.list)

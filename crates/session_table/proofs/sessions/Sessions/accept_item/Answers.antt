@@ -1,13 +1,10 @@
-use Rattle.std.proofs.Common.{◌≡◌, ℕ, ◌+◌, ◌<◌, sym, ◌∙◌, ap, arith, Some, Option, List, [], ◌∷◌, length, true, false, is_some, true≢false, length-append, append-nil}
+use Rattle.std.proofs.Common.{◌≡◌, ℕ, ◌+◌, ◌<◌, sym, ◌∙◌, ap, arith, Some, Option, List, [], ◌∷◌, length, true, false, is_some, true≢false, length-append, append-nil, subst}
 use Rattle.std.proofs.lemmas.List.{length-map}
 use Rattle.std.specs.Option.{option_map_or}
 use Rattle.session_wire.specs.Sessions.{Session, session_of, with_came, new_session, changed_at}
 use Rattle.session_wire.specs.Rules.{is_init}
 use Rattle.session_table.proofs.Stepping.{came_begun, stands_begun}
 use Rattle.session_table.proofs.sessions.Sessions.accept_item.Goals as goal
-
-few_of : (m n : ℕ) → m ≡ n → m + 1 < 4294967296 → n + 1 < 4294967296
-few_of m n e h = omega (arith, e, h)
 
 pub begin-requires-clause-new : goal.begin-requires-clause-new
 begin-requires-clause-new c =
@@ -71,7 +68,7 @@ add_came-requires-2-clause-stands c =
 pub add_came-requires-2-clause-few : goal.add_came-requires-2-clause-few
 add_came-requires-2-clause-few c = λ s stands.
     let came = ap (λ (o : Option Session). option_map_or (λ s. length s.came) o 0) stands in
-    few_of _ _ came c.requires.few_came
+    subst (λ (n : ℕ). n + 1 < 4294967296) came c.requires.few_came
 
 pub returns-clause-list : goal.returns-clause-list
 returns-clause-list c =
