@@ -105,9 +105,6 @@ module _ {W : Type 0} (s : DrainSteps W) where
   abbrev pub HandsSo : ℕ → ℕ → Bool → W → W → Type 0
   HandsSo p d moved w v = Counts moved (Hands s p d) w v
 
-  pub hands_begin : (p : ℕ) (w : W) → HandsSo p 0 false w w
-  hands_begin p w = (refl, refl)
-
   -- one more, which committed a record
   pub hands_took : (p d g : ℕ) (moved : Bool) (w u v : W) (o : Outcome) → o ≡ outcome.Took g → HandsSo p d moved w u → s.hand p u (Some o) v → HandsSo p (d + 1) true w v
   hands_took p d g moved w u v o is before hand =

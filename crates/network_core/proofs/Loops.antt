@@ -2,7 +2,6 @@
 use Rattle.std.proofs.Common.{◌≡◌, inl, inr, ⊎_elim, ℕ, ◌+◌, max, ◌<◌, ◌≤◌, List, [], ◌∷◌, ◌++◌, length, map, Option, Some, None, Result, Ok, Err, refl, sym, ◌∙◌, ap, subst, arith, slice_set}
 use Rattle.std.specs.List.{slice_get, AllByRecursion}
 use Rattle.std.proofs.lemmas.Bool.{cases_lt}
-use Rattle.std.proofs.lemmas.Option.{same_Some, slice_get_within}
 use Rattle.network_core.proofs.Placing.{set_here, set_apart}
 use Rattle.outside.specs.Disk.{DiskView}
 use Rattle.net_base.specs.declared.values.Party.{Party}
@@ -32,10 +31,6 @@ pub record Handing {D : Type 0} (seen : D → DiskView) (all : List NodeSeen) (d
   pub all_of : map (λ d. roomless (seen d)) disks ++ map (λ n. n.disk) left ≡ map (λ n. n.disk) all
   pub rest : length disks + length left ≡ length all
 
-map_push : {X Y : Type 0} (f : X → Y) (xs : List X) (x : X) (ys : List Y) → map f (xs ++ x ∷ []) ++ ys ≡ map f xs ++ f x ∷ ys
-map_push f [] x ys = refl
-map_push f (z ∷ xs) x ys = ap (λ l. f z ∷ l) (map_push f xs x ys)
-
 -- ---- moments
 
 pub by_later : {F : Type 0} (f : Reads F) (journal : Option (List (List ℕ))) (now later : ℕ) → now ≤ later → IsBy f journal now → IsBy f journal later
@@ -49,19 +44,6 @@ by_last f (Some b) last later is le = omega (arith, is, le)
 -- ---- boots in order
 
 module _ {F : Type 0} (f : Reads F) (old : List NodeSeen) where
-  pub boots_none : BootsUpTo f 0 0 old old
-  boots_none = record {
-    count = refl;
-    done = λ p n k lt i j. absurd (omega (arith, lt));
-    rest = λ p n k le i j. same_Some _ _ (sym j ∙ i);
-    latest = λ p n k lt i j. absurd (omega (arith, lt));
-    reached = inl refl;
-  }
-
-  -- the place of a node that wasn't booted yet
-  pub boots_same : (place now : ℕ) (cur : List NodeSeen) (n k : NodeSeen) → BootsUpTo f place now old cur → slice_get old place ≡ Some n → slice_get cur place ≡ Some k → k ≡ n
-  boots_same place now cur n k b i j = b.rest place n k (omega arith) i j
-
   pub boots_more : (place now last later : ℕ) (cur : List NodeSeen) (n k : NodeSeen) (answer : Result Moment BootFault) (m : Moment) → BootsUpTo f place now old cur → slice_get cur place ≡ Some n → BootsAs f n answer k → answer ≡ Ok m → IsLast f k.journal last → later ≡ max now last
       → BootsUpTo f (place + 1) later old (slice_set cur place k)
   boots_more place now last later cur n k answer m b at boots is known raised =
@@ -106,15 +88,6 @@ module _ {F : Type 0} (f : Reads F) (old : List NodeSeen) where
             rw (mine, ← first) no;
         rest = λ p a c lt i j. b.rest p a c (omega (arith, lt)) i (set_apart cur place p k c (λ s. absurd (omega (arith, s, lt))) j);
       }
-
-  pub boots_whole : (place now : ℕ) (cur : List NodeSeen) → length old ≤ place → BootsUpTo f place now old cur → BootsUpTo f (length old) now old cur
-  boots_whole place now cur le b = record {
-    count = b.count;
-    done = λ p n k lt i j. b.done p n k (omega (arith, lt, le)) i j;
-    rest = λ p n k past i j. absurd (omega (arith, past, slice_get_within old p n i));
-    latest = λ p n k lt i j. b.latest p n k (omega (arith, lt, le)) i j;
-    reached = ⊎_elim (λ none. inl none) (λ (p, k, below, i, was). inr (p, k, omega (arith, b.count, slice_get_within cur p k i), i, was)) b.reached;
-  }
 
 -- ---- frames that wait
 

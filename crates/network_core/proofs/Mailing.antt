@@ -82,9 +82,6 @@ module _ {W : Type 0} (g : W → List (List ℕ)) (items : List W) (o : Outgoing
       let there : slice_get (map g items) o.to.0 ≡ Some (g a) = slice_get-map g items o.to.0 ∙ ap (option_map g) at in
       map_set g items o.to.0 b ∙ ap (slice_set (map g items) o.to.0) is ∙ sym (ap (mailed_to o (map g items)) there)
 
-  pub joins_none : slice_get items o.to.0 ≡ None → map g items ≡ mailed_once o (map g items)
-  joins_none none = sym (ap (mailed_to o (map g items)) (slice_get-map g items o.to.0 ∙ ap (option_map g) none))
-
   abbrev one_if : Bool → ℕ
   one_if b = if b then 1 else 0
 
@@ -97,9 +94,6 @@ module _ {W : Type 0} (g : W → List (List ℕ)) (items : List W) (o : Outgoing
   fresh_there a b at is =
       let there : slice_get (map g items) o.to.0 ≡ Some (g a) = slice_get-map g items o.to.0 ∙ ap (option_map g) at in
       ap (λ (c : Bool). one_if c) is ∙ flip (is_waiting o.bytes (g a)) ∙ sym (ap (fresh_at o.bytes) there)
-
-  pub fresh_nowhere : slice_get items o.to.0 ≡ None → 0 ≡ fresh_at o.bytes (slice_get (map g items) o.to.0)
-  fresh_nowhere none = sym (ap (fresh_at o.bytes) (slice_get-map g items o.to.0 ∙ ap (option_map g) none))
 
 -- the frame at a place of a node is taken away
 pub parts_at : {W : Type 0} (g : W → List (List ℕ)) (items : List W) (place at : ℕ) (a b : W) → slice_get items place ≡ Some a → g b ≡ without at (g a) → map g (slice_set items place b) ≡ parted false place at (g a) (map g items)

@@ -96,10 +96,6 @@ module _ {F : Type 0} (m : Machine F) (f : Reads F) where
   cut_world p old new result calls kind clock at =
       place_world p old new result (λ n r k. CutServes calls kind n r k) (λ e t x o y. WorldCuts calls x o y) (λ id n k x shows s. rw s.2 (cut_any m f id p old.now n k x shows calls kind n.journal s.0 refl s.1)) (λ id w v c h. cut_coherent (environment m f id) p calls w v (said result) c h) clock at
 
-  -- a network that stays
-  pub stays_world : (old new : NetSeen) (goal : Environment F → World → World → Type 0) → new ≡ old → ((e : Environment F) (w : World) → goal e w w) → KeepsWorld m f old new goal
-  stays_world old new goal same holds id w shows coherent = (w, subst (λ (z : NetSeen). Shows (environment m f id) z w) (sym same) shows, coherent, holds (environment m f id) w)
-
   pub clock_world : (old new : NetSeen) (to : ℕ) (result : Outcome) → ClockServes to old result new → KeepsWorld m f old new (λ e w v. WorldClock to w (Some result) v)
   clock_world old new to result (inl (before, is, same)) id w shows coherent =
       (w, subst (λ (z : NetSeen). Shows (environment m f id) z w) (sym same) shows, coherent, inl (omega (arith, before, shows.clock), ap Some is, refl))

@@ -227,10 +227,6 @@ module _ {F : Type 0} (e : Environment F) where
       let end = subst (λ (n : ℕ). InOrder (DeliversAt (world_steps e)) (length w.nodes) n t v) last delivers in
       record { idle = idle w u t v coherent all posts end; arrived = arrived_all w u t v coherent all posts end }
 
-  -- what a node that is up sent to another that is up has arrived there
-  pub quiet_round : (w v : World) → Coherent e w → Round (world_steps e) 0 w v → (p : ℕ) (x : NodeWorld) → slice_get v.nodes p ≡ Some x → x.up ≡ true → HasArrived e v x
-  quiet_round w v coherent round = (quiet w v coherent round).arrived
-
 -- a drain makes turns, posts and deliveries and nothing else
 pub drains_by_turns : {F : Type 0} → DrainsByTurns F
 drains_by_turns e w v = record { drained = drained_run e w v; stopped = λ o h. stopped_run e w v o h }

@@ -147,13 +147,6 @@ module _ {F : Type 0} (f : Reads F) where
   abbrev onto : List (List Cause) → List NodeSeen → Option (List (List Cause))
   onto lists ns = option_map (λ rest. lists ++ rest) (causes_up f ns)
 
-  pub causes_none : (ns : List NodeSeen) → onto [] ns ≡ causes_up f ns
-  causes_none ns = go (causes_up f ns)
-    where
-      go : (o : Option (List (List Cause))) → option_map (λ (rest : List (List Cause)). [] ++ rest) o ≡ o
-      go None = refl
-      go (Some l) = refl
-
   pub causes_step : (ns : List NodeSeen) (i : ℕ) (n : NodeSeen) (lists : List (List Cause)) (bodies : List (List ℕ)) → slice_get ns i ≡ Some n → n.journal ≡ Some bodies
       → onto (lists ++ causes_of f bodies ∷ []) (drop (suc i) ns) ≡ onto lists (drop i ns)
   causes_step ns i n lists bodies at up =
@@ -162,9 +155,6 @@ module _ {F : Type 0} (f : Reads F) where
       go : (o : Option (List (List Cause))) → option_map (λ rest. (lists ++ causes_of f bodies ∷ []) ++ rest) o ≡ option_map (λ rest. lists ++ rest) (put_first o bodies)
       go None = refl
       go (Some l) = ap Some (append_assoc lists (causes_of f bodies ∷ []) l)
-
-  pub causes_stop : (ns : List NodeSeen) (i : ℕ) (n : NodeSeen) (lists : List (List Cause)) → slice_get ns i ≡ Some n → n.journal ≡ None → onto lists (drop i ns) ≡ None
-  causes_stop ns i n lists at down = ap (onto lists) (drop_get ns i n at) ∙ ap (λ j. option_map (λ rest. lists ++ rest) (option_and_then (put_first (causes_up f (drop (suc i) ns))) j)) down
 
 -- ---- the answers about a node
 
