@@ -9,7 +9,7 @@ use Rattle.net_base.specs.declared.names.Key.{Key}
 use Rattle.net_base.specs.declared.names.Token.{Token}
 use Rattle.net_base.specs.Reading.{number}
 use Rattle.net_base.specs.Forms.{number_at, bytes16}
-use Rattle.net_base.specs.Laws.{Laws}
+use Rattle.net_base.specs.Laws.{Laws, LawsIf, weaker}
 use Rattle.net_base.specs.Combining.{mapped_at, mapped_laws, pair_at, pair_laws, iso_laws}
 use Rattle.net_base.specs.Fields.{u16_laws, u64_laws}
 use Rattle.net_base.specs.Kinds.{kinds_of, cases_at, cases_laws}
@@ -226,39 +226,39 @@ act_covered frame_text frame_at (act.Fail code) = (refl, refl)
 act_covered frame_text frame_at other = (refl, refl)
 
 -- the laws of acts, by those of frames
-pub act_laws : {F : Type 0} {is_frame : F → Type 0} {frame_text : F → List ℕ} {frame_at : List ℕ → Result (F × List ℕ) ℕ} → Laws is_frame frame_text frame_at → Laws (IsAct is_frame) (act_text frame_text) (act_at frame_at)
+pub act_laws : {F : Type 0} {is_frame : F → Type 0} {frame_text : F → List ℕ} {frame_at : List ℕ → Result (F × List ℕ) ℕ} {exact : Type 0} → LawsIf exact is_frame frame_text frame_at → LawsIf exact (IsAct is_frame) (act_text frame_text) (act_at frame_at)
 unfolding act_at
-act_laws {F} {is_frame} {frame_text} {frame_at} frames =
+act_laws {F} {is_frame} {frame_text} {frame_at} {exact} frames =
     cases_laws {kind = act_kind} {body = act_fields frame_text} (act_arms frame_at) 1 refl (λ a h. act_covered frame_text frame_at a) (
-      mapped_laws open_of (pair_laws party_laws (pair_laws u16_laws value_laws)) (record { keeps = λ p h. ((h, refl), refl); from = from_open is_frame }),
+      mapped_laws open_of (weaker exact (pair_laws party_laws (pair_laws u16_laws value_laws))) (record { keeps = λ p h. ((h, refl), refl); from = from_open is_frame }),
       (
-        mapped_laws send_of (pair_laws key_laws value_laws) (record { keeps = λ p h. ((h, refl), refl); from = from_send is_frame }),
+        mapped_laws send_of (weaker exact (pair_laws key_laws value_laws)) (record { keeps = λ p h. ((h, refl), refl); from = from_send is_frame }),
         (
-          mapped_laws receive_of key_laws (record { keeps = λ p h. ((h, refl), refl); from = from_receive is_frame }),
+          mapped_laws receive_of (weaker exact key_laws) (record { keeps = λ p h. ((h, refl), refl); from = from_receive is_frame }),
           (
-            mapped_laws receive_by_of (pair_laws key_laws u64_laws) (record { keeps = λ p h. ((h, refl), refl); from = from_receive_by is_frame }),
+            mapped_laws receive_by_of (weaker exact (pair_laws key_laws u64_laws)) (record { keeps = λ p h. ((h, refl), refl); from = from_receive_by is_frame }),
             (
-              mapped_laws sleep_of u64_laws (record { keeps = λ p h. ((h, refl), refl); from = from_sleep is_frame }),
+              mapped_laws sleep_of (weaker exact u64_laws) (record { keeps = λ p h. ((h, refl), refl); from = from_sleep is_frame }),
               (
                 mapped_laws sub_of frames (record { keeps = λ p h. ((h, refl), refl); from = from_sub is_frame }),
                 (
-                  mapped_laws verify_of tx_laws (record { keeps = λ p h. ((h, refl), refl); from = from_verify is_frame }),
+                  mapped_laws verify_of (weaker exact tx_laws) (record { keeps = λ p h. ((h, refl), refl); from = from_verify is_frame }),
                   (
-                    mapped_laws reserve_of (pair_laws token_laws u64_laws) (record { keeps = λ p h. ((h, refl), refl); from = from_reserve is_frame }),
+                    mapped_laws reserve_of (weaker exact (pair_laws token_laws u64_laws)) (record { keeps = λ p h. ((h, refl), refl); from = from_reserve is_frame }),
                     (
-                      mapped_laws lookup_of hash_laws (record { keeps = λ p h. ((h, refl), refl); from = from_lookup is_frame }),
+                      mapped_laws lookup_of (weaker exact hash_laws) (record { keeps = λ p h. ((h, refl), refl); from = from_lookup is_frame }),
                       (
-                        mapped_laws missing_of tx_laws (record { keeps = λ p h. ((h, refl), refl); from = from_missing is_frame }),
+                        mapped_laws missing_of (weaker exact tx_laws) (record { keeps = λ p h. ((h, refl), refl); from = from_missing is_frame }),
                         (
-                          mapped_laws sign_of hash_laws (record { keeps = λ p h. ((h, refl), refl); from = from_sign is_frame }),
+                          mapped_laws sign_of (weaker exact hash_laws) (record { keeps = λ p h. ((h, refl), refl); from = from_sign is_frame }),
                           (
-                            mapped_laws notarise_of request_laws (record { keeps = λ p h. ((h, refl), refl); from = from_notarise is_frame }),
+                            mapped_laws notarise_of (weaker exact request_laws) (record { keeps = λ p h. ((h, refl), refl); from = from_notarise is_frame }),
                             (
-                              mapped_laws record_of signed_tx_laws (record { keeps = λ p h. ((h, refl), refl); from = from_record is_frame }),
+                              mapped_laws record_of (weaker exact signed_tx_laws) (record { keeps = λ p h. ((h, refl), refl); from = from_record is_frame }),
                               (
-                                mapped_laws return_of value_laws (record { keeps = λ p h. ((h, refl), refl); from = from_return is_frame }),
+                                mapped_laws return_of (weaker exact value_laws) (record { keeps = λ p h. ((h, refl), refl); from = from_return is_frame }),
                                 (
-                                  mapped_laws fail_of u16_laws (record { keeps = λ p h. ((h, refl), refl); from = from_fail is_frame }),
+                                  mapped_laws fail_of (weaker exact u16_laws) (record { keeps = λ p h. ((h, refl), refl); from = from_fail is_frame }),
                                   tt,
                                 ),
                               ),

@@ -7,7 +7,7 @@ use Rattle.std.proofs.lemmas.List.{reverse-append, reverse-reverse, length-rever
 use Rattle.std.proofs.lemmas.List.Concat.{flat_map-cons}
 use Rattle.net_base.specs.Reading.{number}
 use Rattle.net_base.specs.Forms.{◌>>=◌, number_at, items_at, list8}
-use Rattle.net_base.specs.Laws.{Laws}
+use Rattle.net_base.specs.Laws.{LawsIf, weaker}
 use Rattle.net_base.specs.Combining.{bind_laws, mapped_at, mapped_laws, pair_at, pair_laws, iso_laws}
 use Rattle.net_base.specs.Fields.{u16_laws, u32_laws, items_laws}
 use Rattle.net_base.specs.Kinds.{between_at, between_laws}
@@ -48,10 +48,10 @@ stack_parts frame_text s =
     λ i. depth i ∷ items i
 
 -- the laws of stacks, by those of frames
-pub stack_laws : {F : Type 0} {is_frame : F → Type 0} {frame_text : F → List ℕ} {frame_at : List ℕ → Result (F × List ℕ) ℕ} → Laws is_frame frame_text frame_at → Laws (IsStack is_frame) (stack_text frame_text) (stack_at frame_at)
+pub stack_laws : {F : Type 0} {is_frame : F → Type 0} {frame_text : F → List ℕ} {frame_at : List ℕ → Result (F × List ℕ) ℕ} {exact : Type 0} → LawsIf exact is_frame frame_text frame_at → LawsIf exact (IsStack is_frame) (stack_text frame_text) (stack_at frame_at)
 unfolding stack_at
-stack_laws {F} {is_frame} {frame_text} {frame_at} frames =
-    bind_laws {second = λ n (s : Frames F). (suc (length s.below) ≡ n) × (is_frame s.top × AllByRecursion is_frame s.below)} {second_spelling = λ n (s : Frames F). flat_map frame_text (reverse s.below) ++ frame_text s.top} {second_reading = λ n bytes. mapped_at stack_of (pair_at (items_at frame_at (n - 1)) frame_at) bytes} (between_laws 1 9 (omega arith))
+stack_laws {F} {is_frame} {frame_text} {frame_at} {exact} frames =
+    bind_laws {second = λ n (s : Frames F). (suc (length s.below) ≡ n) × (is_frame s.top × AllByRecursion is_frame s.below)} {second_spelling = λ n (s : Frames F). flat_map frame_text (reverse s.below) ++ frame_text s.top} {second_reading = λ n bytes. mapped_at stack_of (pair_at (items_at frame_at (n - 1)) frame_at) bytes} (weaker exact (between_laws 1 9 (omega arith)))
     (λ n h. mapped_laws stack_of (pair_laws (items_laws frames (n - 1)) frames) (record {
       keeps = λ p hp.
           ((omega (arith, h.0, hp.0.0, length-reverse p.0), (hp.1, all_reverse is_frame p.0 hp.0.1)), ap (λ (l : List F). flat_map frame_text l ++ frame_text p.1) (reverse-reverse p.0));
@@ -82,10 +82,10 @@ unfoldable pub checkpoint_at : {F : Type 0} → (List ℕ → Result (F × List 
 checkpoint_at frame_at = mapped_at checkpoint_of (pair_at (number_at w32) (pair_at (number_at w32) (pair_at (number_at w16) (pair_at (act_at frame_at) (stack_at frame_at)))))
 
 -- the laws of checkpoints, by those of frames
-pub checkpoint_laws : {F : Type 0} {is_frame : F → Type 0} {frame_text : F → List ℕ} {frame_at : List ℕ → Result (F × List ℕ) ℕ} → Laws is_frame frame_text frame_at → Laws (IsCheckpoint is_frame) (checkpoint_text frame_text) (checkpoint_at frame_at)
+pub checkpoint_laws : {F : Type 0} {is_frame : F → Type 0} {frame_text : F → List ℕ} {frame_at : List ℕ → Result (F × List ℕ) ℕ} {exact : Type 0} → LawsIf exact is_frame frame_text frame_at → LawsIf exact (IsCheckpoint is_frame) (checkpoint_text frame_text) (checkpoint_at frame_at)
 unfolding checkpoint_at
-checkpoint_laws frames =
-    iso_laws checkpoint_of (λ c. (c.flow, (c.step, (c.class, (c.waiting, c.stack))))) (λ _. refl) (λ _. refl) (pair_laws u32_laws (pair_laws u32_laws (pair_laws u16_laws (pair_laws (act_laws frames) (stack_laws frames)))))
+checkpoint_laws {exact = exact} frames =
+    iso_laws checkpoint_of (λ c. (c.flow, (c.step, (c.class, (c.waiting, c.stack))))) (λ _. refl) (λ _. refl) (pair_laws (weaker exact u32_laws) (pair_laws (weaker exact u32_laws) (pair_laws (weaker exact u16_laws) (pair_laws (act_laws frames) (stack_laws frames)))))
 
 -- ---- the same with frames seen as another type's
 

@@ -41,6 +41,8 @@ impl<F: Spelt> Spelt for Act<F> {
     ghost use Rattle.flow_machine.specs.Limits.{IsAct};
     ghost use Rattle.flow_machine.specs.Acts.{act_text, act_at, act_laws};
 
+    ghost exact = { F.exact };
+
     ghost spelling = { act_text F.spelling };
 
     ghost within = { IsAct F.within };

@@ -39,6 +39,8 @@ impl<F: Spelt> Spelt for Stack<F> {
     ghost use Rattle.flow_machine.specs.Limits.{IsStack};
     ghost use Rattle.flow_machine.specs.Checkpoints.{stack_text, stack_at, stack_laws};
 
+    ghost exact = { F.exact };
+
     ghost spelling = { stack_text F.spelling };
 
     ghost within = { IsStack F.within };
@@ -65,6 +67,8 @@ impl<F: Spelt> Spelt for Stack<F> {
 #[tactic(auto, unfolding(crate::specs::Checkpoints::checkpoint_at))]
 impl<F: Spelt> Spelt for Checkpoint<F> {
     ghost use Rattle.flow_machine.specs.Checkpoints.{IsCheckpoint, checkpoint_text, checkpoint_at, checkpoint_laws};
+
+    ghost exact = { F.exact };
 
     ghost spelling = { checkpoint_text F.spelling };
 

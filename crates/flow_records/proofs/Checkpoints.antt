@@ -1,8 +1,9 @@
 -- What is spelt of a flow is read as that flow again, and is short.
-use Rattle.std.proofs.Common.{◌≡◌, ◌<◌, ◌≤◌, ◌^◌, ℕ, List, length, Option, Some, Result, refl, sym, ap, subst, ◌∙◌, arith, option_map}
+use Rattle.std.proofs.Common.{◌≡◌, ◌<◌, ◌≤◌, ◌^◌, ℕ, List, length, Option, Some, None, Result, IfSome, refl, sym, ap, subst, ◌∙◌, arith, option_map}
 use Rattle.ledger_types.specs.declared.value.Value.{Value}
 use Rattle.ledger_types.specs.Values.{IsValue}
-use Rattle.net_base.specs.Laws.{Laws}
+use Rattle.net_base.specs.Laws.{LawsIf}
+use Rattle.net_base.specs.Parts.{DecodesAll}
 use Rattle.session_wire.specs.declared.effect.FlowPart.TheVariants as part
 use Rattle.flow_machine.specs.declared.act_spelling.FrameBytes.{FrameBytes}
 use Rattle.flow_machine.specs.declared.flows.Checkpoint.{Checkpoint}
@@ -11,7 +12,7 @@ use Rattle.flow_machine.specs.Machine.{Machine}
 use Rattle.flow_machine.specs.Flows.{SpellsContent}
 use Rattle.flow_machine.specs.Acts.{IsFrameBytes, frame_bytes, SameBytes}
 use Rattle.flow_machine.specs.Checkpoints.{IsCheckpoint, checkpoint_text, checkpoint_at, checkpoint_laws, checkpoint_with, checkpoint_same}
-use Rattle.transition_record.specs.Changes.{IsCheckpointText, checkpoint_flow_is}
+use Rattle.transition_record.specs.Changes.{IsCheckpointText, checkpoint_flow, checkpoint_flow_is}
 use Rattle.net_model.specs.State.{now_live}
 use Rattle.flow_records.specs.Records.{whole}
 use Rattle.flow_records.specs.Spelling.{IsPartOf}
@@ -27,8 +28,8 @@ is_some_checkpoint {F} within spelling m frames c h =
     (checkpoint_with see c, (t.0, sym t.1))
 
 -- of a live flow
-pub live_is : {F : Type 0} (within : F → Type 0) (spelling : F → List ℕ) (reading : List ℕ → Result (F × List ℕ) ℕ) (m : Machine F) → Laws within spelling reading → SpellsContent within spelling m → (number : ℕ) (c : Checkpoint F) (bytes : List ℕ) → IsCheckpoint within c → c.flow ≡ number → bytes ≡ checkpoint_text spelling c → IsPartOf reading number (state.Live c) (part.Live bytes)
-live_is {F} within spelling reading m laws frames number c bytes h own is =
+pub live_is : {F : Type 0} (within : F → Type 0) (spelling : F → List ℕ) (reading : List ℕ → Result (F × List ℕ) ℕ) (m : Machine F) {exact : Type 0} → LawsIf exact within spelling reading → SpellsContent within spelling m → (number : ℕ) (c : Checkpoint F) (bytes : List ℕ) → IsCheckpoint within c → c.flow ≡ number → bytes ≡ checkpoint_text spelling c → IsPartOf reading number (state.Live c) (part.Live bytes)
+live_is {F} within spelling reading m {exact} laws frames number c bytes h own is =
     let text = checkpoint_text spelling c in
     let few : length text ≤ 294942 = checkpoint_fits within spelling (content_fits within spelling m frames) c h in
     let read : whole (checkpoint_at reading text) ≡ Some c = whole_again (checkpoint_laws laws) c h in
@@ -60,3 +61,8 @@ failed_is reading number step class code hn hs hc hv = record {
   means = refl;
   short = failed_fits number step class code;
 }
+
+-- what all of the bytes are decoded to is the flow's of which they tell
+pub decoded_own : {F : Type 0} (within : F → Type 0) (spelling : F → List ℕ) (bytes : List ℕ) (r : Option (Checkpoint F)) → DecodesAll (IsCheckpoint within) (checkpoint_text spelling) r bytes → IfSome r (λ at. at.flow ≡ checkpoint_flow bytes)
+decoded_own within spelling bytes (Some c) h = sym (ap checkpoint_flow h.1 ∙ checkpoint_flow_is spelling c h.0.0)
+decoded_own within spelling bytes None h = tt

@@ -13,7 +13,7 @@ ghost use Rattle.flow_records.specs.Steps.{is_absent, after_told, owner_of, step
 use crate::step::{FlowAfter, Step};
 use flow_machine::{Checkpoint, FlowState};
 use ledger_types::LedgerChange;
-use net_base::{Cause, DecodeFault, Spelt, decode_whole};
+use net_base::{Cause, DecodeFault, Spelt, decode_all};
 use session_wire::{Effect, FlowPart, SessionChange};
 use std::alloc::{AllocError, Global};
 use transition_record::decode_record;
@@ -34,11 +34,7 @@ fn read_checkpoint<F: Spelt + Drop>(
     ensures within { IfOk result (λ r. IfSome r (IsCheckpoint F.within)) }
     ensures own { IfOk result (λ r. IfSome r (λ at. at.flow ≡ checkpoint_flow bytes.now)) }
 {
-    match decode_whole(alloc, bytes) {
-        Ok(at) => Ok(Some(at)),
-        Err(DecodeFault::Memory) => Err(AllocError),
-        Err(DecodeFault::Malformed { .. }) => Ok(None),
-    }
+    decode_all(alloc, bytes)
 }
 
 /// The flow that stands at this checkpoint, and its number.

@@ -2,7 +2,7 @@
 use Rattle.std.proofs.Common.{◌≡◌, inl, inr, ℕ, List, [], ◌∷◌, ◌++◌, Result, Ok, refl, sym, ap, subst, ◌∙◌, append_assoc}
 use Rattle.net_base.specs.Reading.{IsBytes}
 use Rattle.net_base.specs.Forms.{◌>>=◌}
-use Rattle.net_base.specs.Laws.{Laws, ok_is, ok_not_err, bind_ok, bind_err, IsBytes-rest, split_prefix, cancels}
+use Rattle.net_base.specs.Laws.{LawsIf, ok_is, ok_not_err, bind_ok, bind_err, IsBytes-rest, split_prefix, cancels}
 
 -- ---- a first part, and what is read after it
 
@@ -12,10 +12,10 @@ pub record Joins {A V : Type 0} (first : A → Type 0) (first_spelling : A → L
   pub split : (v : V) → within v → (a : A) × (first a × second a v)
 
 -- the laws of a whole whose second part is read after the first
-pub bind_laws : {A V : Type 0} {first : A → Type 0} {first_spelling : A → List ℕ} {first_reading : List ℕ → Result (A × List ℕ) ℕ} {second : A → V → Type 0} {second_spelling : A → V → List ℕ} {second_reading : A → List ℕ → Result (V × List ℕ) ℕ} {within : V → Type 0} {spelling : V → List ℕ}
-    → Laws first first_spelling first_reading → ((a : A) → first a → Laws (second a) (second_spelling a) (second_reading a))
+pub bind_laws : {A V : Type 0} {first : A → Type 0} {first_spelling : A → List ℕ} {first_reading : List ℕ → Result (A × List ℕ) ℕ} {second : A → V → Type 0} {second_spelling : A → V → List ℕ} {second_reading : A → List ℕ → Result (V × List ℕ) ℕ} {within : V → Type 0} {spelling : V → List ℕ} {exact : Type 0}
+    → LawsIf exact first first_spelling first_reading → ((a : A) → first a → LawsIf exact (second a) (second_spelling a) (second_reading a))
     → Joins first first_spelling second second_spelling within spelling
-    → Laws within spelling (λ bytes. first_reading bytes >>= λ x. second_reading x.0 x.1)
+    → LawsIf exact within spelling (λ bytes. first_reading bytes >>= λ x. second_reading x.0 x.1)
 bind_laws {A} {V} {first} {first_spelling} {first_reading} {second} {second_spelling} {second_reading} {within} {spelling} one two joins = record {
   takes = λ bytes x fits e.
       let b = bind_ok (first_reading bytes) (λ y. second_reading y.0 y.1) x e in
@@ -31,10 +31,10 @@ bind_laws {A} {V} {first} {first_spelling} {first_reading} {second} {second_spel
       ap (λ (l : List ℕ). first_reading l >>= λ x. second_reading x.0 x.1) regrouped
       ∙ ap (λ (r : Result (A × List ℕ) ℕ). r >>= λ x. second_reading x.0 x.1) (one.again s.0 (second_spelling s.0 v ++ rest) s.1.0)
       ∙ (two s.0 s.1.0).again v rest s.1.1;
-  faults = λ bytes n fits e.
+  faults = λ sure bytes n fits e.
       elim (bind_err (first_reading bytes) (λ y. second_reading y.0 y.1) n e) [
         | inl e1 ↦
-            let f = one.faults bytes n fits e1 in
+            let f = one.faults sure bytes n fits e1 in
             let a = f.goes.0 in
             let more = f.goes.1.1.0 in
             let two_a = two a f.goes.1.0 in
@@ -62,7 +62,7 @@ bind_laws {A} {V} {first} {first_spelling} {first_reading} {second} {second_spel
             let a = e2.0.0 in
             let t = one.takes bytes e2.0 fits e2.1.0 in
             let fits' : IsBytes e2.0.1 = IsBytes-rest (first_spelling a) e2.0.1 (subst IsBytes t.0 fits) in
-            let f = (two a t.1).faults e2.0.1 n fits' e2.1.1 in
+            let f = (two a t.1).faults sure e2.0.1 n fits' e2.1.1 in
             let v = f.goes.0 in
             let j = joins.join a v t.1 f.goes.1.0 in
             record {
@@ -101,8 +101,8 @@ abbrev seen_as : {A B : Type 0} → (A → B) → Result (A × List ℕ) ℕ →
 seen_as to read = read >>= λ x. Ok (to x.0, x.1)
 
 -- the laws of a spelling that is seen as another type's
-pub mapped_laws : {A B : Type 0} {inner : A → Type 0} {inner_spelling : A → List ℕ} {reading : List ℕ → Result (A × List ℕ) ℕ} {within : B → Type 0} {spelling : B → List ℕ} (to : A → B)
-    → Laws inner inner_spelling reading → Seen to inner inner_spelling within spelling → Laws within spelling (mapped_at to reading)
+pub mapped_laws : {A B : Type 0} {inner : A → Type 0} {inner_spelling : A → List ℕ} {reading : List ℕ → Result (A × List ℕ) ℕ} {within : B → Type 0} {spelling : B → List ℕ} {exact : Type 0} (to : A → B)
+    → LawsIf exact inner inner_spelling reading → Seen to inner inner_spelling within spelling → LawsIf exact within spelling (mapped_at to reading)
 mapped_laws {A} {B} {inner} {inner_spelling} {reading} {within} {spelling} to one seen = record {
   takes = λ bytes x fits e.
       let b = bind_ok (reading bytes) (λ y. Ok (to y.0, y.1)) x e in
@@ -114,10 +114,10 @@ mapped_laws {A} {B} {inner} {inner_spelling} {reading} {within} {spelling} to on
       let k = seen.keeps s.0 s.1.0 in
       subst (λ (z : B). mapped_at to reading (spelling z ++ rest) ≡ Ok (z, rest)) s.1.1
       (ap (λ (l : List ℕ). mapped_at to reading (l ++ rest)) k.1 ∙ ap (λ (r : Result (A × List ℕ) ℕ). seen_as to r) (one.again s.0 rest s.1.0));
-  faults = λ bytes n fits e.
+  faults = λ sure bytes n fits e.
       elim (bind_err (reading bytes) (λ y. Ok (to y.0, y.1)) n e) [
         | inl e1 ↦
-            let f = one.faults bytes n fits e1 in
+            let f = one.faults sure bytes n fits e1 in
             let k = seen.keeps f.goes.0 f.goes.1.0 in
             record {
               front = f.front;
@@ -143,8 +143,8 @@ abbrev pub pair_at : {A B : Type 0} → (List ℕ → Result (A × List ℕ) ℕ
 pair_at a b bytes = a bytes >>= λ x. b x.1 >>= λ y. Ok ((x.0, y.0), y.1)
 
 -- the laws of pairs
-pub pair_laws : {A B : Type 0} {wa : A → Type 0} {sa : A → List ℕ} {ra : List ℕ → Result (A × List ℕ) ℕ} {wb : B → Type 0} {sb : B → List ℕ} {rb : List ℕ → Result (B × List ℕ) ℕ}
-    → Laws wa sa ra → Laws wb sb rb → Laws (λ (p : A × B). wa p.0 × wb p.1) (λ (p : A × B). sa p.0 ++ sb p.1) (pair_at ra rb)
+pub pair_laws : {A B : Type 0} {wa : A → Type 0} {sa : A → List ℕ} {ra : List ℕ → Result (A × List ℕ) ℕ} {wb : B → Type 0} {sb : B → List ℕ} {rb : List ℕ → Result (B × List ℕ) ℕ} {exact : Type 0}
+    → LawsIf exact wa sa ra → LawsIf exact wb sb rb → LawsIf exact (λ (p : A × B). wa p.0 × wb p.1) (λ (p : A × B). sa p.0 ++ sb p.1) (pair_at ra rb)
 pair_laws {A} {B} {wa} {sa} {ra} {wb} {sb} {rb} one two =
     bind_laws {second = λ a (p : A × B). wb p.1 × (p.0 ≡ a)} {second_spelling = λ a (p : A × B). sb p.1} {second_reading = λ a bytes. rb bytes >>= λ y. Ok ((a, y.0), y.1)} one
     (λ a h. mapped_laws (λ (y : B). (a, y)) two (record {
@@ -157,8 +157,8 @@ pair_laws {A} {B} {wa} {sa} {ra} {wb} {sb} {rb} one two =
     })
 
 -- the same limits and spelling in other words
-pub restated_laws : {V : Type 0} {w : V → Type 0} {s : V → List ℕ} {w' : V → Type 0} {s' : V → List ℕ} {reading : List ℕ → Result (V × List ℕ) ℕ}
-    → ((v : V) → w v → w' v × (s' v ≡ s v)) → ((v : V) → w' v → w v) → Laws w s reading → Laws w' s' reading
+pub restated_laws : {V : Type 0} {w : V → Type 0} {s : V → List ℕ} {w' : V → Type 0} {s' : V → List ℕ} {reading : List ℕ → Result (V × List ℕ) ℕ} {exact : Type 0}
+    → ((v : V) → w v → w' v × (s' v ≡ s v)) → ((v : V) → w' v → w v) → LawsIf exact w s reading → LawsIf exact w' s' reading
 restated_laws {V} {w} {s} {w'} {s'} {reading} there back one = record {
   takes = λ bytes x fits e.
       let t = one.takes bytes x fits e in
@@ -167,8 +167,8 @@ restated_laws {V} {w} {s} {w'} {s'} {reading} there back one = record {
   again = λ v rest h.
       let k = there v (back v h) in
       ap (λ (l : List ℕ). reading (l ++ rest)) k.1 ∙ one.again v rest (back v h);
-  faults = λ bytes n fits e.
-      let f = one.faults bytes n fits e in
+  faults = λ sure bytes n fits e.
+      let f = one.faults sure bytes n fits e in
       let k = there f.goes.0 f.goes.1.0 in
       record {
         front = f.front;
@@ -185,7 +185,7 @@ restated_laws {V} {w} {s} {w'} {s'} {reading} there back one = record {
 }
 
 -- the same, as a record of the fields
-pub iso_laws : {A B : Type 0} {within : A → Type 0} {spelling : A → List ℕ} {reading : List ℕ → Result (A × List ℕ) ℕ} (to : A → B) (from : B → A)
-    → ((b : B) → to (from b) ≡ b) → ((a : A) → from (to a) ≡ a) → Laws within spelling reading → Laws (λ (b : B). within (from b)) (λ (b : B). spelling (from b)) (mapped_at to reading)
+pub iso_laws : {A B : Type 0} {within : A → Type 0} {spelling : A → List ℕ} {reading : List ℕ → Result (A × List ℕ) ℕ} {exact : Type 0} (to : A → B) (from : B → A)
+    → ((b : B) → to (from b) ≡ b) → ((a : A) → from (to a) ≡ a) → LawsIf exact within spelling reading → LawsIf exact (λ (b : B). within (from b)) (λ (b : B). spelling (from b)) (mapped_at to reading)
 iso_laws {A} {B} {within} {spelling} {reading} to from there back one =
     mapped_laws to one (record { keeps = λ a h. (subst within (sym (back a)) h, ap spelling (back a)); from = λ b h. (from b, (h, there b)) })

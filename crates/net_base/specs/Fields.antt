@@ -9,7 +9,7 @@ use Rattle.std.proofs.lemmas.List.Concat.{flat_map-cons}
 use Rattle.std.proofs.lemmas.Nat.{be_bytes_2, be_bytes_4, be_bytes_8, from_be_bytes-to_be_bytes_2, from_be_bytes-to_be_bytes_4, from_be_bytes-to_be_bytes_8}
 use Rattle.net_base.specs.Reading.{IsBytes, number}
 use Rattle.net_base.specs.Forms.{◌>>=◌, byte_at, bytes_at, number_at, below_at, option_at, items_at, list8_at, option_of, list8, ListWithin}
-use Rattle.net_base.specs.Laws.{Laws, done, ok_is, err_is, ok_not_err}
+use Rattle.net_base.specs.Laws.{Laws, LawsIf, weaker, done, ok_is, err_is, ok_not_err}
 use Rattle.net_base.specs.Combining.{bind_laws, mapped_laws, restated_laws}
 
 -- ---- nothing is read
@@ -19,7 +19,7 @@ pub done_laws : {V : Type 0} (v : V) → Laws (λ (w : V). w ≡ v) (λ (w : V).
 done_laws {V} v = record {
   takes = λ bytes x fits e. (ap (λ (p : V × List ℕ). p.1) (ok_is (v, bytes) x e), sym (ap (λ (p : V × List ℕ). p.0) (ok_is (v, bytes) x e)));
   again = λ w rest h. ap (λ (z : V). done (z, rest)) (sym h);
-  faults = λ bytes n fits e. absurd (ok_not_err (done (v, bytes)) (v, bytes) n refl e);
+  faults = λ sure bytes n fits e. absurd (ok_not_err (done (v, bytes)) (v, bytes) n refl e);
   some = v;
   some_within = refl;
 }
@@ -47,7 +47,7 @@ below_laws limit some = record {
         subst (λ (p : ℕ × List ℕ). (b ∷ rest ≡ p.0 ∷ p.1) × (p.0 < limit)) g.1 (refl, ltb-true b limit g.0)
   ];
   again = λ n rest h. rw (lt-ltb n limit h) refl;
-  faults = elim [
+  faults = λ sure. elim [
     | [] ↦ λ n fits e. record { front = []; rest = []; parts = refl; left = err_is {A = ℕ × List ℕ} 0 n e; goes = (0, (some, (0 ∷ [], refl))); stops = λ b after is v h more same. absurd cc }
     | c ∷ rest ↦ λ n fits e.
         let g = guard_err (ltb c limit) (suc (length rest)) n (c, rest) e in
@@ -99,7 +99,7 @@ bytes_laws n = record {
   again = λ b rest h.
       let long : ltb (length (b ++ rest)) n ≡ false = le-ltb _ _ (omega (arith, length-append b rest)) in
       rw (long, take_at b rest n h, drop_at b rest n h) refl;
-  faults = λ bytes m fits e.
+  faults = λ sure bytes m fits e.
       let g = guard_less_err (ltb (length bytes) n) 0 m (take n bytes, drop n bytes) e in
       let short : length bytes < n = ltb-true _ _ g.0 in
       record {
@@ -192,7 +192,7 @@ number_laws w limit wide = record {
       let len = wide.len n in
       let long : ltb (length (to_be_bytes w n ++ rest)) (byte_len w) ≡ false = le-ltb _ _ (omega (arith, length-append (to_be_bytes w n) rest)) in
       rw (long, take_at (to_be_bytes w n) rest (byte_len w) len, drop_at (to_be_bytes w n) rest (byte_len w) len, wide.again n lt) refl;
-  faults = λ bytes m fits e.
+  faults = λ sure bytes m fits e.
       let g = guard_less_err (ltb (length bytes) (byte_len w)) 0 m (from_be_bytes w (take (byte_len w) bytes), drop (byte_len w) bytes) e in
       let short : length bytes < byte_len w = ltb-true _ _ g.0 in
       let whole = filled (byte_len w) bytes in
@@ -234,13 +234,13 @@ behind spell None = []
 behind spell (Some v) = spell v
 
 -- the laws of options
-pub option_laws : {V : Type 0} {within : V → Type 0} {spelling : V → List ℕ} {reading : List ℕ → Result (V × List ℕ) ℕ}
-    → Laws within spelling reading → Laws (λ (o : Option V). IfSome o within) (λ (o : Option V). option_of spelling o) (option_at reading)
+pub option_laws : {V : Type 0} {within : V → Type 0} {spelling : V → List ℕ} {reading : List ℕ → Result (V × List ℕ) ℕ} {exact : Type 0}
+    → LawsIf exact within spelling reading → LawsIf exact (λ (o : Option V). IfSome o within) (λ (o : Option V). option_of spelling o) (option_at reading)
 unfolding option_at flag_of behind
-option_laws {V} {within} {spelling} {reading} one =
-    bind_laws {second = λ f (o : Option V). (flag_of o ≡ f) × IfSome o within} {second_spelling = λ f o. behind spelling o} {second_reading = λ f bytes. cond (f == 0) (Ok (None, bytes)) (reading bytes >>= λ x. Ok (Some x.0, x.1))} (below_laws 2 (omega arith))
+option_laws {V} {within} {spelling} {reading} {exact} one =
+    bind_laws {second = λ f (o : Option V). (flag_of o ≡ f) × IfSome o within} {second_spelling = λ f o. behind spelling o} {second_reading = λ f bytes. cond (f == 0) (Ok (None, bytes)) (reading bytes >>= λ x. Ok (Some x.0, x.1))} (weaker exact (below_laws 2 (omega arith)))
     (elim [
-      | zero ↦ λ h. restated_laws (λ o is. rw is ((refl, tt), refl)) (elim [ None ↦ λ w. refl | Some v ↦ λ w. absurd cc ]) (done_laws {V = Option V} None)
+      | zero ↦ λ h. restated_laws (λ o is. rw is ((refl, tt), refl)) (elim [ None ↦ λ w. refl | Some v ↦ λ w. absurd cc ]) (weaker exact (done_laws {V = Option V} None))
       | suc zero ↦ λ h. mapped_laws (λ (v : V). Some v) one (record { keeps = λ v hv. ((refl, hv), refl); from = elim [ None ↦ λ w. absurd cc | Some v ↦ λ w. (v, (w.1, refl)) ] })
       | suc (suc f) ↦ λ h. absurd (omega arith)
     ])
@@ -252,11 +252,11 @@ option_laws {V} {within} {spelling} {reading} one =
 -- ---- lists
 
 -- the laws of n items
-pub items_laws : {V : Type 0} {within : V → Type 0} {spelling : V → List ℕ} {reading : List ℕ → Result (V × List ℕ) ℕ}
-    → Laws within spelling reading → (n : ℕ) → Laws (λ (vs : List V). (length vs ≡ n) × AllByRecursion within vs) (λ (vs : List V). flat_map spelling vs) (items_at reading n)
+pub items_laws : {V : Type 0} {within : V → Type 0} {spelling : V → List ℕ} {reading : List ℕ → Result (V × List ℕ) ℕ} {exact : Type 0}
+    → LawsIf exact within spelling reading → (n : ℕ) → LawsIf exact (λ (vs : List V). (length vs ≡ n) × AllByRecursion within vs) (λ (vs : List V). flat_map spelling vs) (items_at reading n)
 unfolding items_at
-items_laws {V} {within} {spelling} {reading} one zero =
-    restated_laws (λ vs is. rw is ((refl, tt), refl)) (λ vs w. nil_from_length vs w.0) (done_laws {V = List V} [])
+items_laws {V} {within} {spelling} {reading} {exact} one zero =
+    restated_laws (λ vs is. rw is ((refl, tt), refl)) (λ vs w. nil_from_length vs w.0) (weaker exact (done_laws {V = List V} []))
 items_laws {V} {within} {spelling} {reading} one (suc n) =
     bind_laws {second = λ v (vs : List V). (others : List V) × (((length others ≡ n) × AllByRecursion within others) × (vs ≡ v ∷ others))} {second_spelling = λ v (vs : List V). flat_map spelling (drop 1 vs)} {second_reading = λ v bytes. items_at reading n bytes >>= λ xs. Ok (v ∷ xs.0, xs.1)} one
     (λ v hv. mapped_laws (λ (vs : List V). v ∷ vs) (items_laws one n) (record {
@@ -290,7 +290,7 @@ byte_laws = record {
     | b ∷ rest ↦ λ x fits e. subst (λ (p : ℕ × List ℕ). (b ∷ rest ≡ p.0 ∷ p.1) × (p.0 < 256)) (ok_is (b, rest) x e) (refl, fits 0)
   ];
   again = λ n rest h. refl;
-  faults = elim [
+  faults = λ sure. elim [
     | [] ↦ λ n fits e. record { front = []; rest = []; parts = refl; left = err_is {A = ℕ × List ℕ} 0 n e; goes = (0, (omega arith, (0 ∷ [], refl))); stops = λ b after is v h more same. absurd cc }
     | c ∷ rest ↦ λ n fits e. absurd cc
   ];

@@ -5,7 +5,7 @@ use Rattle.std.specs.List.{list_any}
 use Rattle.std.proofs.lemmas.Bool.{eqb-true, le-leb, lt-ltb}
 use Rattle.std.proofs.lemmas.Bool.Decides.{nat_tests}
 use Rattle.net_base.specs.Forms.{◌>>=◌, byte_at}
-use Rattle.net_base.specs.Laws.{Laws, done, err_is}
+use Rattle.net_base.specs.Laws.{Laws, LawsIf, weaker, done, err_is}
 use Rattle.net_base.specs.Combining.{bind_laws, restated_laws}
 use Rattle.net_base.specs.Fields.{guard_ok, guard_err, done_laws}
 
@@ -29,9 +29,9 @@ abbrev pub cases_at : {V : Type 0} → List (ℕ × (List ℕ → Result (V × L
 cases_at arms bytes = kind_at (kinds_of arms) bytes >>= λ k. arms_at arms k.0 k.1
 
 -- Each arm reads the values of its kind.
-abbrev pub ArmsLaws : {V : Type 0} → (V → Type 0) → (V → ℕ) → (V → List ℕ) → List (ℕ × (List ℕ → Result (V × List ℕ) ℕ)) → Type 0
-ArmsLaws within kind body [] = Unit {0}
-ArmsLaws {V} within kind body (a ∷ arms) = Laws (λ (v : V). within v × (kind v ≡ a.0)) body a.1 × ArmsLaws within kind body arms
+abbrev pub ArmsLawsIf : Type 0 → {V : Type 0} → (V → Type 0) → (V → ℕ) → (V → List ℕ) → List (ℕ × (List ℕ → Result (V × List ℕ) ℕ)) → Type 0
+ArmsLawsIf exact within kind body [] = Unit {0}
+ArmsLawsIf exact {V} within kind body (a ∷ arms) = LawsIf exact (λ (v : V). within v × (kind v ≡ a.0)) body a.1 × ArmsLawsIf exact within kind body arms
 
 -- the laws of a byte of kind
 pub kind_laws : (first : ℕ) (kinds : List ℕ) → list_any (λ y. nat_eq y first) kinds ≡ true → Laws (λ (k : ℕ). list_any (λ y. nat_eq y k) kinds ≡ true) (λ (k : ℕ). k ∷ []) (kind_at kinds)
@@ -44,7 +44,7 @@ kind_laws first kinds is_first = record {
         subst (λ (p : ℕ × List ℕ). (b ∷ rest ≡ p.0 ∷ p.1) × (list_any (λ y. nat_eq y p.0) kinds ≡ true)) g.1 (refl, g.0)
   ];
   again = λ n rest h. rw h refl;
-  faults = elim [
+  faults = λ sure. elim [
     | [] ↦ λ n fits e. record { front = []; rest = []; parts = refl; left = err_is {A = ℕ × List ℕ} 0 n e; goes = (first, (is_first, (first ∷ [], refl))); stops = λ b after is v h more same. absurd cc }
     | c ∷ rest ↦ λ n fits e.
         let g = guard_err (list_any (λ y. nat_eq y c) kinds) (suc (length rest)) n (c, rest) e in
@@ -65,7 +65,7 @@ kind_laws first kinds is_first = record {
 }
 
 -- by a test
-pub cond_laws : {V : Type 0} {within : V → Type 0} {spelling : V → List ℕ} (b : Bool) (r s : List ℕ → Result (V × List ℕ) ℕ) → (b ≡ true → Laws within spelling r) → (b ≡ false → Laws within spelling s) → Laws within spelling (λ bytes. cond b (r bytes) (s bytes))
+pub cond_laws : {V : Type 0} {within : V → Type 0} {spelling : V → List ℕ} {exact : Type 0} (b : Bool) (r s : List ℕ → Result (V × List ℕ) ℕ) → (b ≡ true → LawsIf exact within spelling r) → (b ≡ false → LawsIf exact within spelling s) → LawsIf exact within spelling (λ bytes. cond b (r bytes) (s bytes))
 cond_laws true r s holds fails = holds refl
 cond_laws false r s holds fails = fails refl
 
@@ -80,24 +80,24 @@ or_last true e = refl
 or_last false e = absurd cc
 
 -- the laws of what stands behind one kind
-arm_laws : {V : Type 0} {within : V → Type 0} {kind : V → ℕ} {body : V → List ℕ} (arms : List (ℕ × (List ℕ → Result (V × List ℕ) ℕ))) (k : ℕ)
-    → ArmsLaws within kind body arms → list_any (λ y. nat_eq y k) (kinds_of arms) ≡ true → Laws (λ (v : V). within v × (kind v ≡ k)) body (arms_at arms k)
+arm_laws : {V : Type 0} {within : V → Type 0} {kind : V → ℕ} {body : V → List ℕ} {exact : Type 0} (arms : List (ℕ × (List ℕ → Result (V × List ℕ) ℕ))) (k : ℕ)
+    → ArmsLawsIf exact within kind body arms → list_any (λ y. nat_eq y k) (kinds_of arms) ≡ true → LawsIf exact (λ (v : V). within v × (kind v ≡ k)) body (arms_at arms k)
 arm_laws [] k laws among = absurd cc
-arm_laws {V} {within} {kind} {body} (a ∷ []) k laws among =
+arm_laws {V} {within} {kind} {body} {exact} (a ∷ []) k laws among =
     let same : a.0 ≡ k = eqb-true a.0 k (or_last (nat_eq a.0 k) among) in
-    subst (λ (n : ℕ). Laws (λ (v : V). within v × (kind v ≡ n)) body a.1) same laws.0
-arm_laws {V} {within} {kind} {body} (a ∷ b ∷ more) k laws among =
+    subst (λ (n : ℕ). LawsIf exact (λ (v : V). within v × (kind v ≡ n)) body a.1) same laws.0
+arm_laws {V} {within} {kind} {body} {exact} (a ∷ b ∷ more) k laws among =
     cond_laws (nat_eq a.0 k) a.1 (arms_at (b ∷ more) k)
-    (λ holds. subst (λ (n : ℕ). Laws (λ (v : V). within v × (kind v ≡ n)) body a.1) (eqb-true a.0 k holds) laws.0)
+    (λ holds. subst (λ (n : ℕ). LawsIf exact (λ (v : V). within v × (kind v ≡ n)) body a.1) (eqb-true a.0 k holds) laws.0)
     (λ fails. arm_laws (b ∷ more) k laws.1 (or_else (nat_eq a.0 k) (list_any (λ y. nat_eq y k) (kinds_of (b ∷ more))) among fails))
 
 -- the laws of values that begin with a byte of kind
-pub cases_laws : {V : Type 0} {within : V → Type 0} {kind : V → ℕ} {body : V → List ℕ} {spelling : V → List ℕ} (arms : List (ℕ × (List ℕ → Result (V × List ℕ) ℕ))) (first : ℕ)
+pub cases_laws : {V : Type 0} {within : V → Type 0} {kind : V → ℕ} {body : V → List ℕ} {spelling : V → List ℕ} {exact : Type 0} (arms : List (ℕ × (List ℕ → Result (V × List ℕ) ℕ))) (first : ℕ)
     → list_any (λ y. nat_eq y first) (kinds_of arms) ≡ true
     → ((v : V) → within v → (list_any (λ y. nat_eq y (kind v)) (kinds_of arms) ≡ true) × (spelling v ≡ kind v ∷ body v))
-    → ArmsLaws within kind body arms → Laws within spelling (cases_at arms)
-cases_laws {V} {within} {kind} {body} {spelling} arms first is_first covered laws =
-    bind_laws {second = λ k (v : V). within v × (kind v ≡ k)} {second_spelling = λ k (v : V). body v} {second_reading = arms_at arms} (kind_laws first (kinds_of arms) is_first)
+    → ArmsLawsIf exact within kind body arms → LawsIf exact within spelling (cases_at arms)
+cases_laws {V} {within} {kind} {body} {spelling} {exact} arms first is_first covered laws =
+    bind_laws {second = λ k (v : V). within v × (kind v ≡ k)} {second_spelling = λ k (v : V). body v} {second_reading = arms_at arms} (weaker exact (kind_laws first (kinds_of arms) is_first))
     (λ k h. arm_laws arms k laws h)
     (record {
       join = λ k v hk hv. (hv.0, (covered v hv.0).1 ∙ ap (λ (n : ℕ). n ∷ body v) hv.1);
@@ -137,7 +137,7 @@ between_laws low high lt = record {
         subst (λ (p : ℕ × List ℕ). (b ∷ rest ≡ p.0 ∷ p.1) × IsBetween low high p.0) g.1 (refl, test_between low high b g.0)
   ];
   again = λ n rest h. rw (between_test low high n h) refl;
-  faults = elim [
+  faults = λ sure. elim [
     | [] ↦ λ n fits e. record { front = []; rest = []; parts = refl; left = err_is {A = ℕ × List ℕ} 0 n e; goes = (low, ((omega arith, lt), (low ∷ [], refl))); stops = λ b after is v h more same. absurd cc }
     | c ∷ rest ↦ λ n fits e.
         let g = guard_err (nat_le low c && nat_lt c high) (suc (length rest)) n (c, rest) e in

@@ -13,13 +13,17 @@ pub record IsFault {V : Type 0} (within : V → Type 0) (spelling : V → List �
   pub goes : (v : V) × (within v × ((more : List ℕ) × (spelling v ≡ front ++ more)))
   pub stops : (b : ℕ) (after : List ℕ) → rest ≡ b ∷ after → (v : V) → within v → (more : List ℕ) → spelling v ≡ front ++ b ∷ more → ⊥
 
--- What is read is spelt so, and what is spelt so is read, whatever follows. Each type has a value.
-pub record Laws {V : Type 0} (within : V → Type 0) (spelling : V → List ℕ) (reading : List ℕ → Result (V × List ℕ) ℕ) : Type 0 where
+-- What is read is spelt so, and what is spelt so is read, whatever follows; where it is exact, a fault is the first one. Each type has a value.
+pub record LawsIf (exact : Type 0) {V : Type 0} (within : V → Type 0) (spelling : V → List ℕ) (reading : List ℕ → Result (V × List ℕ) ℕ) : Type 0 where
   pub takes : (bytes : List ℕ) (x : V × List ℕ) → IsBytes bytes → reading bytes ≡ Ok x → (bytes ≡ spelling x.0 ++ x.1) × within x.0
   pub again : (v : V) (rest : List ℕ) → within v → reading (spelling v ++ rest) ≡ Ok (v, rest)
-  pub faults : (bytes : List ℕ) (n : ℕ) → IsBytes bytes → reading bytes ≡ Err n → IsFault within spelling bytes n
+  pub faults : exact → (bytes : List ℕ) (n : ℕ) → IsBytes bytes → reading bytes ≡ Err n → IsFault within spelling bytes n
   pub some : V
   pub some_within : within some
+
+-- the laws of a spelling whose faults are exact
+abbrev pub Laws : {V : Type 0} → (V → Type 0) → (V → List ℕ) → (List ℕ → Result (V × List ℕ) ℕ) → Type 0
+Laws within spelling reading = LawsIf (Unit {0}) within spelling reading
 
 -- ---- tools
 
@@ -69,8 +73,16 @@ split_prefix (c ∷ a) x (d ∷ b) y e =
       | inr w ↦ inr (w.0, (cc (heads, w.1.0), w.1.1))
     ]
 
+-- laws with exact faults are laws
+pub weaker : {V : Type 0} {within : V → Type 0} {spelling : V → List ℕ} {reading : List ℕ → Result (V × List ℕ) ℕ} (exact : Type 0) → Laws within spelling reading → LawsIf exact within spelling reading
+weaker exact one = record { takes = one.takes; again = one.again; faults = λ sure. one.faults tt; some = one.some; some_within = one.some_within }
+
+-- laws whose faults are known to be exact
+pub surely : {V : Type 0} {within : V → Type 0} {spelling : V → List ℕ} {reading : List ℕ → Result (V × List ℕ) ℕ} {exact : Type 0} → exact → LawsIf exact within spelling reading → Laws within spelling reading
+surely sure one = record { takes = one.takes; again = one.again; faults = λ _. one.faults sure; some = one.some; some_within = one.some_within }
+
 -- no spelling begins another, and each value has one
-pub cancels : {V : Type 0} {within : V → Type 0} {spelling : V → List ℕ} {reading : List ℕ → Result (V × List ℕ) ℕ} (laws : Laws within spelling reading) (v w : V) (x y : List ℕ) → within v → within w → spelling v ++ x ≡ spelling w ++ y → (v ≡ w) × (x ≡ y)
+pub cancels : {V : Type 0} {within : V → Type 0} {spelling : V → List ℕ} {reading : List ℕ → Result (V × List ℕ) ℕ} {exact : Type 0} (laws : LawsIf exact within spelling reading) (v w : V) (x y : List ℕ) → within v → within w → spelling v ++ x ≡ spelling w ++ y → (v ≡ w) × (x ≡ y)
 cancels {V} {within} {spelling} {reading} laws v w x y hv hw e =
     let p = laws.again v x hv in
     let q = laws.again w y hw in

@@ -1,5 +1,5 @@
 -- What functions that read and write parts of a value do.
-use Rattle.std.specs.Prelude.{◌≡◌, ◌+◌, ℕ, List, ◌++◌, length, Result, Ok, Err}
+use Rattle.std.specs.Prelude.{◌≡◌, ◌+◌, ℕ, List, ◌++◌, length, Option, Some, None, Result, Ok, Err}
 use Rattle.net_base.specs.declared.fault.PartFault.{PartFault}
 use Rattle.net_base.specs.declared.fault.PartFault.TheVariants as faults
 use Rattle.net_base.specs.declared.fault.DecodeFault.{DecodeFault}
@@ -66,3 +66,8 @@ WholeFault within spelling bytes (decoding.Malformed at) = IsFirstFault within s
 abbrev pub DecodesWhole : {V : Type 0} → (V → Type 0) → (V → List ℕ) → Result V DecodeFault → List ℕ → Type 0
 DecodesWhole within spelling (Ok v) bytes = within v × (bytes ≡ spelling v)
 DecodesWhole within spelling (Err e) bytes = WholeFault within spelling bytes e
+
+-- The value whose spelling the bytes are, or none, where they are no value's.
+abbrev pub DecodesAll : {V : Type 0} → (V → Type 0) → (V → List ℕ) → Option V → List ℕ → Type 0
+DecodesAll within spelling (Some v) bytes = within v × (bytes ≡ spelling v)
+DecodesAll {V} within spelling None bytes = (v : V) → within v → bytes ≡ spelling v → ⊥

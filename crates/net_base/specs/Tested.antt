@@ -27,7 +27,7 @@ tested_laws test first is_first = record {
         subst (λ (p : ℕ × List ℕ). (b ∷ rest ≡ p.0 ∷ p.1) × (test p.0 ≡ true)) g.1 (refl, g.0)
   ];
   again = λ n rest h. rw h refl;
-  faults = elim [
+  faults = λ sure. elim [
     | [] ↦ λ n fits e. record { front = []; rest = []; parts = refl; left = err_is {A = ℕ × List ℕ} 0 n e; goes = (first, (is_first, (first ∷ [], refl))); stops = λ b after is v h more same. absurd cc }
     | c ∷ rest ↦ λ n fits e.
         let g = guard_err (test c) (suc (length rest)) n (c, rest) e in
@@ -159,7 +159,7 @@ positive_laws w limit wide ordered top =
       again = λ n rest h.
           let ne : n ≢ 0 = omega (arith, h.0) in
           rw (plain.again n rest h.1, ne_eqb n 0 ne) refl;
-      faults = λ bytes n fits e.
+      faults = λ sure bytes n fits e.
           elim (bind_err (number_at w bytes) (λ x. cond (nat_eq x.0 0) (Err (suc (length x.1))) (Ok x)) n e) [
             | inl e1 ↦ short_number w limit wide ordered bytes n fits e1
             | inr e2 ↦
@@ -246,9 +246,9 @@ headed_laws {V} {within} {spelling} {reading} test head begins first first_withi
       let b = begins v h.0 in
       let whole : spelling v ++ rest ≡ head v ∷ (b.0 ++ rest) = ap (λ (l : List ℕ). l ++ rest) b.1 in
       ap (headed_at test reading) whole ∙ ap (λ (t : Bool). cond t (reading (head v ∷ (b.0 ++ rest))) (Err (suc (length (b.0 ++ rest))))) h.1 ∙ ap reading (sym whole) ∙ one.again v rest h.0;
-  faults = elim [
+  faults = λ sure. elim [
     | [] ↦ λ n fits e.
-        let f = one.faults [] n fits e in
+        let f = one.faults sure [] n fits e in
         let empty : f.front ≡ [] = nil_from_length f.front (omega (arith, ap length f.parts, length-append f.front f.rest)) in
         record {
           front = f.front;
@@ -272,7 +272,7 @@ headed_laws {V} {within} {spelling} {reading} test head begins first first_withi
                 let wrong : test c ≡ true = subst (λ (k : ℕ). test k ≡ true) same_head h.1 in
                 absurd (cc (wrong, p.0));
           }
-          | inr p ↦ let f = one.faults (c ∷ bytes) n fits p.1 in record {
+          | inr p ↦ let f = one.faults sure (c ∷ bytes) n fits p.1 in record {
             front = f.front;
             rest = f.rest;
             parts = f.parts;

@@ -51,6 +51,8 @@ impl<T> Boxed<T> {
 }
 
 impl<T: Spelt> Spelt for Boxed<T> {
+    ghost exact = { T.exact };
+
     ghost spelling = { T.spelling };
 
     ghost within = { T.within };

@@ -151,6 +151,8 @@ impl<T: Spelt> Spelt for Option<T> {
     ghost use Rattle.net_base.specs.Forms.{option_of, option_at};
     ghost use Rattle.net_base.specs.Fields.{option_laws};
 
+    ghost exact = { T.exact };
+
     ghost spelling = { λ o. option_of T.spelling o };
 
     ghost within = { λ o. IfSome o T.within };

@@ -1,8 +1,8 @@
 //! Types whose values have one canonical spelling in bytes.
 
-ghost use Rattle.std.specs.Prelude.{◌≡◌, ◌++◌, ℕ, List, Result};
+ghost use Rattle.std.specs.Prelude.{◌≡◌, ◌++◌, ℕ, List, Result, IfOk};
 ghost use Rattle.net_base.specs.Reading.{Puts};
-ghost use Rattle.net_base.specs.Parts.{Gives, Writes, Decodes, DecodesWhole};
+ghost use Rattle.net_base.specs.Parts.{Gives, Writes, Decodes, DecodesWhole, DecodesAll};
 
 use crate::fault::{DecodeFault, PartFault};
 use crate::reader::Reader;
@@ -12,7 +12,10 @@ use std::alloc::{AllocError, Global};
 /// A type whose values have one spelling, within limits.
 pub trait Spelt: Sized + Drop {
     ghost use Rattle.std.specs.Prelude.{◌≡◌, ℕ, List, Result};
-    ghost use Rattle.net_base.specs.Laws.{Laws};
+    ghost use Rattle.net_base.specs.Laws.{LawsIf};
+
+    /// Holds where each fault is the first one.
+    ghost exact: { Type 0 } = { Unit {0} };
 
     /// The value's bytes.
     ghost spelling: { Self → List ℕ };
@@ -34,8 +37,8 @@ pub trait Spelt: Sized + Drop {
         requires { within self.now }
         ensures { Writes (spelling self.now) result out.old out.new };
 
-    /// What is spelt is read again, what is read is spelt so, and a fault is the first.
-    ghost laws: { Laws within spelling reading };
+    /// What is spelt is read again, what is read is spelt so, and a fault is the first where `exact` holds.
+    ghost laws: { LawsIf exact within spelling reading };
 }
 
 /// The value whose spelling begins at the reader's place, which then stands behind it.
@@ -85,6 +88,7 @@ pub fn encode<T: Spelt>(alloc: Global, value: &T, out: &mut Writer) -> Result<()
 /// `Malformed { at }` exactly where the bytes are no value's spelling: `at` is the first place, counted from
 /// 0, at which no value's spelling can go on. `Memory` where memory runs out.
 pub fn decode_whole<T: Spelt>(alloc: Global, bytes: &[u8]) -> Result<T, DecodeFault>
+    requires sure { T.exact }
     ensures { DecodesWhole T.within T.spelling result bytes.now }
 {
     let mut from = Reader::new(bytes);
@@ -101,6 +105,28 @@ pub fn decode_whole<T: Spelt>(alloc: Global, bytes: &[u8]) -> Result<T, DecodeFa
                 at: bytes.len() - left,
             }),
         },
+    }
+}
+
+/// The value whose spelling all of the bytes are, `None` exactly where they are no value's spelling. It asks of the type no more than
+/// that it is spelt: it doesn't tell where the bytes stop to be a spelling, as `decode_whole` does.
+///
+/// # Errors
+///
+/// `AllocError` for want of memory.
+pub fn decode_all<T: Spelt>(alloc: Global, bytes: &[u8]) -> Result<Option<T>, AllocError>
+    ensures { IfOk result (λ read. DecodesAll T.within T.spelling read bytes.now) }
+{
+    let mut from = Reader::new(bytes);
+    match T::read_part(alloc, &mut from) {
+        Ok(value) => {
+            if from.remaining() > 0 {
+                return Ok(None);
+            }
+            Ok(Some(value))
+        }
+        Err(PartFault::Memory) => Err(AllocError),
+        Err(PartFault::Left(_)) => Ok(None),
     }
 }
 

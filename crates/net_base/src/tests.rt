@@ -50,7 +50,9 @@ fn a_frame_is_written_and_read(rt: HostRuntime) -> Result<(), Fail> {
 }
 
 /// The place that `decode_whole` answers, or the number of bytes where they are a spelling.
-fn end_of<T: Spelt>(alloc: Global, bytes: &[u8]) -> Result<usize, Fail> {
+fn end_of<T: Spelt>(alloc: Global, bytes: &[u8]) -> Result<usize, Fail>
+    requires sure { T.exact }
+{
     match decode_whole::<T>(alloc, bytes) {
         Ok(value) => {
             let mut out = Writer::new(alloc);

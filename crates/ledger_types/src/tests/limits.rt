@@ -82,7 +82,9 @@ fn conflict_bytes(alloc: Global, count: u8) -> Result<ByteList, AllocError> {
 }
 
 /// Why the bytes are no spelling; nothing where they are one.
-fn fault_of<T: Spelt>(alloc: Global, bytes: &ByteList) -> Option<DecodeFault> {
+fn fault_of<T: Spelt>(alloc: Global, bytes: &ByteList) -> Option<DecodeFault>
+    requires sure { T.exact }
+{
     decode_whole::<T>(alloc, bytes.as_slice()).err()
 }
 
