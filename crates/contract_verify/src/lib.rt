@@ -7,9 +7,11 @@
 
 mod book;
 mod contract;
+mod judge;
 mod judging;
 #[cfg(test)]
 mod tests;
 
 pub use book::ContractBook;
+pub use judge::Judge;
 pub use contract::{BoxedContract, LedgerContract};

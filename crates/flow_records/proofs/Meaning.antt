@@ -4,16 +4,17 @@ use Rattle.std.specs.Prelude.{IfOk}
 use Rattle.std.proofs.lemmas.Bool.{leb-true, le-leb}
 use Rattle.net_base.specs.declared.causes.Cause.{Cause}
 use Rattle.net_base.specs.Reading.{IsBytes}
+use Rattle.ledger_types.specs.declared.change.LedgerChange.{LedgerChange}
 use Rattle.session_wire.specs.declared.change.SessionChange.{SessionChange}
 use Rattle.session_wire.specs.declared.effect.Effect.{Effect as Spoken}
 use Rattle.transition_record.specs.Records.{IsRecord, record_text, record_at, record_laws}
 use Rattle.session_wire.specs.declared.effect.FlowPart.{FlowPart as SpokenPart}
 use Rattle.transition_record.specs.Causes.{IsCause, came_key_of}
-use Rattle.transition_record.specs.Changes.{IsSession, session_text}
-use Rattle.net_model.specs.State.{FlowPart, session_part}
+use Rattle.transition_record.specs.Changes.{IsSession, IsLedger, session_text}
+use Rattle.net_model.specs.State.{FlowPart}
 use Rattle.flow_records.specs.Records.{whole, record_over, record_of}
 use Rattle.flow_records.specs.declared.step.FlowAfter.{FlowAfter}
-use Rattle.flow_records.specs.Steps.{effect_by, owner_of, ends_with, spoken_by, IsPartAfter}
+use Rattle.flow_records.specs.Steps.{whole_part, effect_by, owner_of, ends_with, spoken_by, IsPartAfter}
 use Rattle.flow_records.proofs.Sizes.{spoken_fits}
 use Rattle.flow_records.proofs.Whole.{whole_again, whole_takes}
 
@@ -47,18 +48,18 @@ unspelt_means {F} frame_at bytes fits none =
 -- ---- steps
 
 -- what is spelt of a step makes a record
-pub step_is_record : {F : Type 0} (frame_at : List ℕ → Result (F × List ℕ) ℕ) (cause : Cause) (flow : Option (FlowAfter F)) (p : SpokenPart) (s : SessionChange) → IsCause cause → IsPartAfter frame_at flow p → IsSession (owner_of flow) (came_key_of cause.event) s → length (session_text s) ≤ 50000 → IsRecord cause (spoken_by p s (owner_of flow) (ends_with flow))
-step_is_record frame_at cause flow p s hc h hs few = record {
-  limits = (hc, (h.limits, ((hs.0, (hs.1.0 ∙ sym h.flow_is, hs.1.1)), ((tt, ((omega arith, tt), tt)), (sym h.flow_is, sym h.over_is)))));
-  short = spoken_fits cause p s (owner_of flow) (ends_with flow) hc h.short few;
+pub step_is_record : {F : Type 0} (frame_at : List ℕ → Result (F × List ℕ) ℕ) (cause : Cause) (flow : Option (FlowAfter F)) (p : SpokenPart) (s : SessionChange) (l : LedgerChange) → IsCause cause → IsPartAfter frame_at flow p → IsSession (owner_of flow) (came_key_of cause.event) s → IsLedger (owner_of flow) (ends_with flow) l → length (session_text s) ≤ 50000 → IsRecord cause (spoken_by p s l)
+step_is_record frame_at cause flow p s l hc h hs hl few = record {
+  limits = (hc, (h.limits, ((hs.0, (hs.1.0 ∙ sym h.flow_is, hs.1.1)), (hl.0, (hl.1.0 ∙ sym h.flow_is, hl.1.1 ∙ sym h.over_is)))));
+  short = spoken_fits cause p s l hc hl.0 h.short few;
 }
 
 -- whose bytes mean that step
-step_means : {F : Type 0} (frame_at : List ℕ → Result (F × List ℕ) ℕ) (cause : Cause) (flow : Option (FlowAfter F)) (p : SpokenPart) (s : SessionChange) → IsCause cause → IsPartAfter frame_at flow p → IsSession (owner_of flow) (came_key_of cause.event) s → length (session_text s) ≤ 50000 → (bytes : List ℕ) → bytes ≡ record_text cause (spoken_by p s (owner_of flow) (ends_with flow)) → record_of frame_at bytes ≡ Some (record { cause = cause; effect = effect_by flow s })
-step_means {F} frame_at cause flow p s hc h hs few bytes is =
-    spelt_means frame_at bytes cause (spoken_by p s (owner_of flow) (ends_with flow)) (step_is_record frame_at cause flow p s hc h hs few) is ∙ ap (λ (o : Option (FlowPart F)). option_map (λ x. record { cause = cause; effect = record { flow = x; change = session_part s } }) o) h.means
+step_means : {F : Type 0} (frame_at : List ℕ → Result (F × List ℕ) ℕ) (cause : Cause) (flow : Option (FlowAfter F)) (p : SpokenPart) (s : SessionChange) (l : LedgerChange) → IsCause cause → IsPartAfter frame_at flow p → IsSession (owner_of flow) (came_key_of cause.event) s → IsLedger (owner_of flow) (ends_with flow) l → length (session_text s) ≤ 50000 → (bytes : List ℕ) → bytes ≡ record_text cause (spoken_by p s l) → record_of frame_at bytes ≡ Some (record { cause = cause; effect = effect_by flow s l })
+step_means {F} frame_at cause flow p s l hc h hs hl few bytes is =
+    spelt_means frame_at bytes cause (spoken_by p s l) (step_is_record frame_at cause flow p s l hc h hs hl few) is ∙ ap (λ (o : Option (FlowPart F)). option_map (λ x. record { cause = cause; effect = record { flow = x; change = whole_part s l } }) o) h.means
 
 -- so do those that were written
-pub step_written : {F E : Type 0} (frame_at : List ℕ → Result (F × List ℕ) ℕ) (cause : Cause) (flow : Option (FlowAfter F)) (p : SpokenPart) (s : SessionChange) → IsCause cause → IsPartAfter frame_at flow p → IsSession (owner_of flow) (came_key_of cause.event) s → length (session_text s) ≤ 50000 → (r : Result (List ℕ) E) → IfOk r (λ bytes. bytes ≡ record_text cause (spoken_by p s (owner_of flow) (ends_with flow))) → IfOk r (λ bytes. record_of frame_at bytes ≡ Some (record { cause = cause; effect = effect_by flow s }))
-step_written frame_at cause flow p s hc h hs few (Ok bytes) is = step_means frame_at cause flow p s hc h hs few bytes is
-step_written frame_at cause flow p s hc h hs few (Err e) is = is
+pub step_written : {F E : Type 0} (frame_at : List ℕ → Result (F × List ℕ) ℕ) (cause : Cause) (flow : Option (FlowAfter F)) (p : SpokenPart) (s : SessionChange) (l : LedgerChange) → IsCause cause → IsPartAfter frame_at flow p → IsSession (owner_of flow) (came_key_of cause.event) s → IsLedger (owner_of flow) (ends_with flow) l → length (session_text s) ≤ 50000 → (r : Result (List ℕ) E) → IfOk r (λ bytes. bytes ≡ record_text cause (spoken_by p s l)) → IfOk r (λ bytes. record_of frame_at bytes ≡ Some (record { cause = cause; effect = effect_by flow s l }))
+step_written frame_at cause flow p s l hc h hs hl few (Ok bytes) is = step_means frame_at cause flow p s l hc h hs hl few bytes is
+step_written frame_at cause flow p s l hc h hs hl few (Err e) is = is

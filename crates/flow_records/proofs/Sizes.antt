@@ -1,18 +1,27 @@
 -- How many bytes the record of a flow has at most.
-use Rattle.std.proofs.Common.{◌≡◌, ◌+◌, ◌≤◌, ℕ, suc, Bool, List, ◌∷◌, ◌++◌, length, ap, arith}
+use Rattle.std.proofs.Common.{◌≡◌, ◌+◌, ◌≤◌, ℕ, suc, Bool, List, ◌∷◌, ◌++◌, length, Option, Some, None, ap, arith}
+use Rattle.std.specs.Prelude.{IfSome}
+use Rattle.net_base.specs.declared.names.StateRef.{StateRef}
+use Rattle.net_base.specs.Names.{IsStateRef, state_ref}
+use Rattle.net_base.specs.Values.{hash}
+use Rattle.ledger_types.specs.declared.tx.SignedTx.{SignedTx}
+use Rattle.ledger_types.specs.declared.notary.Entry.{Entry}
+use Rattle.ledger_types.specs.declared.change.LedgerChange.{LedgerChange}
+use Rattle.ledger_types.specs.Txs.{IsSignedTx, signed_tx}
+use Rattle.ledger_types.specs.Requests.{IsEntry, entry}
 use Rattle.std.specs.Int.{w16, w32, w64}
 use Rattle.std.proofs.lemmas.List.{length-reverse}
 use Rattle.net_base.specs.declared.names.Key.{Key}
 use Rattle.net_base.specs.declared.causes.Event.TheVariants as event
 use Rattle.net_base.specs.declared.causes.Cause.{Cause}
 use Rattle.net_base.specs.Reading.{number}
-use Rattle.net_base.specs.Forms.{bytes16}
+use Rattle.net_base.specs.Forms.{bytes16, list8, option_of}
 use Rattle.net_base.specs.Values.{party, moment}
 use Rattle.net_base.specs.Names.{key, token}
 use Rattle.net_base.proofs.Lists.{all_reverse}
 use Rattle.ledger_types.specs.declared.value.Value.{Value}
 use Rattle.ledger_types.specs.Values.{IsValue, value}
-use Rattle.ledger_types.proofs.Sizes.{Fits, number16_fits, number32_fits, number64_fits, joined, items_fit, code_fits, tx_fits, signed_fits, request_fits, value_fits}
+use Rattle.ledger_types.proofs.Sizes.{Fits, number16_fits, number32_fits, number64_fits, joined, items_fit, code_fits, tx_fits, signed_fits, request_fits, entry_fits, value_fits}
 use Rattle.session_wire.specs.declared.change.SessionChange.{SessionChange}
 use Rattle.session_wire.specs.declared.effect.FlowPart.{FlowPart as SpokenPart}
 use Rattle.session_wire.specs.declared.effect.FlowPart.TheVariants as part
@@ -23,7 +32,7 @@ use Rattle.flow_machine.specs.Limits.{IsAct, IsStack}
 use Rattle.flow_machine.specs.Acts.{act_text}
 use Rattle.flow_machine.specs.Checkpoints.{bottom_up, stack_text, IsCheckpoint, checkpoint_text}
 use Rattle.transition_record.specs.Causes.{IsEvent, event_text, IsCause, cause_text}
-use Rattle.transition_record.specs.Changes.{part_text, session_text, ledger_text}
+use Rattle.transition_record.specs.Changes.{part_text, session_text, IsLedgerPart, ledger_text}
 use Rattle.transition_record.specs.Records.{effect_text, record_text}
 use Rattle.flow_records.specs.Steps.{spoken_by}
 
@@ -97,23 +106,44 @@ content_fits within spelling m frames f h =
     omega (arith, bytes, ap length (frames.framed f h))
 
 -- a flow that has ended or failed
-pub ended_fits : (number step class : ℕ) (v : Value) → IsValue v → length (part_text (part.Ended number step class v)) ≤ 400000
+pub ended_fits : (number step class : ℕ) (v : Value) → IsValue v → length (part_text (part.Ended number step class v)) ≤ 300000
 ended_fits flow step class v h =
     let parts = joined (number w32 flow) _ 4 9815 (number32_fits flow) (joined (number w32 step) _ 4 9811 (number32_fits step) (joined (number w16 class) (value v) 2 9809 (number16_fits class) (value_fits v h))) in
     omega (arith, parts)
 
-pub failed_fits : (number step class code : ℕ) → length (part_text (part.Failed number step class code)) ≤ 400000
+pub failed_fits : (number step class code : ℕ) → length (part_text (part.Failed number step class code)) ≤ 300000
 failed_fits flow step class code =
     let parts = joined (number w32 flow) _ 4 8 (number32_fits flow) (joined (number w32 step) _ 4 4 (number32_fits step) (joined (number w16 class) (number w16 code) 2 2 (number16_fits class) (number16_fits code))) in
     omega (arith, parts)
 
 -- ---- records
 
--- a record that changes nothing of the ledger is short where what is spelt of the flow and of the sessions is
-pub spoken_fits : (c : Cause) (p : SpokenPart) (s : SessionChange) (owner : ℕ) (over : Bool) → IsCause c → length (part_text p) ≤ 400000 → length (session_text s) ≤ 50000 → length (record_text c (spoken_by p s owner over)) ≤ 524288
-spoken_fits c p s owner over h short few =
-    let e = spoken_by p s owner over in
-    let rest = joined (session_text s) (ledger_text e.ledger) 50000 3 few (omega arith) in
-    let effect = joined (part_text p) (session_text s ++ ledger_text e.ledger) 400000 50003 short rest in
-    let all = joined (cause_text c) (effect_text e) 65560 450003 (cause_fits c h) effect in
+-- what changes of the ledger
+recorded_fits : (o : Option SignedTx) → IfSome o IsSignedTx → length (option_of signed_tx o) ≤ 6060
+recorded_fits None h = omega arith
+recorded_fits (Some x) h = let n = signed_fits x h in omega (arith, n)
+
+booked_fits : (o : Option Entry) → IfSome o IsEntry → length (option_of entry o) ≤ 17574
+booked_fits None h = omega arith
+booked_fits (Some x) h = let n = entry_fits x h in omega (arith, n)
+
+ref_fits : (r : StateRef) → IsStateRef r → length (state_ref r) ≤ 36
+ref_fits r h = let id : length r.id.0 ≡ 32 = h.0 in joined (hash r.id) (number w32 r.index) 32 4 (omega (arith, id)) (number32_fits r.index)
+
+pub ledger_fits : (l : LedgerChange) → IsLedgerPart l → length (ledger_text l) ≤ 32815
+ledger_fits l h =
+    let refs = items_fit IsStateRef state_ref 36 ref_fits l.locked h.1.0.1 in
+    let few = h.1.0.0 in
+    let locked : length (list8 state_ref l.locked) ≤ 9181 = omega (arith, refs, few) in
+    let rest = joined (list8 state_ref l.locked) (option_of entry l.booked) 9181 17574 locked (booked_fits l.booked h.1.1) in
+    let all = joined (option_of signed_tx l.recorded) (list8 state_ref l.locked ++ option_of entry l.booked) 6060 26755 (recorded_fits l.recorded h.0) rest in
+    omega (arith, all)
+
+-- a record is short where what is spelt of the flow and of the sessions is
+pub spoken_fits : (c : Cause) (p : SpokenPart) (s : SessionChange) (l : LedgerChange) → IsCause c → IsLedgerPart l → length (part_text p) ≤ 300000 → length (session_text s) ≤ 50000 → length (record_text c (spoken_by p s l)) ≤ 524288
+spoken_fits c p s l h hl short few =
+    let e = spoken_by p s l in
+    let rest = joined (session_text s) (ledger_text l) 50000 32815 few (ledger_fits l hl) in
+    let effect = joined (part_text p) (session_text s ++ ledger_text l) 300000 82815 short rest in
+    let all = joined (cause_text c) (effect_text e) 65560 382815 (cause_fits c h) effect in
     omega (arith, all)

@@ -19,4 +19,4 @@ pub record IsPartOf {F : Type 0} (frame_at : List ℕ → Result (F × List ℕ)
   pub flow_is : part_flow p ≡ number
   pub over_is : part_over p ≡ is_over flow
   pub means : flow_part frame_at p ≡ Some (part_of number flow)
-  pub short : length (part_text p) ≤ 400000
+  pub short : length (part_text p) ≤ 300000

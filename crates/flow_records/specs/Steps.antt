@@ -1,4 +1,4 @@
--- Records that tell of a flow or of none, and of sessions, and of nothing of the ledger.
+-- Records that tell of a flow or of none, and of what changes in the sessions and in the ledger.
 use Rattle.std.specs.Prelude.{◌≡◌, ◌≤◌, ℕ, Bool, true, false, List, [], length, filter, Option, Some, None, IfSome, MatchOption, Result, if◌then◌else◌}
 use Rattle.net_base.specs.declared.causes.Cause.{Cause}
 use Rattle.ledger_types.specs.declared.change.LedgerChange.{LedgerChange}
@@ -11,14 +11,13 @@ use Rattle.session_wire.specs.declared.effect.FlowPart.{FlowPart as SpokenPart}
 use Rattle.session_wire.specs.declared.effect.FlowPart.TheVariants as part
 use Rattle.flow_machine.specs.declared.flows.FlowState.{FlowState}
 use Rattle.transition_record.specs.Causes.{IsCause, came_key_of}
-use Rattle.transition_record.specs.Changes.{IsFlowPart, part_text, part_flow, part_over, IsSessionPart, IsSession, session_text}
-use Rattle.net_model.specs.State.{FlowPart, no_flow, Effect, Record, session_part}
+use Rattle.transition_record.specs.Changes.{IsFlowPart, part_text, part_flow, part_over, IsSessionPart, IsSession, session_text, IsLedger}
+use Rattle.net_model.specs.State.{FlowPart, no_flow, Change, Effect, Record}
 use Rattle.net_model.specs.Enabled.{part_of}
 use Rattle.net_model.specs.Sound.{IsNumbered}
 use Rattle.flow_records.specs.declared.step.FlowAfter.{FlowAfter}
 use Rattle.flow_records.specs.declared.step.Step.{Step}
 use Rattle.flow_records.specs.Records.{flow_part, IsFlow}
-use Rattle.flow_records.specs.Alone.{leaves_ledger}
 use Rattle.flow_records.specs.Spelling.{is_over}
 
 -- ---- a step
@@ -28,18 +27,17 @@ abbrev pub part_after : {F : Type 0} → Option (FlowAfter F) → FlowPart F
 part_after None = no_flow
 part_after (Some after) = part_of after.number after.state
 
--- this is the flow afterwards, this changes in the sessions, and nothing of the ledger
-abbrev pub effect_by : {F : Type 0} → Option (FlowAfter F) → SessionChange → Effect F
-effect_by flow session = record { flow = part_after flow; change = session_part session }
+-- what changes in the sessions and in the ledger, in the words of the network machine
+abbrev pub whole_part : SessionChange → LedgerChange → Change
+whole_part session ledger = record { opened = session.opened; sent = session.sent; came = session.came; taken = session.taken; recorded = ledger.recorded; locked = ledger.locked; booked = ledger.booked }
+
+-- this is the flow afterwards, and this changes in the sessions and in the ledger
+abbrev pub effect_by : {F : Type 0} → Option (FlowAfter F) → SessionChange → LedgerChange → Effect F
+effect_by flow session ledger = record { flow = part_after flow; change = whole_part session ledger }
 
 -- the record of a step
 abbrev pub step_record : {F : Type 0} → Step F → Record F
-step_record step = record { cause = step.cause; effect = effect_by step.flow step.session }
-
--- a record, where it changes nothing of the ledger
-abbrev pub besides_ledger : {F : Type 0} → Option (Record F) → Option (Record F)
-besides_ledger None = None
-besides_ledger (Some r) = if leaves_ledger r.effect.change then Some r else None
+step_record step = record { cause = step.cause; effect = effect_by step.flow step.session step.ledger }
 
 -- ---- limits
 
@@ -59,11 +57,11 @@ IsAfter within after = IsFlow within after.state × IsNumbered after.number afte
 
 -- the limits of a step, by those of frames
 abbrev pub IsStep : {F : Type 0} → (F → Type 0) → Step F → Type 0
-IsStep within step = IsCause step.cause × IfSome step.flow (IsAfter within) × IsSession (owner_of step.flow) (came_key_of step.cause.event) step.session
+IsStep within step = IsCause step.cause × IfSome step.flow (IsAfter within) × IsSession (owner_of step.flow) (came_key_of step.cause.event) step.session × IsLedger (owner_of step.flow) (ends_with step.flow) step.ledger
 
--- the step of which a record tells, none exactly where there is no record or where it changes the ledger
+-- the step of which a record tells, none exactly where there is no record
 abbrev pub TellsStep : {F : Type 0} → (F → Type 0) → Option (Record F) → Option (Step F) → Type 0
-TellsStep within told r = MatchOption r (besides_ledger told ≡ None) (λ step. (told ≡ Some (step_record step)) × IsStep within step)
+TellsStep within told r = MatchOption r (told ≡ None) (λ step. (told ≡ Some (step_record step)) × IsStep within step)
 
 -- ---- spelling
 
@@ -71,9 +69,9 @@ TellsStep within told r = MatchOption r (besides_ledger told ≡ None) (λ step.
 abbrev pub no_ledger : ℕ → Bool → LedgerChange
 no_ledger owner over = record { recorded = None; locked = []; owner = owner; ended = over; booked = None }
 
--- the effect of which these are the flow and the sessions, and which changes nothing of the ledger
-abbrev pub spoken_by : SpokenPart → SessionChange → ℕ → Bool → Spoken
-spoken_by flow session owner over = record { flow = flow; session = session; ledger = no_ledger owner over }
+-- the effect of which these are the flow, the sessions and the ledger
+abbrev pub spoken_by : SpokenPart → SessionChange → LedgerChange → Spoken
+spoken_by flow session ledger = record { flow = flow; session = session; ledger = ledger }
 
 -- what is spelt of the flow: it is read as that flow again, or as none, and is short
 pub record IsPartAfter {F : Type 0} (frame_at : List ℕ → Result (F × List ℕ) ℕ) (flow : Option (FlowAfter F)) (p : SpokenPart) : Type 0 where
@@ -81,7 +79,7 @@ pub record IsPartAfter {F : Type 0} (frame_at : List ℕ → Result (F × List �
   pub flow_is : part_flow p ≡ owner_of flow
   pub over_is : part_over p ≡ ends_with flow
   pub means : flow_part frame_at p ≡ Some (part_after flow)
-  pub short : length (part_text p) ≤ 400000
+  pub short : length (part_text p) ≤ 300000
 
 -- ---- reading
 
@@ -98,8 +96,8 @@ after_told absent None = if absent then Some None else None
 after_told absent (Some s) = Some (Some (record { number = s.0; state = s.1 }))
 
 -- a step of its parts
-abbrev pub step_with : {F : Type 0} → Cause → SessionChange → Option (FlowAfter F) → Step F
-step_with cause session flow = record { cause = cause; flow = flow; session = session }
+abbrev pub step_with : {F : Type 0} → Cause → SessionChange → LedgerChange → Option (FlowAfter F) → Step F
+step_with cause session ledger flow = record { cause = cause; flow = flow; session = session; ledger = ledger }
 
 -- the flow of which a part tells, or that it tells of none; none exactly where its checkpoint is none of the flow set's
 abbrev pub TellsAfter : {F : Type 0} → (F → Type 0) → Option (FlowPart F) → Option (Option (FlowAfter F)) → Type 0

@@ -1,14 +1,15 @@
 //! What the bytes of a record tell of beside the ledger.
 
-ghost use Rattle.std.specs.Prelude.{◌≡◌, ◌≤◌, length, Option, Some, None, IfOk, IfSome, option_map, if◌then◌else◌};
+ghost use Rattle.std.specs.Prelude.{◌≡◌, ◌≤◌, length, Option, Some, None, IfOk, IfSome, option_map};
 ghost use Rattle.transition_record.specs.Causes.{IsCause};
-ghost use Rattle.transition_record.specs.Changes.{IsFlowPart, checkpoint_flow, part_flow, session_text};
+ghost use Rattle.transition_record.specs.Changes.{IsFlowPart, checkpoint_flow, part_flow, part_over, session_text};
 ghost use Rattle.transition_record.specs.Records.{IsEffect};
 ghost use Rattle.flow_machine.specs.declared.flows.FlowState.TheVariants.{Live};
 ghost use Rattle.flow_machine.specs.Checkpoints.{IsCheckpoint, checkpoint_at};
 ghost use Rattle.flow_records.specs.Records.{whole, flow_part, record_over, record_of};
-ghost use Rattle.flow_records.specs.Telling.{leaves_ledger_of, TellsFlow};
-ghost use Rattle.flow_records.specs.Steps.{is_absent, after_told, owner_of, step_with, TellsAfter, TellsStep};
+ghost use Rattle.flow_records.specs.Spelling.{is_over};
+ghost use Rattle.flow_records.specs.Telling.{TellsFlow};
+ghost use Rattle.flow_records.specs.Steps.{is_absent, after_told, owner_of, ends_with, step_with, TellsAfter, TellsStep};
 
 use crate::step::{FlowAfter, Step};
 use flow_machine::{Checkpoint, FlowState};
@@ -17,13 +18,6 @@ use net_base::{Cause, DecodeFault, Spelt, decode_all};
 use session_wire::{Effect, FlowPart, SessionChange};
 use std::alloc::{AllocError, Global};
 use transition_record::decode_record;
-
-/// Whether nothing was recorded, locked or booked.
-fn leaves_ledger(change: &LedgerChange) -> bool
-    ensures { result ≡ leaves_ledger_of change.now }
-{
-    change.recorded.is_none() && change.locked.len() == 0 && change.booked.is_none()
-}
 
 /// The checkpoint whose bytes these are, `None` where they are no checkpoint's of the flow set.
 fn read_checkpoint<F: Spelt + Drop>(
@@ -51,7 +45,7 @@ fn flow_after<F: Spelt + Drop>(
 ) -> Result<Option<(u32, FlowState<F>)>, AllocError>
     requires { IsFlowPart part }
     ensures tells { IfOk result (TellsFlow F.within (flow_part F.reading part)) }
-    ensures own { IfOk result (λ r. IfSome r (λ s. s.0 ≡ part_flow part)) }
+    ensures own { IfOk result (λ r. IfSome r (λ s. (s.0 ≡ part_flow part) × (is_over s.1 ≡ part_over part))) }
 {
     match part {
         FlowPart::Absent => Ok(None),
@@ -103,53 +97,38 @@ fn part_told<F: Spelt + Drop>(
 ) -> Result<Option<Option<FlowAfter<F>>>, AllocError>
     requires { IsFlowPart part }
     ensures tells { IfOk result (TellsAfter F.within (flow_part F.reading part)) }
-    ensures own { IfOk result (λ r. IfSome r (λ flow. owner_of flow ≡ part_flow part)) }
+    ensures own { IfOk result (λ r. IfSome r (λ flow. (owner_of flow ≡ part_flow part) × (ends_with flow ≡ part_over part))) }
 {
     let absent = is_absent(&part);
     let told = flow_after(alloc, part)?;
     Ok(after_told(absent, told))
 }
 
-/// The same where the ledger stays as it is, else `None`.
-fn part_told_if<F: Spelt + Drop>(
-    alloc: Global,
-    still: bool,
-    part: FlowPart,
-) -> Result<Option<Option<FlowAfter<F>>>, AllocError>
-    requires { IsFlowPart part }
-    ensures tells { IfOk result (TellsAfter F.within (if still then flow_part F.reading part else None)) }
-    ensures own { IfOk result (λ r. IfSome r (λ flow. owner_of flow ≡ part_flow part)) }
-{
-    if still {
-        part_told(alloc, part)
-    } else {
-        drop(part);
-        Ok(None)
-    }
-}
-
-/// The step of a cause, the flow after it, and what it changes in the sessions, where the flow was told.
+/// The step of a cause, the flow after it, and what it changes in the sessions and in the ledger, where the flow was told.
 fn joined<F: Drop>(
     told: Option<Option<FlowAfter<F>>>,
     cause: Cause,
     session: SessionChange,
+    ledger: LedgerChange,
 ) -> Option<Step<F>>
-    ensures { result ≡ option_map (step_with cause session) told }
+    ensures { result ≡ option_map (step_with cause session ledger) told }
 {
     match told {
         None => {
             drop(session);
+            drop(ledger);
             None
         }
         Some(flow) => Some(Step {
             cause,
             flow,
             session,
+            ledger,
         }),
     }
 }
 
-/// The step of a cause and its effect, `None` where the effect changes the ledger or its checkpoint is none of the flow set's.
+/// The step of a cause and its effect, `None` where its checkpoint is none of the flow set's.
 fn step_of<F: Spelt + Drop>(
     alloc: Global,
     cause: Cause,
@@ -165,14 +144,11 @@ fn step_of<F: Spelt + Drop>(
         session,
         ledger,
     } = effect;
-    let still = leaves_ledger(&ledger);
-    drop(ledger);
-    let told = part_told_if(alloc, still, flow)?;
-    Ok(joined(told, cause, session))
+    let told = part_told(alloc, flow)?;
+    Ok(joined(told, cause, session, ledger))
 }
 
-/// The step whose record the bytes are: `None` exactly where they are no record, where their checkpoint is none of the flow set's,
-/// and where they change the ledger. The bytes of what the step changes in the sessions
+/// The step whose record the bytes are: `None` exactly where they are no record, or their checkpoint is none of the flow set's. The bytes of what the step changes in the sessions
 /// are a part of the record's.
 ///
 /// # Errors

@@ -3,7 +3,7 @@
 ghost use Rattle.std.specs.Prelude.{◌≡◌, ◌≤◌, Some, IfOk, IfSome, length};
 ghost use Rattle.flow_machine.specs.Checkpoints.{IsCheckpoint, checkpoint_text};
 ghost use Rattle.transition_record.specs.Causes.{IsCause, came_key_of};
-ghost use Rattle.transition_record.specs.Changes.{IsSession, session_text};
+ghost use Rattle.transition_record.specs.Changes.{IsSession, IsLedger, session_text};
 ghost use Rattle.net_model.specs.Sound.{IsNumbered};
 ghost use Rattle.flow_records.specs.Records.{record_of, IsFlow};
 ghost use Rattle.flow_records.specs.Spelling.{is_over, IsPartOf};
@@ -67,7 +67,7 @@ fn part_of_flow<F: FlowSet>(
 }
 
 /// Nothing changes of the ledger, by the flow of the number, which is over or not.
-fn no_ledger(alloc: Global, number: u32, ended: bool) -> LedgerChange
+pub fn no_ledger(alloc: Global, number: u32, ended: bool) -> LedgerChange
     ensures { result ≡ no_ledger number ended }
 {
     LedgerChange {
@@ -99,6 +99,13 @@ fn ends_with<F>(flow: &Option<FlowAfter<F>>) -> bool
     }
 }
 
+/// Nothing changes of the ledger, by the flow that a step changes, if it changes one. Takes no memory.
+pub fn quiet<F>(alloc: Global, flow: &Option<FlowAfter<F>>) -> LedgerChange
+    ensures { result ≡ no_ledger (owner_of flow.now) (ends_with flow.now) }
+{
+    no_ledger(alloc, owner_of(flow), ends_with(flow))
+}
+
 /// What becomes of the flow.
 fn part_after<F: FlowSet>(
     alloc: Global,
@@ -123,14 +130,13 @@ pub fn spell_step<F: FlowSet>(alloc: Global, step: &Step<F>) -> Result<ByteList,
     requires cause { IsCause step.now.cause }
     requires flow { IfSome step.now.flow (IsAfter F.within) }
     requires session { IsSession (owner_of step.now.flow) (came_key_of step.now.cause.event) step.now.session }
+    requires ledger { IsLedger (owner_of step.now.flow) (ends_with step.now.flow) step.now.ledger }
     requires few { length (session_text step.now.session) ≤ 50000 }
     ensures record { IfOk result (λ bytes. record_of F.reading bytes ≡ Some (step_record step.now)) }
     ensures size { IfOk result (λ bytes. length bytes ≤ 524288) }
 {
     let part = part_after(alloc, &step.flow)?;
-    let ledger = no_ledger(alloc, owner_of(&step.flow), ends_with(&step.flow));
-    let bytes = encode_parts(alloc, &step.cause, &part, &step.session, &ledger);
+    let bytes = encode_parts(alloc, &step.cause, &part, &step.session, &step.ledger);
     drop(part);
-    drop(ledger);
     bytes
 }

@@ -1,6 +1,7 @@
 //! What a record tells of beside the ledger.
 
 use flow_machine::FlowState;
+use ledger_types::LedgerChange;
 use net_base::Cause;
 use session_wire::SessionChange;
 
@@ -12,7 +13,7 @@ pub struct FlowAfter<F> {
     pub state: FlowState<F>,
 }
 
-/// What a record tells of where it changes nothing of the ledger: the cause, the flow after it, and what it changes in the sessions.
+/// What a record tells of: the cause, the flow after it, and what it changes in the sessions and in the ledger.
 #[derive(Debug, Drop)]
 pub struct Step<F> {
     pub cause: Cause,
@@ -20,4 +21,6 @@ pub struct Step<F> {
     pub flow: Option<FlowAfter<F>>,
     /// Its `owner` is the flow's number, 0 where no flow changes; its `came_key` is the key of an `Answer` or `Arrive`, else `None`.
     pub session: SessionChange,
+    /// Its `owner` is the flow's number, 0 where no flow changes; `ended` says whether that flow is over.
+    pub ledger: LedgerChange,
 }

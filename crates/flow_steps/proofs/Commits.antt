@@ -1,5 +1,5 @@
 -- What a node is about to commit has the effect that it tells of.
-use Rattle.std.proofs.Common.{◌≡◌, ℕ, ◌^◌, ◌<◌, ◌≤◌, List, length, slice_get, Option, Some, None, Result, Ok, true, false, cond, option_map, refl, sym, ◌∙◌, ap, subst, arith}
+use Rattle.std.proofs.Common.{◌≡◌, ℕ, ◌^◌, ◌<◌, ◌≤◌, List, length, slice_get, Option, Some, None, Bool, Result, Ok, true, false, cond, option_map, refl, sym, ◌∙◌, ap, subst, arith}
 use Rattle.std.specs.Prelude.{IfSome, is_some}
 use Rattle.std.proofs.lemmas.Bool.{eq-eqb}
 use Rattle.net_base.specs.declared.causes.Cause.{Cause}
@@ -20,7 +20,7 @@ use Rattle.flow_machine.specs.declared.flows.FlowState.TheVariants as state
 use Rattle.flow_machine.specs.Flows.{AreWithin}
 use Rattle.flow_machine.specs.Machine.{Machine}
 use Rattle.transition_record.specs.Causes.{IsEvent, came_key_of}
-use Rattle.transition_record.specs.Changes.{IsSession, session_text}
+use Rattle.transition_record.specs.Changes.{IsSession, session_text, IsLedger}
 use Rattle.net_model.specs.Environment.{Environment, environment}
 use Rattle.net_model.specs.State.{NodeState, Effect, session_part}
 use Rattle.net_model.specs.Steps.{place, effect_of, answering, answered_with}
@@ -30,7 +30,7 @@ use Rattle.session_acts.specs.Parts.{unchanged, answer_to, arrival}
 use Rattle.session_acts.proofs.Limits.{unchanged_within}
 use Rattle.flow_records.specs.declared.step.FlowAfter.{FlowAfter}
 use Rattle.flow_records.specs.declared.step.Step.{Step}
-use Rattle.flow_records.specs.Steps.{effect_by, part_after, owner_of, IsAfter}
+use Rattle.flow_records.specs.Steps.{no_ledger, effect_by, part_after, owner_of, ends_with, IsAfter}
 use Rattle.flow_steps.specs.Going.{first_after, begun_for, Performs}
 use Rattle.flow_steps.specs.Ready.{IsReady}
 use Rattle.flow_steps.proofs.Limits.{unchanged_short}
@@ -42,13 +42,18 @@ pub goes_ready : {F : Type 0} (w : Environment F) (me now n : ℕ) (within : F �
     → enabled_event w sessions now (state.Live at) ≡ Some cause.event → IsOwn n cause.event → n < 2 ^ 32 → step.cause ≡ cause → Performs w me now within sessions at step → (s : NodeState F) → s.flows ≡ flows → s.sessions ≡ sessions → IsReady w me now within s None step
 goes_ready {F} w me now n within flows sessions cause at step num there by own small is p s same also = record {
   effect = ap (λ (c : Cause). effect_of w me s now c.event None) is
-      ∙ effect_at w me s now at.flow (state.Live at) cause.event (effect_by step.flow step.session) (ap (λ (l : List (FlowState F)). slice_get l at.flow) same ∙ ap (λ k. slice_get flows k) num ∙ there) refl (ap (λ (l : List Session). enabled_event w l now (state.Live at)) also ∙ by)
+      ∙ effect_at w me s now at.flow (state.Live at) cause.event (effect_by step.flow step.session step.ledger) (ap (λ (l : List (FlowState F)). slice_get l at.flow) same ∙ ap (λ k. slice_get flows k) num ∙ there) refl (ap (λ (l : List Session). enabled_event w l now (state.Live at)) also ∙ by)
       (p.by s cause.event also by ∙ ap (λ (x : Effect F). Some x) (sym p.becomes.effect));
   limits = subst (λ (c : Cause). IsEvent c.event) (sym is) (own.limits small);
   flow = p.becomes.flow;
   session = subst (λ (c : Cause). IsSession (owner_of step.flow) (came_key_of c.event) step.session) (sym is) (subst (λ k. IsSession (owner_of step.flow) k step.session) (sym own.key) p.becomes.session);
+  ledger = p.becomes.ledger;
   short = p.becomes.short;
 }
+
+-- nothing changes of the ledger
+quiet_within : (n : ℕ) (b : Bool) → IsLedger n b (no_ledger n b)
+quiet_within n b = ((tt, ((omega arith, tt), tt)), (refl, refl))
 
 -- ---- a flow that begins
 
@@ -56,13 +61,14 @@ first_within : {F : Type 0} (within : F → Type 0) (n class : ℕ) (made : F ×
 first_within within n class made small few is = ((small, (omega arith, (few, (is.1, (is.0, (omega arith, tt)))))), refl)
 
 pub begun_ready : {F : Type 0} (w : Environment F) (me stamp : ℕ) (now : Moment) (within : F → Type 0) (class n : ℕ) (args : List ℕ) (made : F × Act F) (change : SessionChange) → n < 2 ^ 32 → class < 2 ^ 16 → w.machine.made class args (place w me n 0 now.0) ≡ Ok made → AreWithin within made → length args ≤ 65535
-    → change ≡ unchanged n → (s : NodeState F) → length s.flows ≡ n → IsReady w me now.0 within s None (record { cause = record { stamp = stamp; moment = now; event = event.Start n class args }; flow = Some (first_after n class made); session = change })
+    → change ≡ unchanged n → (s : NodeState F) → length s.flows ≡ n → IsReady w me now.0 within s None (record { cause = record { stamp = stamp; moment = now; event = event.Start n class args }; flow = Some (first_after n class made); session = change; ledger = no_ledger n false })
 unfolding effect_of
 begun_ready w me stamp now within class n args made change small few is limits short none s same = record {
   effect = rw (eq-eqb n (length s.flows) (sym same), is, none) refl;
   limits = (small, (few, short));
   flow = first_within within n class made small few limits;
   session = subst (IsSession n None) (sym none) (unchanged_within n);
+  ledger = quiet_within n false;
   short = subst (λ (c : SessionChange). length (session_text c) ≤ 50000) (sym none) (unchanged_short n);
 }
 
@@ -82,7 +88,7 @@ module _ {F : Type 0} (m : Machine F) (r : List ℕ → Result (F × List ℕ) �
   answer_owner key (body_of.Init class first) flow is = begun_owner n class (m.begun class key (place (environment m r id) id.party.0 n 0 now)) flow is
   answer_owner key _ flow is = cc
 
-  answer_with : (key : Key) (class : ℕ) (init : Body) (made : Option (F × Act F)) (flow : Option (FlowAfter F)) (change : SessionChange) → flow ≡ option_map (first_after n class) made → session_part change ≡ answer_to key init (is_some flow) → answering key n class init made ≡ effect_by flow change
+  answer_with : (key : Key) (class : ℕ) (init : Body) (made : Option (F × Act F)) (flow : Option (FlowAfter F)) (change : SessionChange) → flow ≡ option_map (first_after n class) made → session_part change ≡ answer_to key init (is_some flow) → answering key n class init made ≡ effect_by flow change (no_ledger (owner_of flow) (ends_with flow))
   answer_with key class init (Some x) flow change is told =
       let sent : session_part change ≡ answer_to key init true = told ∙ ap (λ o. answer_to key init (is_some o)) is in
       sym ((λ i. record { flow = part_after (is i); change = session_part change }) ∙ (λ i. record { flow = part_after (Some (first_after n class x)); change = sent i }))
@@ -91,7 +97,7 @@ module _ {F : Type 0} (m : Machine F) (r : List ℕ → Result (F × List ℕ) �
       sym ((λ i. record { flow = part_after (is i); change = session_part change }) ∙ (λ i. record { flow = part_after {F = F} None; change = sent i }))
 
   answer_effect : (key : Key) (init : Body) (flow : Option (FlowAfter F)) (change : SessionChange) → is_init init ≡ true → flow ≡ begun_for (environment m r id) id.party.0 now n key init → session_part change ≡ answer_to key init (is_some flow)
-      → (s : NodeState F) → length s.flows ≡ n → is_new_key id.nodes id.party s.sessions key ≡ true → effect_of (environment m r id) id.party.0 s now (event.Answer key) (Some init) ≡ Some (effect_by flow change)
+      → (s : NodeState F) → length s.flows ≡ n → is_new_key id.nodes id.party s.sessions key ≡ true → effect_of (environment m r id) id.party.0 s now (event.Answer key) (Some init) ≡ Some (effect_by flow change (no_ledger (owner_of flow) (ends_with flow)))
   unfolding effect_of
   answer_effect key (body_of.Init class first) flow change init is told s same new =
       let w = environment m r id in
@@ -103,12 +109,13 @@ module _ {F : Type 0} (m : Machine F) (r : List ℕ → Result (F × List ℕ) �
   -- what answers an Init is ready
   pub answer_ready : (within : F → Type 0) (stamp : ℕ) (moment : Moment) (key : Key) (init : Body) (flow : Option (FlowAfter F)) (change : SessionChange) → is_init init ≡ true → IsKey key → flow ≡ begun_for (environment m r id) id.party.0 now n key init → IfSome flow (IsAfter within) → session_part change ≡ answer_to key init (is_some flow)
       → IsSession (owner_of flow) (Some key) change → length (session_text change) ≤ 50000 → (s : NodeState F) → length s.flows ≡ n → is_new_key id.nodes id.party s.sessions key ≡ true
-      → IsReady (environment m r id) id.party.0 now within s (Some init) (record { cause = record { stamp = stamp; moment = moment; event = event.Answer key }; flow = flow; session = change })
+      → IsReady (environment m r id) id.party.0 now within s (Some init) (record { cause = record { stamp = stamp; moment = moment; event = event.Answer key }; flow = flow; session = change; ledger = no_ledger (owner_of flow) (ends_with flow) })
   answer_ready within stamp moment key init flow change holds is_key is limits told h short s same new = record {
     effect = answer_effect key init flow change holds is told s same new;
     limits = is_key;
     flow = limits;
     session = h;
+    ledger = quiet_within (owner_of flow) (ends_with flow);
     short = short;
   }
 
@@ -116,7 +123,7 @@ module _ {F : Type 0} (m : Machine F) (r : List ℕ → Result (F × List ℕ) �
 
 module _ {F : Type 0} (m : Machine F) (r : List ℕ → Result (F × List ℕ) ℕ) (id : Identity) (now : ℕ) where
   arrive_effect : (key : Key) (direction number : ℕ) (body : Body) (change : SessionChange) (s : NodeState F) (session : Session) → session_part change ≡ arrival body → session_of key s.sessions ≡ Some session → is_next id.party key direction number body session ≡ true
-      → effect_of (environment m r id) id.party.0 s now (event.Arrive key direction number) (Some body) ≡ Some (effect_by None change)
+      → effect_of (environment m r id) id.party.0 s now (event.Arrive key direction number) (Some body) ≡ Some (effect_by None change (no_ledger 0 false))
   unfolding effect_of
   arrive_effect key direction number body change s session told stands next =
       let some : Option (Effect F) = Some (record { flow = part_after {F = F} None; change = arrival body }) in
@@ -124,11 +131,12 @@ module _ {F : Type 0} (m : Machine F) (r : List ℕ → Result (F × List ℕ) �
 
   pub arrive_ready : (within : F → Type 0) (stamp : ℕ) (moment : Moment) (key : Key) (direction number : ℕ) (body : Body) (change : SessionChange) → IsKey key → direction < 256 → number < 2 ^ 32 → session_part change ≡ arrival body → IsSession 0 (Some key) change → length (session_text change) ≤ 50000
       → (s : NodeState F) (session : Session) → session_of key s.sessions ≡ Some session → is_next id.party key direction number body session ≡ true
-      → IsReady (environment m r id) id.party.0 now within s (Some body) (record { cause = record { stamp = stamp; moment = moment; event = event.Arrive key direction number }; flow = None; session = change })
+      → IsReady (environment m r id) id.party.0 now within s (Some body) (record { cause = record { stamp = stamp; moment = moment; event = event.Arrive key direction number }; flow = None; session = change; ledger = no_ledger 0 false })
   arrive_ready within stamp moment key direction number body change is_key small few told h short s session stands next = record {
     effect = arrive_effect key direction number body change s session told stands next;
     limits = (is_key, (small, few));
     flow = tt;
     session = h;
+    ledger = quiet_within 0 false;
     short = short;
   }

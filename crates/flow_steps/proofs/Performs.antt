@@ -42,7 +42,9 @@ use Rattle.session_acts.specs.Parts.{unchanged}
 use Rattle.session_acts.proofs.Limits.{unchanged_within}
 use Rattle.flow_records.specs.Records.{IsFlow}
 use Rattle.flow_records.specs.declared.step.Step.{Step}
-use Rattle.flow_records.specs.Steps.{effect_by}
+use Rattle.flow_records.specs.Spelling.{is_over}
+use Rattle.transition_record.specs.Changes.{IsLedger}
+use Rattle.flow_records.specs.Steps.{no_ledger, effect_by}
 use Rattle.flow_steps.specs.Going.{gone_on, called, returned, takes_or_lapses, over, Becomes, Performs}
 use Rattle.flow_steps.proofs.Limits.{unchanged_short}
 use Rattle.flow_steps.proofs.Picks.{Built}
@@ -98,29 +100,35 @@ module _ {F : Type 0} (w : Environment F) (me now : ℕ) (at : Checkpoint F) whe
 module _ {F : Type 0} (w : Environment F) (me now : ℕ) (within : F → Type 0) (at : Checkpoint F) (cause : Cause) where
   -- its flow is this now, and this changes in the sessions
   abbrev stepped : FlowState F → SessionChange → Step F
-  stepped new change = record { cause = cause; flow = Some (record { number = at.flow; state = new }); session = change }
+  stepped new change = record { cause = cause; flow = Some (record { number = at.flow; state = new }); session = change; ledger = no_ledger at.flow (is_over new) }
+
+  -- nothing changes of the ledger
+  still : (n : ℕ) (b : Bool) → IsLedger n b (no_ledger n b)
+  still n b = ((tt, ((omega arith, tt), tt)), (refl, refl))
 
   -- its top frame went on
   pub gone_becomes : (new : FlowState F) (with : Resumed) (change : SessionChange) → new ≡ gone_on w me now at at.stack.top at.stack.below with → IsFlow within (gone_on w me now at at.stack.top at.stack.below with) → IsSession at.flow None change
       → length (session_text change) ≤ 50000 → Becomes within (goes_on w me now at (with, session_part change)) (stepped new change)
   gone_becomes new with change is limits h short = record {
-    effect = ap (λ (x : FlowState F). effect_by (Some (record { number = at.flow; state = x })) change) is;
+    effect = ap (λ (x : FlowState F). effect_by (Some (record { number = at.flow; state = x })) change (no_ledger at.flow (is_over x))) is;
     flow = (subst (IsFlow within) (sym is) limits, subst (IsNumbered at.flow) (sym is) refl);
     session = h;
+    ledger = still at.flow (is_over new);
     short = short;
   }
 
-  pushed_by : (b : Bool) (frame : F) → effect_by (Some (record { number = at.flow; state = cond b (gone_on w me now at frame (at.stack.top ∷ at.stack.below) resumed.Started) (gone_on w me now at at.stack.top at.stack.below (resumed.Refused 49)) })) (unchanged at.flow)
+  pushed_by : (b k : Bool) (frame : F) → effect_by (Some (record { number = at.flow; state = cond b (gone_on w me now at frame (at.stack.top ∷ at.stack.below) resumed.Started) (gone_on w me now at at.stack.top at.stack.below (resumed.Refused 49)) })) (unchanged at.flow) (no_ledger at.flow k)
       ≡ cond b (record { flow = onwards w me now at frame (at.stack.top ∷ at.stack.below) resumed.Started; change = nothing }) (goes_on w me now at (resumed.Refused 49, nothing))
-  pushed_by true frame = refl
-  pushed_by false frame = refl
+  pushed_by true k frame = refl
+  pushed_by false k frame = refl
 
   -- its subflow began, or it was told that its stack has 8 frames
   pub called_becomes : (new : FlowState F) (change : SessionChange) (frame : F) → new ≡ called w me now at frame → change ≡ unchanged at.flow → IsFlow within (called w me now at frame) → Becomes within (pushes w me now at frame) (stepped new change)
   called_becomes new change frame is none limits = record {
-    effect = (λ i. effect_by (Some (record { number = at.flow; state = is i })) (none i)) ∙ pushed_by (nat_lt (length at.stack.below) 7) frame;
+    effect = (λ i. effect_by (Some (record { number = at.flow; state = is i })) (none i) (no_ledger at.flow (is_over new))) ∙ pushed_by (nat_lt (length at.stack.below) 7) (is_over new) frame;
     flow = (subst (IsFlow within) (sym is) limits, subst (IsNumbered at.flow) (sym is) (called_numbered w me now at frame));
     session = subst (IsSession at.flow None) (sym none) (unchanged_within at.flow);
+    ledger = still at.flow (is_over new);
     short = subst (λ (c : SessionChange). length (session_text c) ≤ 50000) (sym none) (unchanged_short at.flow);
   }
 
@@ -128,23 +136,25 @@ module _ {F : Type 0} (w : Environment F) (me now : ℕ) (within : F → Type 0)
   pub over_becomes : (new : FlowState F) (change : SessionChange) (sessions : List Session) (last : Body) → session_part change ≡ (over me sessions at new last).change → IsFlow within new → IsNumbered at.flow new → IsSession at.flow None change → length (session_text change) ≤ 50000
       → Becomes within (over me sessions at new last) (stepped new change)
   over_becomes new change sessions last told limits own h short = record {
-    effect = λ i. record { flow = (effect_by (Some (record { number = at.flow; state = new })) change).flow; change = told i };
+    effect = λ i. record { flow = (effect_by (Some (record { number = at.flow; state = new })) change (no_ledger at.flow (is_over new))).flow; change = told i };
     flow = (limits, own);
     session = h;
+    ledger = still at.flow (is_over new);
     short = short;
   }
 
   -- a frame returned to the one below it
-  returned_to : (s : NodeState F) (value : Value) (below : List F) → 0 < length below → effect_by (Some (record { number = at.flow; state = returned w me now at value below })) (unchanged at.flow) ≡ returns w me s now at value below
-  returned_to s value [] deep = absurd (omega (arith, deep))
-  returned_to s value (frame ∷ below) deep = refl
+  returned_to : (s : NodeState F) (k : Bool) (value : Value) (below : List F) → 0 < length below → effect_by (Some (record { number = at.flow; state = returned w me now at value below })) (unchanged at.flow) (no_ledger at.flow k) ≡ returns w me s now at value below
+  returned_to s k value [] deep = absurd (omega (arith, deep))
+  returned_to s k value (frame ∷ below) deep = refl
 
   pub returned_becomes : (s : NodeState F) (new : FlowState F) (change : SessionChange) (value : Value) → new ≡ returned w me now at value at.stack.below → change ≡ unchanged at.flow → IsFlow within (returned w me now at value at.stack.below) → 0 < length at.stack.below
       → Becomes within (returns w me s now at value at.stack.below) (stepped new change)
   returned_becomes s new change value is none limits deep = record {
-    effect = (λ i. effect_by (Some (record { number = at.flow; state = is i })) (none i)) ∙ returned_to s value at.stack.below deep;
+    effect = (λ i. effect_by (Some (record { number = at.flow; state = is i })) (none i) (no_ledger at.flow (is_over new))) ∙ returned_to s (is_over new) value at.stack.below deep;
     flow = (subst (IsFlow within) (sym is) limits, subst (IsNumbered at.flow) (sym is) (returned_numbered w me now at value at.stack.below));
     session = subst (IsSession at.flow None) (sym none) (unchanged_within at.flow);
+    ledger = still at.flow (is_over new);
     short = subst (λ (c : SessionChange). length (session_text c) ≤ 50000) (sym none) (unchanged_short at.flow);
   }
 

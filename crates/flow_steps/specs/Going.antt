@@ -15,14 +15,14 @@ use Rattle.flow_machine.specs.declared.flows.Checkpoint.{Checkpoint}
 use Rattle.flow_machine.specs.declared.flows.FlowState.{FlowState}
 use Rattle.flow_machine.specs.declared.flows.FlowState.TheVariants as state
 use Rattle.flow_machine.specs.Limits.{IsResumed}
-use Rattle.transition_record.specs.Changes.{IsSession, session_text}
+use Rattle.transition_record.specs.Changes.{IsSession, session_text, IsLedger}
 use Rattle.net_model.specs.Environment.{Environment, is_act_built}
 use Rattle.net_model.specs.State.{NodeState, Effect, nothing}
 use Rattle.net_model.specs.Steps.{Done, place, receives, last_items}
 use Rattle.net_model.specs.Enabled.{enabling, enabled_event, effect_on, part_of}
 use Rattle.flow_records.specs.declared.step.FlowAfter.{FlowAfter}
 use Rattle.flow_records.specs.declared.step.Step.{Step}
-use Rattle.flow_records.specs.Steps.{effect_by, owner_of, IsAfter}
+use Rattle.flow_records.specs.Steps.{effect_by, owner_of, ends_with, IsAfter}
 use Rattle.session_acts.specs.declared.acts.Performed.{Performed}
 
 -- ---- the event
@@ -96,9 +96,10 @@ pub record IsDone (flow : ℕ) (p : Performed) : Type 0 where
 
 -- a step has this effect, within its limits; no item is accepted
 pub record Becomes {F : Type 0} (within : F → Type 0) (e : Effect F) (step : Step F) : Type 0 where
-  pub effect : effect_by step.flow step.session ≡ e
+  pub effect : effect_by step.flow step.session step.ledger ≡ e
   pub flow : IfSome step.flow (IsAfter within)
   pub session : IsSession (owner_of step.flow) None step.session
+  pub ledger : IsLedger (owner_of step.flow) (ends_with step.flow) step.ledger
   pub short : length (session_text step.session) ≤ 50000
 
 -- the flow is over as this, and each of its sessions is told by this item

@@ -11,20 +11,21 @@ use Rattle.session_wire.specs.Rules.{sessions_of, IsHeld}
 use Rattle.flow_machine.specs.declared.flow_set.MakeFault.{MakeFault}
 use Rattle.flow_machine.specs.declared.flow_set.MakeFault.TheVariants as make
 use Rattle.transition_record.specs.Causes.{IsEvent, came_key_of}
-use Rattle.transition_record.specs.Changes.{IsSession, session_text}
+use Rattle.transition_record.specs.Changes.{IsSession, session_text, IsLedger}
 use Rattle.net_model.specs.Environment.{Environment}
 use Rattle.net_model.specs.State.{NodeState}
 use Rattle.net_model.specs.Steps.{place, effect_of}
 use Rattle.session_acts.specs.Parts.{AreSound}
 use Rattle.flow_records.specs.declared.step.Step.{Step}
-use Rattle.flow_records.specs.Steps.{effect_by, owner_of, IsAfter}
+use Rattle.flow_records.specs.Steps.{effect_by, owner_of, ends_with, IsAfter}
 
 -- a step that a node may commit, all worked out: over its state the event has this effect, within its limits
 pub record IsReady {F : Type 0} (w : Environment F) (me now : ℕ) (within : F → Type 0) (s : NodeState F) (body : Option Body) (step : Step F) : Type 0 where
-  pub effect : effect_of w me s now step.cause.event body ≡ Some (effect_by step.flow step.session)
+  pub effect : effect_of w me s now step.cause.event body ≡ Some (effect_by step.flow step.session step.ledger)
   pub limits : IsEvent step.cause.event
   pub flow : IfSome step.flow (IsAfter within)
   pub session : IsSession (owner_of step.flow) (came_key_of step.cause.event) step.session
+  pub ledger : IsLedger (owner_of step.flow) (ends_with step.flow) step.ledger
   pub short : length (session_text step.session) ≤ 50000
 
 -- what is asked of a node's sessions

@@ -9,17 +9,17 @@ ghost use Rattle.session_wire.specs.Sessions.{Session, session_of};
 ghost use Rattle.session_wire.specs.Rules.{is_init, is_new_key, is_next};
 ghost use Rattle.net_model.specs.Environment.{environment};
 ghost use Rattle.net_model.specs.State.{NodeState};
-ghost use Rattle.flow_records.specs.Steps.{IsAfter};
+ghost use Rattle.flow_records.specs.Steps.{no_ledger, owner_of, ends_with, IsAfter};
 ghost use Rattle.flow_steps.specs.Going.{begun_for};
 ghost use Rattle.flow_steps.specs.Ready.{IsReady};
 
 use crate::ready::first_state;
 use crate::resuming::{let_go, place_of};
 use flow_machine::{FlowSet, MakeFault};
-use flow_records::{FlowAfter, Step};
+use flow_records::{FlowAfter, Step, quiet};
 use net_base::{Cause, Event, Identity, Key, Moment, Unlimited};
 use session_acts::{answer, arrive};
-use session_wire::Body;
+use session_wire::{Body, SessionChange};
 use std::alloc::{AllocError, Global};
 
 /// The flow that answers an `Init`, at its first frame; `None` exactly where its class is unknown. The only error is want of memory.
@@ -52,6 +52,24 @@ fn flow_for<F: FlowSet>(
     }
 }
 
+/// The step by which the flow becomes this and this changes in the sessions, and nothing of the ledger.
+fn whole<F>(
+    alloc: Global,
+    cause: Cause,
+    flow: Option<FlowAfter<F>>,
+    session: SessionChange,
+) -> Step<F>
+    ensures { result ≡ record { cause = cause; flow = flow; session = session; ledger = no_ledger (owner_of flow) (ends_with flow) } }
+{
+    let ledger = quiet(alloc, &flow);
+    Step {
+        cause,
+        flow,
+        session,
+        ledger,
+    }
+}
+
 /// Answers the `Init` of a new session: a flow of its class begins, and `Confirm` is sent, or where the class is unknown the `Init` is
 /// rejected with code 5. The number is that of the node's next flow; the cause has the stamp and the moment. The only error is want of
 /// memory.
@@ -78,11 +96,7 @@ pub fn answer_init<F: FlowSet>(
     };
     match flow_for(alloc, identity, number, now, &key, &init)? {
         Some(flow) => match answer(alloc, key, init, Some(number)) {
-            Ok(session) => Ok(Step {
-                cause,
-                flow: Some(flow),
-                session,
-            }),
+            Ok(session) => Ok(whole(alloc, cause, Some(flow), session)),
             Err(fault) => {
                 let_go(flow);
                 Err(fault)
@@ -90,11 +104,7 @@ pub fn answer_init<F: FlowSet>(
         },
         None => {
             let session = answer(alloc, key, init, None)?;
-            Ok(Step {
-                cause,
-                flow: None,
-                session,
-            })
+            Ok(whole(alloc, cause, None, session))
         }
     }
 }
@@ -114,17 +124,14 @@ pub fn arrive_item<F: FlowSet>(
     ensures cause { result.cause ≡ record { stamp = stamp; moment = now; event = event.Arrive key direction number } }
     ensures ready { (id : Id) (at : ℕ) (s : NodeState F) (session : Session) → session_of key s.sessions ≡ Some session → is_next id.party key direction number body session ≡ true → IsReady (environment F.machine F.reading id) id.party.0 at F.within s (Some body) result }
 {
-    Step {
-        cause: Cause {
-            stamp,
-            moment: now,
-            event: Event::Arrive {
-                key,
-                direction,
-                number,
-            },
+    let cause = Cause {
+        stamp,
+        moment: now,
+        event: Event::Arrive {
+            key,
+            direction,
+            number,
         },
-        flow: None,
-        session: arrive(alloc, key, body),
-    }
+    };
+    whole(alloc, cause, None, arrive(alloc, key, body))
 }

@@ -13,13 +13,14 @@ ghost use Rattle.net_model.specs.State.{NodeState, nothing};
 ghost use Rattle.net_model.specs.Enabled.{enabled_event};
 ghost use Rattle.net_model.specs.Steps.{goes_on, pushes, returns, fails, opens, sends};
 ghost use Rattle.session_acts.specs.Parts.{done_of, unchanged};
-ghost use Rattle.flow_records.specs.Steps.{IsAfter, carries_value};
+ghost use Rattle.flow_records.specs.Spelling.{is_over};
+ghost use Rattle.flow_records.specs.Steps.{no_ledger, IsAfter, carries_value};
 ghost use Rattle.flow_steps.specs.Going.{takes_or_lapses, over, IsDone, Becomes, Performs};
 ghost use Rattle.flow_steps.specs.Ready.{AreKept};
 
 use crate::resuming::{call, hand_down, let_go, resume};
 use flow_machine::{Act, Checkpoint, FlowSet, FlowState, Resumed};
-use flow_records::{FlowAfter, Step};
+use flow_records::{FlowAfter, Step, quiet};
 use ledger_types::Value;
 use net_base::{Cause, Identity, Key, Party, Unlimited};
 use session_acts::{Performed, end_sessions, open, receive, send, unchanged};
@@ -29,17 +30,21 @@ use std::alloc::{AllocError, Global};
 
 /// The step by which the flow of the number becomes this, and by which this changes in the sessions.
 pub(crate) fn step_of<F>(
+    alloc: Global,
     cause: Cause,
     number: u32,
     state: FlowState<F>,
     session: SessionChange,
 ) -> Step<F>
-    ensures { result ≡ record { cause = cause; flow = Some (record { number = number; state = state }); session = session } }
+    ensures { result ≡ record { cause = cause; flow = Some (record { number = number; state = state }); session = session; ledger = no_ledger number (is_over state) } }
 {
+    let flow = Some(FlowAfter { number, state });
+    let ledger = quiet(alloc, &flow);
     Step {
         cause,
-        flow: Some(FlowAfter { number, state }),
+        flow,
         session,
+        ledger,
     }
 }
 
@@ -89,7 +94,7 @@ fn go_on<F: FlowSet>(
     cause.moment.known();
     let state = resume(alloc, identity, cause.moment, at, &with);
     let_go(with);
-    Ok(step_of(cause, at.flow, state?, change))
+    Ok(step_of(alloc, cause, at.flow, state?, change))
 }
 
 /// A subflow begins, or the flow is told that its stack has 8 frames. The only error is want of memory.
@@ -110,7 +115,7 @@ fn push<F: FlowSet>(
     cause.moment.known();
     let state = call(alloc, identity, cause.moment, at, frame)?;
     let session = unchanged(alloc, at.flow);
-    Ok(step_of(cause, at.flow, state, session))
+    Ok(step_of(alloc, cause, at.flow, state, session))
 }
 
 /// The flow is over, and each of its sessions is told so by this item. The only error is want of memory.
@@ -132,7 +137,7 @@ fn end<F: FlowSet>(
     ensures cause { IfOk result (λ step. step.cause ≡ cause) }
 {
     match end_sessions(alloc, identity, sessions, at.flow, last) {
-        Ok(session) => Ok(step_of(cause, at.flow, state, session)),
+        Ok(session) => Ok(step_of(alloc, cause, at.flow, state, session)),
         Err(fault) => {
             let_go(state);
             Err(fault)
@@ -167,7 +172,7 @@ fn give_back<F: FlowSet>(
         return step;
     }
     let session = unchanged(alloc, at.flow);
-    Ok(step_of(cause, at.flow, state, session))
+    Ok(step_of(alloc, cause, at.flow, state, session))
 }
 
 /// The flow has failed. The only error is want of memory.
@@ -283,7 +288,7 @@ fn wake<F: FlowSet>(
     cause.moment.known();
     let state = resume(alloc, identity, cause.moment, at, &Resumed::Lapsed)?;
     let session = unchanged(alloc, at.flow);
-    Ok(step_of(cause, at.flow, state, session))
+    Ok(step_of(alloc, cause, at.flow, state, session))
 }
 
 /// The step by which a live flow goes on: its act, which is enabled, is performed. The only error is want of memory.

@@ -11,6 +11,3 @@ mod resuming;
 pub use accepting::{answer_init, arrive_item};
 pub use picking::{flow_in, pick_event};
 pub use ready::{advance, begin};
-
-#[cfg(test)]
-mod tests;

@@ -96,7 +96,7 @@ pub fn begin<F: FlowSet>(
     };
     let state = first_state(alloc, number, class, top, waiting);
     let session = unchanged(alloc, number);
-    Ok(step_of(cause, number, state, session))
+    Ok(step_of(alloc, cause, number, state, session))
 }
 
 /// The step by which a flow goes on, by this cause, whose event was picked. The only error is want of memory.

@@ -1,6 +1,8 @@
 -- What contracts see of a node's ledger, and what one change makes of it.
-use Rattle.std.specs.Prelude.{ℕ, ◌+◌, ◌<◌, ◌≤◌, ◌^◌, Bool, List, [], ◌∷◌, ◌++◌, Option, Some, None, IfSome, length, map, if◌then◌else◌}
+use Rattle.std.specs.Prelude.{ℕ, ◌+◌, ◌<◌, ◌≤◌, ◌^◌, ◌&&◌, not, is_some, find, Bool, true, List, [], ◌∷◌, ◌++◌, Option, Some, None, IfSome, length, map, if◌then◌else◌}
+use Rattle.std.specs.List.{list_all}
 use Rattle.net_base.specs.declared.values.Hash32.{Hash32}
+use Rattle.net_base.specs.declared.names.StateRef.{StateRef}
 use Rattle.net_base.specs.declared.values.Party.{Party}
 use Rattle.ledger_types.specs.declared.tx.Tx.{Tx}
 use Rattle.ledger_types.specs.declared.tx.SignedTx.{SignedTx}
@@ -8,7 +10,10 @@ use Rattle.ledger_types.specs.declared.held.Held.{Held}
 use Rattle.ledger_types.specs.declared.notary.Entry.{Entry}
 use Rattle.ledger_types.specs.declared.change.LedgerChange.{LedgerChange}
 use Rattle.ledger_types.specs.Signatures.{tx_id}
-use Rattle.ledger_types.specs.Vaults.{Lock, locks_of, released}
+use Rattle.ledger_types.specs.Names.{party_eq, ref_eq, has_repeat}
+use Rattle.ledger_types.specs.Notary.{repeats}
+use Rattle.ledger_types.specs.Stores.{may_record}
+use Rattle.ledger_types.specs.Vaults.{Lock, has_coin, locks_of, released}
 use Rattle.tx_store.specs.Stored.{Stored}
 use Rattle.vault.specs.Holdings.{Holding, held_after, locked_in, freed_of, IsVault}
 use Rattle.notary_book.specs.Booked.{Booked}
@@ -70,3 +75,18 @@ held_by me change states = freed_at_end change.owner change.ended (map (locked_i
 -- the soft locks behind a change
 abbrev pub locks_by : LedgerChange → List Lock → List Lock
 locks_by change locks = released_at_end change.owner change.ended (locks ++ locks_of change.owner change.locked)
+
+-- ---- which change may be applied
+
+-- whether an entry, where there is one, may be added: the party is its network's notary, and no entry answers the same request
+abbrev pub may_book : Party → Party → List Entry → Option Entry → Bool
+may_book me notary entries None = true
+may_book me notary entries (Some e) = party_eq me notary && not (is_some (find (repeats e.request) entries))
+
+-- whether these states are coins behind the transaction, and none stands twice
+abbrev pub may_lock : Party → Option SignedTx → List Held → List StateRef → Bool
+may_lock me recorded states locked = list_all (has_coin (held_with me recorded states)) locked && not (has_repeat ref_eq locked)
+
+-- whether a change may be applied: its transaction may be recorded, its states locked and its entry added
+unfoldable pub may_apply : Party → Party → List (Hash32 × SignedTx) → List Held → List Entry → LedgerChange → Bool
+may_apply me notary store states entries change = may_record store change.recorded && (may_lock me change.recorded states change.locked && may_book me notary entries change.booked)

@@ -1,17 +1,19 @@
 //! The parts of one change, each in the table that it concerns.
 
 ghost use Rattle.std.specs.Prelude.{◌≡◌, ◌≤◌, ◌<◌, ◌+◌, ◌++◌, true, not, List, length, option_to_list, IfSome, OnOk};
+ghost use Rattle.std.specs.List.{list_all};
+ghost use Rattle.ledger_types.specs.Names.{ref_eq, has_repeat};
 ghost use Rattle.net_base.specs.declared.values.Hash32.{Hash32 as Id};
 ghost use Rattle.ledger_types.specs.declared.tx.Tx.{Tx as Recorded};
 ghost use Rattle.ledger_types.specs.Txs.{IsSignedTx};
 ghost use Rattle.ledger_types.specs.Requests.{IsEntry};
 ghost use Rattle.ledger_types.specs.Stores.{untagged, is_stored, may_record};
-ghost use Rattle.ledger_types.specs.Vaults.{Lock};
+ghost use Rattle.ledger_types.specs.Vaults.{Lock, has_coin};
 ghost use Rattle.vault.specs.Holdings.{IsVault};
-ghost use Rattle.ledger_tables.specs.Ledgers.{recorded_in, outputs_in, held_with, freed_at_end, released_at_end, HasPlace, HasRecordRoom, HasEntryRoom};
+ghost use Rattle.ledger_tables.specs.Ledgers.{may_lock, may_book, recorded_in, outputs_in, held_with, freed_at_end, released_at_end, HasPlace, HasRecordRoom, HasEntryRoom};
 
 use ledger_types::{Entry, SignedTx};
-use net_base::Hash32;
+use net_base::{Hash32, Party, StateRef};
 use notary_book::Book;
 use std::alloc::{AllocError, Global};
 use tx_store::Store;
@@ -22,6 +24,51 @@ pub fn is_new(store: &Store, id: &Hash32) -> bool
     ensures { result ≡ not (is_stored store.now.list id.now) }
 {
     store.get(id).is_none()
+}
+
+/// Whether the references name coins once a transaction, where there is one, is recorded.
+fn are_coins(vault: &Vault, recorded: &Option<SignedTx>, refs: &[StateRef]) -> bool
+    requires { IfSome recorded.now IsSignedTx }
+    ensures { result ≡ list_all (has_coin (held_with vault.now.party recorded.now vault.now.held)) refs.now }
+{
+    match recorded {
+        None => refs.iter().all(|r| vault.is_coin(r)),
+        Some(stx) => {
+            let id = stx.tx.id();
+            refs.iter().all(|r| vault.is_coin_behind(&id, &stx.tx, r))
+        }
+    }
+}
+
+/// Whether a reference stands twice.
+#[tactic(auto, using(crate::proofs::Repeats::repeat_at))]
+fn has_repeated(refs: &[StateRef]) -> bool
+    ensures { result ≡ has_repeat ref_eq refs.now }
+{
+    for i in 0..refs.len() {
+        if refs[i + 1..].contains(&refs[i]) {
+            return true;
+        }
+    }
+    false
+}
+
+/// Whether these states may be locked once a transaction, where there is one, is recorded.
+pub fn may_lock(vault: &Vault, recorded: &Option<SignedTx>, refs: &[StateRef]) -> bool
+    requires { IfSome recorded.now IsSignedTx }
+    ensures { result ≡ may_lock vault.now.party recorded.now vault.now.held refs.now }
+{
+    are_coins(vault, recorded, refs) && !has_repeated(refs)
+}
+
+/// Whether an entry, where there is one, may be added to the book of a party.
+pub fn may_book(book: &Book, me: Party, notary: Party, booked: &Option<Entry>) -> bool
+    ensures { result ≡ may_book me notary book.now.entries booked.now }
+{
+    match booked {
+        None => true,
+        Some(entry) => me == notary && !book.has_answered(&entry.request),
+    }
 }
 
 /// Makes room for a transaction, in the store and in the vault.

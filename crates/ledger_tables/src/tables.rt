@@ -8,10 +8,11 @@ ghost use Rattle.ledger_types.specs.Names.{ref_eq, has_repeat};
 ghost use Rattle.ledger_types.specs.Stores.{untagged, may_record};
 ghost use Rattle.ledger_types.specs.Vaults.{Lock, has_coin};
 ghost use Rattle.vault.specs.Holdings.{references_of, IsVault};
-ghost use Rattle.ledger_tables.specs.Ledgers.{HasVault, recorded_in, outputs_in, HasPlace, held_with, held_by, locks_by, HasRecordRoom, HasEntryRoom};
+ghost use Rattle.ledger_tables.specs.Ledgers.{may_apply, HasVault, recorded_in, outputs_in, HasPlace, held_with, held_by, locks_by, HasRecordRoom, HasEntryRoom};
 
 use crate::parts::{
-    add_entry, is_new, make_entry_room, make_record_room, record_next, release_ended,
+    add_entry, is_new, make_entry_room, make_record_room, may_book, may_lock, record_next,
+    release_ended,
 };
 use ledger_types::{LedgerChange, SignedTx};
 use net_base::Party;
@@ -95,6 +96,24 @@ impl Tables {
             None => true,
             Some(stx) => is_new(&self.store, &stx.tx.id()) && self.store.has_dependencies(&stx.tx),
         }
+    }
+
+    /// Whether a change may be applied, at a party whose network has this notary: its transaction may be recorded, its states are coins
+    /// behind that and none stands twice, and its entry is the notary's and answers a request that no entry answers. Takes no memory.
+    #[tactic(auto, unfolding(crate::specs::Ledgers::may_apply))]
+    pub fn may_apply(&self, notary: Party, change: &LedgerChange) -> bool
+        requires { IfSome change.now.recorded IsSignedTx }
+        ensures { result ≡ may_apply self.now.vault.party notary self.now.store.list self.now.vault.held self.now.book.entries change.now }
+    {
+        let LedgerChange {
+            recorded,
+            locked,
+            booked,
+            ..
+        } = change;
+        self.may_record(recorded)
+            && (may_lock(&self.vault, recorded, locked.as_slice())
+                && may_book(&self.book, self.vault.party(), notary, booked))
     }
 
     /// Makes room for a change in all tables. Want of memory leaves their contents as they were.

@@ -1,6 +1,8 @@
 -- What a network does, one thing after another, over any disks and as its worlds show it.
 use Rattle.std.proofs.Common.{◌≡◌, ◌<◌, ◌⊎◌, inl, inr, ⊎_elim, false, ℕ, length, Option, Some, None, Result, Ok, Err, refl, sym, ◌∙◌, ap, subst, arith}
 use Rattle.flow_machine.specs.Machine.{Machine}
+use Rattle.net_base.specs.declared.names.Identity.{Identity}
+use Rattle.network_core.proofs.Mapping.{Maps, round_map, drains_map}
 use Rattle.net_base.proofs.Lists.{set_length}
 use Rattle.net_model.specs.Environment.{Environment, environment}
 use Rattle.node_tables.specs.Journals.{Reads}
@@ -16,10 +18,10 @@ use Rattle.node_core.specs.declared.faults.TakeFault.TheVariants as take_fault
 use Rattle.network_core.specs.declared.steps.Outcome.{Outcome}
 use Rattle.network_core.specs.declared.steps.Outcome.TheVariants as outcome
 use Rattle.network_core.specs.Answers.{said, turn_outcome, take_outcome, AtPlace, TurnServes, Posting, PostServes, Handing, HandServes, answer_of, NetTurn, NetPost, NetHand, net_steps}
-use Rattle.network_core.specs.Worlds.{World, NodeWorld, NetSeen, Shows}
+use Rattle.network_core.specs.Worlds.{World, NodeWorld, NetSeen, Shows, Coherent, KeepsWorld}
 use Rattle.network_core.specs.Serves.{WorldTurns}
 use Rattle.network_core.specs.Rounds.{DrainSteps, DrainGoal, IsLastTurn, Round, DrainsTo}
-use Rattle.network_core.specs.Drains.{TurnAt, world_steps, room, Drives, Drains}
+use Rattle.network_core.specs.Drains.{TurnAt, world_steps, room, Pair, with_world, pair_steps, KeepsPair, PairDrains, WorldDrains, Drives, Drains}
 use Rattle.network_core.proofs.Draining.{DrainLaws, SomeRounds, drain_ends}
 use Rattle.network_core.proofs.Emptying.{hands_over_at}
 use Rattle.network_core.proofs.Quieting.{quiet}
@@ -133,12 +135,53 @@ module _ {F : Type 0} (m : Machine F) (f : Reads F) where
     hand_over = λ p d code w u v o lt is full hand. inl (o, hand, net_over p code u v o lt is full hand);
   }
 
+  -- ---- those of both
+
+  module _ (id : Identity) where
+    abbrev Both : Type 0
+    Both = Pair (environment m f id)
+
+    pub to_world : Maps (pair_steps m f id) (world_steps (environment m f id)) (λ (a : Both). a.world)
+    to_world = record {
+      count = λ a. a.shows.count;
+      turn = λ p a o b h. h.1;
+      post = λ p a o b h. h.1;
+      hand = λ p a o b h. h.1;
+      ends = λ p d a c b h. ⊎_elim (λ over. (over.0, over.1.1, over.2)) (λ still. still.2) h;
+    }
+
+    pub to_net : Maps (pair_steps m f id) (net_steps m f) (λ (a : Both). a.net)
+    to_net = record {
+      count = λ a. refl;
+      turn = λ p a o b h. h.0;
+      post = λ p a o b h. h.0;
+      hand = λ p a o b h. h.0;
+      ends = λ p d a c b h. ⊎_elim (λ over. inl (over.0, over.1.0, over.2)) (λ still. still.1) h;
+    }
+
+    pub pair_laws : DrainLaws (pair_steps m f id)
+    pair_laws = record {
+      turn_count = λ p a b o h. net_laws.turn_count p a.net b.net o h.0;
+      post_count = λ p a b o h. net_laws.post_count p a.net b.net o h.0;
+      turn_last = λ p o a b lt moved full h. net_last p o a.net b.net lt moved full h.0;
+      hand_over = λ p d code a c b o lt is full h. inl (o, h, net_over p code c.net b.net o lt is full h.0);
+    }
+
+  -- what is said of worlds follows
+  pub worlds_of : (old new : NetSeen) (o : Option Outcome) → KeepsPair m f old new (λ id a b. PairDrains m f id o a b) → KeepsWorld m f old new (λ e w v. WorldDrains e w o v)
+  worlds_of old new o pairs id w shows coherent =
+      let b = pairs id w shows coherent in
+      (b.0, b.1, b.2, (drains_map (pair_steps m f id) (world_steps (environment m f id)) (λ (z : Pair (environment m f id)). z.world) (to_world id) (with_world old w shows coherent) o (with_world new b.0 b.1 b.2) b.3.0, b.3.1))
+
   -- ---- one thing after another
 
   -- nothing was done yet
   pub drives_none : (old new : NetSeen) (goal : DrainGoal) → new ≡ old → ((W : Type 0) (s : DrainSteps W) (w : W) → goal W s w w) → Drives m f old new goal
   drives_none old new goal same holds = record {
-    world = λ id w shows coherent. (w, subst (λ (n : NetSeen). Shows (environment m f id) n w) (sym same) shows, coherent, holds World (world_steps (environment m f id)) w);
+    pairs = λ id w shows coherent.
+        let e = environment m f id in
+        let a = with_world old w shows coherent in
+        subst (λ (n : NetSeen). (v : World) × (later : Shows e n v) × (sound : Coherent e v) × goal (Pair e) (pair_steps m f id) a (with_world n v later sound)) (sym same) (w, shows, coherent, holds (Pair e) (pair_steps m f id) a);
     seen = subst (λ (n : NetSeen). goal NetSeen (net_steps m f) old n) (sym same) (holds NetSeen (net_steps m f) old);
     clock = ap (λ (z : NetSeen). z.now) same;
     left = omega (arith, ap room same);
@@ -147,10 +190,9 @@ module _ {F : Type 0} (m : Machine F) (f : Reads F) where
 
   pub drives_map : (old new : NetSeen) (goal wider : DrainGoal) → ((W : Type 0) (s : DrainSteps W) → DrainLaws s → (w v : W) → goal W s w v → wider W s w v) → Drives m f old new goal → Drives m f old new wider
   drives_map old new goal wider map d = record {
-    world = λ id w shows coherent.
-        let e = environment m f id in
-        let one = d.world id w shows coherent in
-        (one.0, one.1, one.2, map World (world_steps e) (world_laws e) w one.0 one.3);
+    pairs = λ id w shows coherent.
+        let one = d.pairs id w shows coherent in
+        (one.0, one.1, one.2, map (Pair (environment m f id)) (pair_steps m f id) (pair_laws id) (with_world old w shows coherent) (with_world new one.0 one.1 one.2) one.3);
     seen = map NetSeen (net_steps m f) net_laws old new d.seen;
     clock = d.clock;
     left = d.left;
@@ -160,11 +202,10 @@ module _ {F : Type 0} (m : Machine F) (f : Reads F) where
   -- one thing after another
   pub drives_then : (old mid new : NetSeen) (first second wider : DrainGoal) → ((W : Type 0) (s : DrainSteps W) → DrainLaws s → (w u v : W) → first W s w u → second W s u v → wider W s w v) → Drives m f old mid first → Drives m f mid new second → Drives m f old new wider
   drives_then old mid new first second wider join before after = record {
-    world = λ id w shows coherent.
-        let e = environment m f id in
-        let one = before.world id w shows coherent in
-        let two = after.world id one.0 one.1 one.2 in
-        (two.0, two.1, two.2, join World (world_steps e) (world_laws e) w one.0 two.0 one.3 two.3);
+    pairs = λ id w shows coherent.
+        let one = before.pairs id w shows coherent in
+        let two = after.pairs id one.0 one.1 one.2 in
+        (two.0, two.1, two.2, join (Pair (environment m f id)) (pair_steps m f id) (pair_laws id) (with_world old w shows coherent) (with_world mid one.0 one.1 one.2) (with_world new two.0 two.1 two.2) one.3 two.3);
     seen = join NetSeen (net_steps m f) net_laws old mid new before.seen after.seen;
     clock = after.clock ∙ before.clock;
     left = omega (arith, before.left, after.left);
@@ -174,9 +215,9 @@ module _ {F : Type 0} (m : Machine F) (f : Reads F) where
   -- a world that the network shows has as many nodes
   pub drives_counted : (old new : NetSeen) (goal : DrainGoal) → Drives m f old new goal → Drives m f old new (λ W s w v. (s.count w ≡ length old.nodes) × goal W s w v)
   drives_counted old new goal d = record {
-    world = λ id w shows coherent.
-        let one = d.world id w shows coherent in
-        (one.0, one.1, one.2, (shows.count, one.3));
+    pairs = λ id w shows coherent.
+        let one = d.pairs id w shows coherent in
+        (one.0, one.1, one.2, (refl, one.3));
     seen = (refl, d.seen);
     clock = d.clock;
     left = d.left;
@@ -186,13 +227,19 @@ module _ {F : Type 0} (m : Machine F) (f : Reads F) where
   -- ---- how a drain ends
 
   -- behind a round in which nothing was committed the network is quiet
+  quiet_pairs : (old mid new : NetSeen) → Drives m f old mid (λ W s w v. SomeRounds s w v) → Drives m f mid new (λ W s w v. Round s 0 w v) → KeepsPair m f old new (λ id a b. PairDrains m f id (Some (outcome.Drained false)) a b)
+  quiet_pairs old mid new before after id w shows coherent =
+      let one = before.pairs id w shows coherent in
+      let two = after.pairs id one.0 one.1 one.2 in
+      let a = with_world old w shows coherent in
+      let c = with_world mid one.0 one.1 one.2 in
+      let b = with_world new two.0 two.1 two.2 in
+      (two.0, two.1, two.2, (drain_ends (pair_steps m f id) a c b one.3 two.3, λ is. quiet (environment m f id) one.0 two.0 one.2 (round_map (pair_steps m f id) (world_steps (environment m f id)) (λ (z : Pair (environment m f id)). z.world) (to_world id) 0 c b two.3)))
+
   pub drains_quiet : (old mid new : NetSeen) → Drives m f old mid (λ W s w v. SomeRounds s w v) → Drives m f mid new (λ W s w v. Round s 0 w v) → Drains m f old (Some (outcome.Drained false)) new
   drains_quiet old mid new before after = record {
-    world = λ id w shows coherent.
-        let e = environment m f id in
-        let one = before.world id w shows coherent in
-        let two = after.world id one.0 one.1 one.2 in
-        (two.0, two.1, two.2, (drain_ends (world_steps e) w one.0 two.0 one.3 two.3, λ is. quiet e one.0 two.0 one.2 two.3));
+    pairs = quiet_pairs old mid new before after;
+    world = worlds_of old new (Some (outcome.Drained false)) (quiet_pairs old mid new before after);
     seen = drain_ends (net_steps m f) old mid new before.seen after.seen;
     clock = after.clock ∙ before.clock;
     left = omega (arith, before.left, after.left);
@@ -200,11 +247,15 @@ module _ {F : Type 0} (m : Machine F) (f : Reads F) where
   }
 
   -- a full journal or want of memory stopped it
+  stopped_pairs : (old new : NetSeen) (o : Option Outcome) → (o ≡ Some (outcome.Drained false) → ⊥) → Drives m f old new (λ W s w v. DrainsTo s w o v) → KeepsPair m f old new (λ id a b. PairDrains m f id o a b)
+  stopped_pairs old new o other d id w shows coherent =
+      let one = d.pairs id w shows coherent in
+      (one.0, one.1, one.2, (one.3, λ is. absurd (other is)))
+
   pub drains_stopped : (old new : NetSeen) (o : Option Outcome) → (o ≡ Some (outcome.Drained false) → ⊥) → Drives m f old new (λ W s w v. DrainsTo s w o v) → Drains m f old o new
   drains_stopped old new o other d = record {
-    world = λ id w shows coherent.
-        let one = d.world id w shows coherent in
-        (one.0, one.1, one.2, (one.3, λ is. absurd (other is)));
+    pairs = stopped_pairs old new o other d;
+    world = worlds_of old new o (stopped_pairs old new o other d);
     seen = d.seen;
     clock = d.clock;
     left = d.left;

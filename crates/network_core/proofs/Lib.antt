@@ -25,6 +25,7 @@ pub mod Reaching
 pub mod Standing
 pub mod Emptying
 pub mod Draining
+pub mod Mapping
 pub mod Driving
 pub mod Mailing
 pub mod Fitting
@@ -35,6 +36,7 @@ pub mod Booting
 pub mod Delivering
 pub mod Turning
 pub mod Linking
+pub mod Pairing
 pub mod Beginning
 pub mod Loops
 pub mod NewDisks

@@ -33,12 +33,13 @@ use Rattle.network_core.specs.declared.steps.Outcome.TheVariants as outcome
 use Rattle.network_core.specs.Worlds.{NetSeen}
 use Rattle.network_core.specs.Serves.{WorldPosts}
 use Rattle.network_core.specs.Answers.{said, net_steps, turn_outcome, take_outcome, TurnServes, AtPlace, Posting, PostServes, SendServes, Handing, HandServes, count_fresh, mailed}
-use Rattle.network_core.specs.Drains.{room, total_room, journal_room, takes, TurnAt, HandAt, world_steps, Drains, Drives}
+use Rattle.network_core.specs.Drains.{room, total_room, journal_room, takes, TurnAt, HandAt, world_steps, Drains, Drives, Pair, with_world, pair_steps}
 use Rattle.network_core.specs.Rounds.{DrainSteps, Posts, PostsAt, PostsStop, InOrder, Hands, DeliversAt, Turns, TurnsAt, TurnsStop, drain_outcome}
 use Rattle.network_core.proofs.Places.{turn_world, waits_get}
 use Rattle.network_core.proofs.Delivering.{post_world, hand_world}
 use Rattle.network_core.proofs.Draining.{Counts, ends_all}
-use Rattle.network_core.proofs.Driving.{net_turn, net_post, net_hand, same_count, post_keeps}
+use Rattle.network_core.proofs.Driving.{net_turn, net_post, net_hand, same_count, post_keeps, to_world}
+use Rattle.network_core.proofs.Mapping.{hands_map}
 use Rattle.network_core.proofs.Emptying.{hands_shorter}
 
 -- ---- the room
@@ -159,9 +160,9 @@ module _ {F : Type 0} (m : Machine F) (f : Reads F) where
   pub drives_turn : {E : Type 0} (p : ℕ) (old new : NetSeen) (result : Result Outcome E) (o : Option Outcome) → p < length old.nodes → new.now ≡ old.now → AtPlace p old result new (λ n r k. TurnServes m f old.now None n r k) → said result ≡ o
       → Drives m f old new (λ W s w v. (p < s.count w) × s.turn p w o v)
   drives_turn p old new result o lt clock at was = record {
-    world = λ id w shows coherent.
+    pairs = λ id w shows coherent.
         let one = turn_world m f p old new result None clock at id w shows coherent in
-        (one.0, one.1, one.2, (omega (arith, lt, shows.count), subst (λ (s : Option Outcome). TurnAt (environment m f id) p w s one.0) was one.3));
+        (one.0, one.1, one.2, (lt, (net_turn m f p old new result o was at clock, subst (λ (s : Option Outcome). TurnAt (environment m f id) p w s one.0) was one.3)));
     seen = (lt, net_turn m f p old new result o was at clock);
     clock = clock;
     left = omega (arith, narrows old.now p None old new result at);
@@ -174,9 +175,9 @@ module _ {F : Type 0} (m : Machine F) (f : Reads F) where
   drives_post p old new result o at was =
       let same = post_keeps m f p old new result at in
       record {
-        world = λ id w shows coherent.
+        pairs = λ id w shows coherent.
             let one = post_world m f p old new result at id w shows coherent in
-            (one.0, one.1, one.2, subst (λ (s : Option Outcome). WorldPosts (environment m f id) p w s one.0) was one.3);
+            (one.0, one.1, one.2, (net_post m f p old new result o was at, subst (λ (s : Option Outcome). WorldPosts (environment m f id) p w s one.0) was one.3));
         seen = net_post m f p old new result o was at;
         clock = same.1;
         left = omega (arith, ap total_room same.0);
@@ -190,9 +191,9 @@ module _ {F : Type 0} (m : Machine F) (f : Reads F) where
   drives_hand p old new result o lt at was =
       let took = hand_takes false p 0 old new result at in
       record {
-        world = λ id w shows coherent.
+        pairs = λ id w shows coherent.
             let one = hand_world m f false p 0 old new result at id w shows coherent in
-            (one.0, one.1, one.2, (omega (arith, lt, shows.count), subst (λ (s : Option Outcome). HandAt (environment m f id) p w s one.0) was one.3));
+            (one.0, one.1, one.2, (lt, (net_hand m f p old new result o was at, subst (λ (s : Option Outcome). HandAt (environment m f id) p w s one.0) was one.3)));
         seen = (lt, net_hand m f p old new result o was at);
         clock = took.clock;
         left = omega (arith, took.left);
@@ -240,11 +241,13 @@ posts_all s p w v is h = subst (λ (q : ℕ). InOrder (PostsAt s) q 0 w v) (sym 
 pub all_delivered : {F : Type 0} (m : Machine F) (f : Reads F) (old new : NetSeen) (p d : ℕ) (moved : Bool) (frames : List (List ℕ)) → slice_get old.waiting p ≡ Some frames → length frames ≡ d
     → Drives m f old new (λ W s w v. Counts moved (Hands s p d) w v) → Drives m f old new (λ W s w v. Counts moved (DeliversAt s p) w v)
 all_delivered m f old new p d moved frames at count drives = record {
-  world = λ id w shows coherent.
+  pairs = λ id w shows coherent.
       let e = environment m f id in
-      let one = drives.world id w shows coherent in
+      let one = drives.pairs id w shows coherent in
+      let a = with_world old w shows coherent in
+      let b = with_world new one.0 one.1 one.2 in
       let found = waits_get w.nodes p frames (ap (λ l. slice_get l p) shows.waiting ∙ at) in
-      (one.0, one.1, one.2, ends_all (world_steps e) p d moved w one.0 (λ n h. hands_shorter e p d n w one.0 found.0 found.1 (ap length found.2 ∙ count) h) one.3);
+      (one.0, one.1, one.2, ends_all (pair_steps m f id) p d moved a b (λ n h. inr (refl, inr ((frames, at, count), refl), hands_shorter e p d n w one.0 found.0 found.1 (ap length found.2 ∙ count) (hands_map (pair_steps m f id) (world_steps e) (λ (z : Pair e). z.world) (to_world m f id) p d n a b h))) one.3);
   seen = ends_all (net_steps m f) p d moved old new (λ n h. inr ((frames, at, count), refl)) drives.seen;
   clock = drives.clock;
   left = drives.left;

@@ -7,9 +7,9 @@ ghost use Rattle.network_core.specs.Worlds.{KeepsWorld};
 ghost use Rattle.std.specs.List.{AllByRecursion};
 ghost use Rattle.network_core.specs.Answers.{Answered, AtPlace, StartServes, TurnServes, PostServes, HandServes, LoseServes, CutServes, BootServes, ClockServes, BootClock, said};
 ghost use Rattle.network_core.specs.Begins.{BeginsWorld, IsRefused, BootsUpTo, nodes_over as over_disks};
-ghost use Rattle.network_core.specs.Drains.{Drains, Drives, room};
+ghost use Rattle.network_core.specs.Drains.{Drains, Drives, KeepsPair, room};
 ghost use Rattle.network_core.specs.Rounds.{DeliversAt, HandStops, HandsStop, InOrder, Posts, Round, RoundStops, StopsAt, Turns, TurnsAt, TurnsStop, drain_outcome, heard, joined, turned};
-ghost use Rattle.network_core.specs.Served.{Serve, Follows};
+ghost use Rattle.network_core.specs.Served.{Serve, Follows, PairServes, PairFollows};
 ghost use Rattle.network_core.specs.declared.net.Turning.TheVariants as turning;
 
 use super::begin::{BeginRefused, boot_all, disks_of, nodes_over};
@@ -130,6 +130,7 @@ impl<D: Bay, F: FlowSet> Net<D, F> {
     /// booted has its power back.
     pub fn apply(&mut self, alloc: Global, step: &Step) -> Result<Outcome, AllocError>
         ensures serves { KeepsWorld F.machine F.reading self.old self.new (λ e w v. Serve e step.now w (said result) v) }
+        ensures pairs { KeepsPair F.machine F.reading self.old self.new (λ id a b. PairServes F.machine F.reading id step.now (said result) a b) }
 
         // Over any disks, also such as tell nothing, and whatever their journals hold.
         ensures answers { Answered F.machine F.reading step.now self.old result self.new }
@@ -165,7 +166,8 @@ impl<D: Bay, F: FlowSet> Net<D, F> {
     /// each step has its outcome.
     pub fn apply_all(&mut self, alloc: Global, steps: &[Step], outcomes: &mut Vec<Outcome>) -> bool
         requires { (outcomes.old.items ≡ []) × (length steps.now ≤ vec_capacity outcomes.old) }
-        ensures { KeepsWorld F.machine F.reading self.old self.new (λ e w v. Follows e steps.now outcomes.new.items result w v) }
+        ensures worlds { KeepsWorld F.machine F.reading self.old self.new (λ e w v. Follows e steps.now outcomes.new.items result w v) }
+        ensures pairs { KeepsPair F.machine F.reading self.old self.new (λ id a b. PairFollows F.machine F.reading id steps.now outcomes.new.items result a b) }
     {
         'steps: for step in steps {
             let Ok(outcome) = self.apply(alloc, step) else {

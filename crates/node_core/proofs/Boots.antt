@@ -131,7 +131,7 @@ unopened f id old new why c = record {
   begun = λ told young. inl (gave_up why (c.begun told (young old.state.kept (c.was told))));
 }
 
-unfit : {F : Type 0} (f : Reads F) (id : Identity) (old new : DiskView) (list : List (ℕ × List ℕ)) (why : RebuildFault) → RebuildsAs f id.nodes id.party list (Err why) → Opens id old new list → Unfit f id old (boot_by why) new
+unfit : {F : Type 0} (f : Reads F) (id : Identity) (old new : DiskView) (list : List (ℕ × List ℕ)) (why : RebuildFault) → RebuildsAs f id.notary id.nodes id.party list (Err why) → Opens id old new list → Unfit f id old (boot_by why) new
 unfit f id old new list (rebuild_fault.Damaged at) said o = (list, o, said)
 unfit f id old new list rebuild_fault.Memory said o = (list, o)
 
@@ -139,7 +139,7 @@ unfit f id old new list rebuild_fault.Memory said o = (list, o)
 formatted_stays : (id : Identity) (x : List ℕ) → is_unformatted x ≡ false → formatted id x ≡ x
 formatted_stays id x is = rw is refl
 
-pub unbooted : {F : Type 0} (f : Reads F) (id : Identity) (old : DiskView) (journal : JournalView) (list : List (ℕ × List ℕ)) (why : RebuildFault) → Opening id old journal list → RebuildsAs f id.nodes id.party list (Err why) → Unbooted f id (roomless old) (boot_by why) (roomless journal.disk)
+pub unbooted : {F : Type 0} (f : Reads F) (id : Identity) (old : DiskView) (journal : JournalView) (list : List (ℕ × List ℕ)) (why : RebuildFault) → Opening id old journal list → RebuildsAs f id.notary id.nodes id.party list (Err why) → Unbooted f id (roomless old) (boot_by why) (roomless journal.disk)
 unbooted f id old journal list why o said =
     let opens = opening_opens id old journal list o in
     record { moves = opens.moves; form = opens.form; same = λ other. opens.same; bytes = λ other told is. opens.left told ∙ formatted_stays id old.state.kept is; calm = opens.calm; cause = inr (unfit f id (roomless old) (roomless journal.disk) list why said opens); begun = λ told young. inr (unfit f id (roomless old) (roomless journal.disk) list why said opens) }

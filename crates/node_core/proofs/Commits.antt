@@ -81,16 +81,16 @@ module _ {F : Type 0} (w : Environment F) (id : Identity) (now : ℕ) (within : 
   cause = next_cause state now step.cause.event item
 
   abbrev effect : Effect F
-  effect = effect_by step.flow step.session
+  effect = effect_by step.flow step.session step.ledger
 
   steps : node_step w id.party.0 state cause item ≡ Some (apply_effect state cause effect, effect)
   steps = steps_on w id.party.0 state now step.cause.event item effect (room_left w.frame_at (stamp_in item) bodies may.room).1.1 by may.ready.effect
 
   -- its record fits
-  pub step_fits : IsSoundState id.party.0 state → fits w.nodes id.party state (step_record step) ≡ true
+  pub step_fits : IsSoundState id.party.0 state → fits w.notary w.nodes id.party state (step_record step) ≡ true
   step_fits sound =
-      let here : fits w.nodes id.party state (record { cause = cause; effect = effect }) ≡ true = (fits_as_ruled w id.party.0 state (record { cause = cause; effect = effect }) refl).1 (steps_fit w id.party.0 state _ cause item effect sound steps) in
-      subst (λ (c : Cause). fits w.nodes id.party state (record { cause = c; effect = effect }) ≡ true) (sym may.cause) here
+      let here : fits w.notary w.nodes id.party state (record { cause = cause; effect = effect }) ≡ true = (fits_as_ruled w id.party.0 state (record { cause = cause; effect = effect })).1 (steps_fit w id.party.0 state _ cause item effect sound steps) in
+      subst (λ (c : Cause). fits w.notary w.nodes id.party state (record { cause = c; effect = effect }) ≡ true) (sym may.cause) here
 
   -- its body is the one that pends
   pub step_pends : (body : List ℕ) → record_of w.frame_at body ≡ Some (record { cause = cause; effect = effect }) → Pends w id.party.0 now bodies step.cause.event item body

@@ -223,7 +223,7 @@ Unopened id old why new = (fault : OpenFault) × (why ≡ boot_of fault) × Refu
 
 -- the journal was opened, and its records refused
 abbrev pub Unfit : {F : Type 0} → Reads F → Identity → DiskView → BootFault → DiskView → Type 0
-Unfit frame_at id old (boot_fault.Damaged at) new = (list : List (ℕ × List ℕ)) × Opens id old new list × (misfit frame_at id.nodes id.party list ≡ Some at)
+Unfit frame_at id old (boot_fault.Damaged at) new = (list : List (ℕ × List ℕ)) × Opens id old new list × (misfit frame_at id.notary id.nodes id.party list ≡ Some at)
 Unfit frame_at id old boot_fault.Memory new = (list : List (ℕ × List ℕ)) × Opens id old new list
 Unfit frame_at id old boot_fault.Fault new = ⊥
 Unfit frame_at id old boot_fault.NotAJournal new = ⊥
@@ -250,7 +250,7 @@ pub record Unbooted {F : Type 0} (frame_at : Reads F) (id : Identity) (old : Dis
 -- a boot gave this list of bodies, each a record that fits
 pub record Booted {F : Type 0} (frame_at : Reads F) (id : Identity) (old new : DiskView) (list : List (ℕ × List ℕ)) : Type 0 where
   pub opens : Opens id old new list
-  pub fits : misfit frame_at id.nodes id.party list ≡ None
+  pub fits : misfit frame_at id.notary id.nodes id.party list ≡ None
 
 -- what a boot answers
 abbrev pub BootsAs : {F : Type 0} → Reads F → {T : Type 0} → NodeSeen → Result T BootFault → NodeSeen → Type 0

@@ -14,6 +14,3 @@ pub use faults::{
     BootFault, CutFault, StartFault, TakeFault, Taken, TurnFault, Turned, UnackedFault,
 };
 pub use node::Node;
-
-#[cfg(test)]
-mod tests;

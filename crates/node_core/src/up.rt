@@ -16,7 +16,7 @@ ghost use Rattle.net_model.specs.Environment.{environment};
 ghost use Rattle.net_model.specs.Steps.{next_cause};
 ghost use Rattle.flow_steps.specs.Ready.{IsBegun, IsReady};
 ghost use Rattle.node_tables.specs.Journals.{state_of, causes_of};
-ghost use Rattle.node_tables.specs.Seen.{padded};
+ghost use Rattle.node_tables.specs.Seen.{padded, HasRooms};
 ghost use Rattle.node_core.specs.Journals.{is_full};
 ghost use Rattle.node_core.specs.Disks.{roomless};
 ghost use Rattle.node_core.specs.Seen.{CommitsAs, LogsAs, MayCommit, Tied, Booted, Unbooted, boot_by, boot_of, picked_at};
@@ -61,7 +61,7 @@ impl<D: Disk, F: Spelt + Drop> Model for Up<D, F> {
 
     ghost view = { λ u. record { journal = u.journal; bodies = u.tables.bodies; acked = u.tables.acked } };
 
-    ghost invariant = { λ u. (u.tables.party ≡ u.journal.of.party) × (u.tables.nodes ≡ u.journal.of.nodes) × AreIdle (state_of F.reading u.tables.bodies) u.idle };
+    ghost invariant = { λ u. (u.tables.party ≡ u.journal.of.party) × (u.tables.nodes ≡ u.journal.of.nodes) × AreIdle (state_of F.reading u.tables.bodies) u.idle × (u.tables.notary ≡ u.journal.of.notary) };
 }
 
 /// A boot was refused; the disk comes back.
@@ -115,7 +115,7 @@ impl<D: Disk, F: Spelt + Drop> Up<D, F> {
                 });
             }
         };
-        match rebuild(alloc, identity.party, identity.nodes, list) {
+        match rebuild(alloc, identity.party, identity.nodes, identity.notary, list) {
             Ok(tables) => Ok(Up {
                 journal,
                 tables,
@@ -423,13 +423,15 @@ fn log<D: Disk, F: FlowSet>(
     ensures of { journal.new.of ≡ journal.old.of }
     ensures party { tables.new.party ≡ tables.old.party }
     ensures nodes { tables.new.nodes ≡ tables.old.nodes }
+    ensures notary { tables.new.notary ≡ tables.old.notary }
+    ensures rooms { OnOk result (HasRooms step.now.ledger tables.new.rooms) }
     ensures bodies { tables.new.bodies ≡ tables.old.bodies }
     ensures acked { tables.new.acked ≡ tables.old.acked }
     ensures room { OnOk result (room_for step.now.session ≤ tables.new.room) }
     ensures logs { LogsAs F.reading (step_record step.now) tables.old.bodies journal.old result journal.new }
 {
     let body = spell_step(alloc, step)?;
-    tables.make_room(alloc, &step.session)?;
+    tables.make_room(alloc, &step.session, &step.ledger)?;
     journal.make_room(alloc, body.len())?;
     match journal.append(body.as_slice()) {
         Ok(()) => Ok(body),

@@ -5,8 +5,6 @@ use Rattle.std.proofs.lemmas.List.{append-nil, length-map}
 use Rattle.net_base.specs.declared.values.Party.{Party}
 use Rattle.net_model.specs.State.{NodeState, Record, replay}
 use Rattle.flow_records.specs.Records.{record_of}
-use Rattle.flow_records.specs.Alone.{leaves_ledger}
-use Rattle.flow_records.specs.Steps.{besides_ledger}
 use Rattle.node_tables.specs.Journals.{Reads, state_of}
 use Rattle.node_tables.specs.Fits.{fits, fits_read, apply_read, misfit_from, misfit}
 use Rattle.node_tables.specs.declared.boot.RebuildFault.{RebuildFault}
@@ -17,38 +15,32 @@ use Rattle.node_tables.proofs.Runs.{state_push}
 abbrev pub bodies_in : List (ℕ × List ℕ) → List (List ℕ)
 bodies_in list = map (λ x. x.1) list
 
-fits_not : {F : Type 0} (nodes : ℕ) (me : Party) (s : NodeState F) (r : Record F) (b : Bool) → leaves_ledger r.effect.change ≡ b → cond b (Some r) None ≡ None → fits nodes me s r ≡ false
-unfolding fits
-fits_not nodes me s r true is h = cc
-fits_not nodes me s r false is h = rw is refl
-
--- what is no record, and what changes the ledger, doesn't fit
-pub unread : {F : Type 0} (nodes : ℕ) (me : Party) (s : NodeState F) (o : Option (Record F)) → besides_ledger o ≡ None → fits_read nodes me s o ≡ false
-unread nodes me s None h = refl
-unread nodes me s (Some r) h = fits_not nodes me s r (leaves_ledger r.effect.change) refl h
+-- what is no record doesn't fit
+pub unread : {F : Type 0} (notary : Party) (nodes : ℕ) (me : Party) (s : NodeState F) (o : Option (Record F)) → o ≡ None → fits_read notary nodes me s o ≡ false
+unread {F} notary nodes me s o h = subst (λ (x : Option (Record F)). fits_read notary nodes me s x ≡ false) (sym h) refl
 
 -- the place of the first misfit of all is that of the bodies left
-pub record Rebuilding {F : Type 0} (f : Reads F) (nodes : ℕ) (me : Party) (all : List (ℕ × List ℕ)) (built : List (List ℕ)) (left : List (ℕ × List ℕ)) : Type 0 where
+pub record Rebuilding {F : Type 0} (f : Reads F) (notary : Party) (nodes : ℕ) (me : Party) (all : List (ℕ × List ℕ)) (built : List (List ℕ)) (left : List (ℕ × List ℕ)) : Type 0 where
   pub all_of : built ++ bodies_in left ≡ bodies_in all
-  pub place : misfit f nodes me all ≡ misfit_from f nodes me (state_of f built) left
+  pub place : misfit f notary nodes me all ≡ misfit_from f notary nodes me (state_of f built) left
 
-pub rebuilding_none : {F : Type 0} (f : Reads F) (nodes : ℕ) (me : Party) (all : List (ℕ × List ℕ)) (built : List (List ℕ)) → built ≡ [] → Rebuilding f nodes me all built all
+pub rebuilding_none : {F : Type 0} (f : Reads F) (notary : Party) (nodes : ℕ) (me : Party) (all : List (ℕ × List ℕ)) (built : List (List ℕ)) → built ≡ [] → Rebuilding f notary nodes me all built all
 unfolding misfit state_of replay
-rebuilding_none f nodes me all built none = rw none (record { all_of = refl; place = refl })
+rebuilding_none f notary nodes me all built none = rw none (record { all_of = refl; place = refl })
 
-module _ {F : Type 0} (f : Reads F) (nodes : ℕ) (me : Party) (all : List (ℕ × List ℕ)) (built : List (List ℕ)) (left : List (ℕ × List ℕ)) (so_far : Rebuilding f nodes me all built left) where
-  pub rebuilding_more : (more : List (List ℕ)) (rest : List (ℕ × List ℕ)) (x : ℕ × List ℕ) → left ≡ x ∷ rest → more ≡ built ++ x.1 ∷ [] → fits_read nodes me (state_of f built) (record_of f x.1) ≡ true → Rebuilding f nodes me all more rest
+module _ {F : Type 0} (f : Reads F) (notary : Party) (nodes : ℕ) (me : Party) (all : List (ℕ × List ℕ)) (built : List (List ℕ)) (left : List (ℕ × List ℕ)) (so_far : Rebuilding f notary nodes me all built left) where
+  pub rebuilding_more : (more : List (List ℕ)) (rest : List (ℕ × List ℕ)) (x : ℕ × List ℕ) → left ≡ x ∷ rest → more ≡ built ++ x.1 ∷ [] → fits_read notary nodes me (state_of f built) (record_of f x.1) ≡ true → Rebuilding f notary nodes me all more rest
   rebuilding_more more rest x next same ok =
-      let here : misfit_from f nodes me (state_of f built) left ≡ misfit_from f nodes me (apply_read (state_of f built) (record_of f x.1)) rest =
-      ap (misfit_from f nodes me (state_of f built)) next ∙ ap (λ b. cond b (misfit_from f nodes me (apply_read (state_of f built) (record_of f x.1)) rest) (Some x.0)) ok in
-      let there : Rebuilding f nodes me all (built ++ x.1 ∷ []) rest = record {
+      let here : misfit_from f notary nodes me (state_of f built) left ≡ misfit_from f notary nodes me (apply_read (state_of f built) (record_of f x.1)) rest =
+      ap (misfit_from f notary nodes me (state_of f built)) next ∙ ap (λ b. cond b (misfit_from f notary nodes me (apply_read (state_of f built) (record_of f x.1)) rest) (Some x.0)) ok in
+      let there : Rebuilding f notary nodes me all (built ++ x.1 ∷ []) rest = record {
         all_of = append_assoc built (x.1 ∷ []) (bodies_in rest) ∙ ap (λ l. built ++ bodies_in l) (sym next) ∙ so_far.all_of;
-        place = so_far.place ∙ here ∙ ap (λ s. misfit_from f nodes me s rest) (sym (state_push f built x.1));
+        place = so_far.place ∙ here ∙ ap (λ s. misfit_from f notary nodes me s rest) (sym (state_push f built x.1));
       } in
-      subst (λ b. Rebuilding f nodes me all b rest) (sym same) there
+      subst (λ b. Rebuilding f notary nodes me all b rest) (sym same) there
 
-  pub misfit_here : (rest : List (ℕ × List ℕ)) (x : ℕ × List ℕ) → left ≡ x ∷ rest → fits_read nodes me (state_of f built) (record_of f x.1) ≡ false → misfit f nodes me all ≡ Some x.0
-  misfit_here rest x next bad = so_far.place ∙ ap (misfit_from f nodes me (state_of f built)) next ∙ ap (λ b. cond b (misfit_from f nodes me (apply_read (state_of f built) (record_of f x.1)) rest) (Some x.0)) bad
+  pub misfit_here : (rest : List (ℕ × List ℕ)) (x : ℕ × List ℕ) → left ≡ x ∷ rest → fits_read notary nodes me (state_of f built) (record_of f x.1) ≡ false → misfit f notary nodes me all ≡ Some x.0
+  misfit_here rest x next bad = so_far.place ∙ ap (misfit_from f notary nodes me (state_of f built)) next ∙ ap (λ b. cond b (misfit_from f notary nodes me (apply_read (state_of f built) (record_of f x.1)) rest) (Some x.0)) bad
 
   -- fewer bodies were built than there are, while some are left
   pub fewer : (rest : List (ℕ × List ℕ)) (x : ℕ × List ℕ) → left ≡ x ∷ rest → length all ≤ 65536 → length built < 65536
@@ -63,14 +55,14 @@ unfolding state_of replay
 none_at_first f built acked none nothing = rw none nothing
 
 -- what was taken of a record that fits
-pub fits_taken : {F : Type 0} (nodes : ℕ) (me : Party) (s : NodeState F) (o : Option (Record F)) (r : Record F) → o ≡ Some r → fits nodes me s r ≡ true → fits_read nodes me s o ≡ true
-fits_taken {F} nodes me s o r is h = subst (λ (x : Option (Record F)). fits_read nodes me s x ≡ true) (sym is) h
+pub fits_taken : {F : Type 0} (notary : Party) (nodes : ℕ) (me : Party) (s : NodeState F) (o : Option (Record F)) (r : Record F) → o ≡ Some r → fits notary nodes me s r ≡ true → fits_read notary nodes me s o ≡ true
+fits_taken {F} notary nodes me s o r is h = subst (λ (x : Option (Record F)). fits_read notary nodes me s x ≡ true) (sym is) h
 
 -- why the tables were not rebuilt
-pub refused : {F : Type 0} (f : Reads F) (nodes : ℕ) (me : Party) (all : List (ℕ × List ℕ)) (built new : List (List ℕ)) (left rest : List (ℕ × List ℕ)) (at : ℕ) (body : List ℕ) (why : RebuildFault) → Rebuilding f nodes me all built left → left ≡ (at, body) ∷ rest → TakesAs f nodes me built at body {T = ⊤} (Err why) new → RebuildsAs f nodes me all (Err why)
-refused f nodes me all built new left rest at body (rebuild_fault.Damaged place) so_far next h = misfit_here f nodes me all built left so_far rest (at, body) next h.0 ∙ ap (λ n. Some n) (sym h.1)
-refused f nodes me all built new left rest at body rebuild_fault.Memory so_far next h = tt
+pub refused : {F : Type 0} (f : Reads F) (notary : Party) (nodes : ℕ) (me : Party) (all : List (ℕ × List ℕ)) (built new : List (List ℕ)) (left rest : List (ℕ × List ℕ)) (at : ℕ) (body : List ℕ) (why : RebuildFault) → Rebuilding f notary nodes me all built left → left ≡ (at, body) ∷ rest → TakesAs f notary nodes me built at body {T = ⊤} (Err why) new → RebuildsAs f notary nodes me all (Err why)
+refused f notary nodes me all built new left rest at body (rebuild_fault.Damaged place) so_far next h = misfit_here f notary nodes me all built left so_far rest (at, body) next h.0 ∙ ap (λ n. Some n) (sym h.1)
+refused f notary nodes me all built new left rest at body rebuild_fault.Memory so_far next h = tt
 
-pub rebuilt : {F : Type 0} (f : Reads F) (nodes : ℕ) (me : Party) (all : List (ℕ × List ℕ)) (built : List (List ℕ)) (left : List (ℕ × List ℕ)) → Rebuilding f nodes me all built left → length left ≡ 0 → (built ≡ bodies_in all) × (misfit f nodes me all ≡ None)
-rebuilt f nodes me all built [] so_far none = (sym (append-nil built) ∙ so_far.all_of, so_far.place)
-rebuilt f nodes me all built (x ∷ xs) so_far none = absurd (omega (arith, none))
+pub rebuilt : {F : Type 0} (f : Reads F) (notary : Party) (nodes : ℕ) (me : Party) (all : List (ℕ × List ℕ)) (built : List (List ℕ)) (left : List (ℕ × List ℕ)) → Rebuilding f notary nodes me all built left → length left ≡ 0 → (built ≡ bodies_in all) × (misfit f notary nodes me all ≡ None)
+rebuilt f notary nodes me all built [] so_far none = (sym (append-nil built) ∙ so_far.all_of, so_far.place)
+rebuilt f notary nodes me all built (x ∷ xs) so_far none = absurd (omega (arith, none))

@@ -9,3 +9,4 @@ pub mod Lawful
 pub mod Runs
 pub mod Boots
 pub mod Deciding
+pub mod Ledgered

@@ -23,12 +23,13 @@ use Rattle.transition_record.specs.Causes.{came_key_of}
 use Rattle.flow_machine.specs.declared.flows.FlowState.{FlowState}
 use Rattle.flow_machine.specs.declared.flows.FlowState.TheVariants.{Live, Ended, Failed}
 use Rattle.net_model.specs.Environment.{Environment, party}
-use Rattle.net_model.specs.State.{NodeState, FlowPart, no_flow, now_live, now_ended, now_failed, Effect, nothing, flow_of, came_on, sessions_on, session_part}
+use Rattle.net_model.specs.State.{NodeState, FlowPart, no_flow, now_live, now_ended, now_failed, Effect, nothing, flow_of, came_on, sessions_on}
 use Rattle.net_model.specs.Enabled.{part_of}
 use Rattle.net_model.specs.Sound.{IsNumbered}
 use Rattle.net_model.specs.Fits.{FitsEvent, FitsOpened, AnswersBy, AnswersFirst, AcceptsInit, ArrivesAt, IsNewFlow}
 use Rattle.flow_records.specs.declared.step.FlowAfter.{FlowAfter}
-use Rattle.flow_records.specs.Steps.{part_after, effect_by, owner_of}
+use Rattle.ledger_types.specs.declared.change.LedgerChange.{LedgerChange}
+use Rattle.flow_records.specs.Steps.{part_after, whole_part, effect_by, owner_of}
 use Rattle.node_tables.specs.Fits.{begun_by}
 use Rattle.node_tables.specs.Seen.{IsSmall}
 use Rattle.node_tables.proofs.Small.{found_key}
@@ -117,7 +118,7 @@ not_init body_of.End h = refl
 
 -- ---- what is accepted
 
-module _ {F : Type 0} (w : Environment F) (me a c : ℕ) (s : NodeState F) (flow : Option (FlowAfter F)) (change : SessionChange) (small : AllByRecursion (IsSmall (party me) a c) s.sessions) (own : (n : ℕ) → flow_of (part_after flow) ≡ Some n → change.owner ≡ n) where
+module _ {F : Type 0} (w : Environment F) (me a c : ℕ) (s : NodeState F) (flow : Option (FlowAfter F)) (change : SessionChange) (led : LedgerChange) (small : AllByRecursion (IsSmall (party me) a c) s.sessions) (own : (n : ℕ) → flow_of (part_after flow) ≡ Some n → change.owner ≡ n) where
   -- no item is accepted
   quiet_came : (o : Option Body) → o ≡ None → FitsCame (party me) s.sessions change None o
   quiet_came None is = tt
@@ -128,7 +129,7 @@ module _ {F : Type 0} (w : Environment F) (me a c : ℕ) (s : NodeState F) (flow
   quiet_by (Some body) owner = refl
 
   -- an Init is
-  answer_came : (key : Key) (o : Option Body) → is_new_key w.nodes (party me) s.sessions key ≡ true → AcceptsInit (length s.flows) key (effect_by flow change) o → FitsCame (party me) s.sessions change (Some key) o
+  answer_came : (key : Key) (o : Option Body) → is_new_key w.nodes (party me) s.sessions key ≡ true → AcceptsInit (length s.flows) key (effect_by flow change led) o → FitsCame (party me) s.sessions change (Some key) o
   answer_came key None new h = absurd h
   answer_came key (Some (body_of.Init class first)) new h =
       let p = and_parts (is_none (session_of key s.sessions)) (not (is_no_peer w.nodes (party me) key.initiator)) new in
@@ -140,7 +141,7 @@ module _ {F : Type 0} (w : Environment F) (me a c : ℕ) (s : NodeState F) (flow
   answer_came key (Some (body_of.Error code)) new h = absurd h
   answer_came key (Some body_of.End) new h = absurd h
 
-  answer_by : (key : Key) (o : Option Body) → AcceptsInit (length s.flows) key (effect_by flow change) o → came_by (Some key) o (answered_for change.owner change.sent) s.sessions ≡ s.sessions ++ new_session key key.initiator (flow_of (part_after flow)) (option_to_list o) ∷ []
+  answer_by : (key : Key) (o : Option Body) → AcceptsInit (length s.flows) key (effect_by flow change led) o → came_by (Some key) o (answered_for change.owner change.sent) s.sessions ≡ s.sessions ++ new_session key key.initiator (flow_of (part_after flow)) (option_to_list o) ∷ []
   answer_by key None h = absurd h
   answer_by key (Some (body_of.Init class first)) h =
       ap (λ (owner : Option ℕ). s.sessions ++ new_session key key.initiator owner (body_of.Init class first ∷ []) ∷ []) (first_owner change.owner (length s.flows) key class (part_after flow) change.sent own h)
@@ -151,32 +152,32 @@ module _ {F : Type 0} (w : Environment F) (me a c : ℕ) (s : NodeState F) (flow
   answer_by key (Some body_of.End) h = absurd h
 
   -- an item arrives
-  arrive_came : (key : Key) (direction number : ℕ) (h : ArrivesAt me s key direction number (effect_by flow change)) → FitsCame (party me) s.sessions change (Some key) (Some h.body)
+  arrive_came : (key : Key) (direction number : ℕ) (h : ArrivesAt me s key direction number (effect_by flow change led)) → FitsCame (party me) s.sessions change (Some key) (Some h.body)
   arrive_came key direction number h =
-      let quiet : session_part change ≡ record nothing { came = Some h.body } = ap (λ (e : Effect F). e.change) h.alone in
-      let other = not_init h.body (arrived_no_init me a c s key direction number (effect_by flow change) h small) in
+      let quiet : whole_part change led ≡ record nothing { came = Some h.body } = ap (λ (e : Effect F). e.change) h.alone in
+      let other = not_init h.body (arrived_no_init me a c s key direction number (effect_by flow change led) h small) in
       let lawful : is_lawful (direction_in (party me) key) (length h.session.came) h.body ≡ true = subst (λ n. is_lawful (direction_in (party me) key) n h.body ≡ true) h.expected (subst (λ d. is_lawful d number h.body ≡ true) h.incoming h.lawful) in
       record {
-        begins = λ init. absurd (arrived_no_init me a c s key direction number (effect_by flow change) h small init);
+        begins = λ init. absurd (arrived_no_init me a c s key direction number (effect_by flow change led) h small init);
         goes_on = λ none. record { session = h.session; stands = h.stands; lawful = lawful; opens_none = ap (λ x. x.opened) quiet; sends_none = ap (λ x. x.sent) quiet; takes_none = ap (λ x. x.taken) quiet };
       }
 
-  arrive_by : (key : Key) (direction number : ℕ) (h : ArrivesAt me s key direction number (effect_by flow change)) (owner : Option ℕ) → came_by (Some key) (Some h.body) owner s.sessions ≡ changed_at key (with_came (option_to_list (Some h.body))) s.sessions
+  arrive_by : (key : Key) (direction number : ℕ) (h : ArrivesAt me s key direction number (effect_by flow change led)) (owner : Option ℕ) → came_by (Some key) (Some h.body) owner s.sessions ≡ changed_at key (with_came (option_to_list (Some h.body))) s.sessions
   arrive_by key direction number h owner =
-      let other = not_init h.body (arrived_no_init me a c s key direction number (effect_by flow change) h small) in
+      let other = not_init h.body (arrived_no_init me a c s key direction number (effect_by flow change led) h small) in
       ap (λ b. cond b (s.sessions ++ new_session key key.initiator owner (h.body ∷ []) ∷ []) (changed_at key (with_came (h.body ∷ [])) s.sessions)) other
 
-  arrive_body : (key : Key) (direction number : ℕ) (h : ArrivesAt me s key direction number (effect_by flow change)) → change.came ≡ Some h.body
+  arrive_body : (key : Key) (direction number : ℕ) (h : ArrivesAt me s key direction number (effect_by flow change led)) → change.came ≡ Some h.body
   arrive_body key direction number h = ap (λ (e : Effect F). e.change.came) h.alone
 
-  pub came_fits : (event : Event) → FitsEvent w me s event (effect_by flow change) → FitsCame (party me) s.sessions change (came_key_of event) change.came
+  pub came_fits : (event : Event) → FitsEvent w me s event (effect_by flow change led) → FitsCame (party me) s.sessions change (came_key_of event) change.came
   came_fits (event.Start f class args) h = quiet_came change.came h.2
   came_fits (event.Move f) h = quiet_came change.came h.alone
   came_fits (event.Lapse f) h = quiet_came change.came h.alone
   came_fits (event.Answer key) h = answer_came key change.came h.0 h.1
   came_fits (event.Arrive key direction number) h = subst (λ (o : Option Body). FitsCame (party me) s.sessions change (Some key) o) (sym (arrive_body key direction number h)) (arrive_came key direction number h)
 
-  pub came_same : (event : Event) → FitsEvent w me s event (effect_by flow change) → came_by (came_key_of event) change.came (answered_for change.owner change.sent) s.sessions ≡ came_on event (option_to_list change.came) (flow_of (part_after flow)) s.sessions
+  pub came_same : (event : Event) → FitsEvent w me s event (effect_by flow change led) → came_by (came_key_of event) change.came (answered_for change.owner change.sent) s.sessions ≡ came_on event (option_to_list change.came) (flow_of (part_after flow)) s.sessions
   came_same (event.Start f class args) h = quiet_by change.came (answered_for change.owner change.sent)
   came_same (event.Move f) h = quiet_by change.came (answered_for change.owner change.sent)
   came_same (event.Lapse f) h = quiet_by change.came (answered_for change.owner change.sent)
@@ -194,28 +195,28 @@ module _ {F : Type 0} (w : Environment F) (me a c : ℕ) (s : NodeState F) (flow
   opened_in later None h = tt
   opened_in later (Some opened) h = h.opens
 
-  module _ (cause : Cause) (key : change.came_key ≡ came_key_of cause.event) (event : FitsEvent w me s cause.event (effect_by flow change)) (opened : FitsOpened w me s (begun_by cause (effect_by flow change) s.sessions) (flow_of (part_after flow)) change.sent change.opened) where
+  module _ (cause : Cause) (key : change.came_key ≡ came_key_of cause.event) (event : FitsEvent w me s cause.event (effect_by flow change led)) (opened : FitsOpened w me s (begun_by cause (effect_by flow change led) s.sessions) (flow_of (part_after flow)) change.sent change.opened) where
     -- the sessions once an item was accepted and a session opened
-    pub begun_same : begun_on change s.sessions ≡ begun_by cause (effect_by flow change) s.sessions
+    pub begun_same : begun_on change s.sessions ≡ begun_by cause (effect_by flow change led) s.sessions
     begun_same =
         let keyed : came_by change.came_key change.came (answered_for change.owner change.sent) s.sessions ≡ came_on cause.event (option_to_list change.came) (flow_of (part_after flow)) s.sessions =
         ap (λ (k : Option Key). came_by k change.came (answered_for change.owner change.sent) s.sessions) key ∙ came_same cause.event event in
         let came = came_on cause.event (option_to_list change.came) (flow_of (part_after flow)) s.sessions in
-        ap (λ (ss : List Session). opened_on change.opened (Some change.owner) ss) keyed ∙ opened_same (begun_by cause (effect_by flow change) s.sessions) change.opened came opened
+        ap (λ (ss : List Session). opened_on change.opened (Some change.owner) ss) keyed ∙ opened_same (begun_by cause (effect_by flow change led) s.sessions) change.opened came opened
 
     -- the sessions after the record are those of the change
-    pub sessions_same : changed_by cause.stamp change s.sessions ≡ sessions_on cause (effect_by flow change) s.sessions
+    pub sessions_same : changed_by cause.stamp change s.sessions ≡ sessions_on cause (effect_by flow change led) s.sessions
     sessions_same = ap (λ (ss : List Session). taken_on change.taken (sent_on cause.stamp change.sent ss)) begun_same
 
     -- the change fits
-    pub change_fits : (stamp : ℕ) → FitsSent (party me) stamp (begun_by cause (effect_by flow change) s.sessions) change.sent → FitsTaken s.sessions change.taken → IsFitting (party me) stamp s.sessions change
+    pub change_fits : (stamp : ℕ) → FitsSent (party me) stamp (begun_by cause (effect_by flow change led) s.sessions) change.sent → FitsTaken s.sessions change.taken → IsFitting (party me) stamp s.sessions change
     change_fits stamp sent taken = record {
       came = subst (λ (k : Option Key). FitsCame (party me) s.sessions change k change.came) (sym key) (came_fits cause.event event);
-      opened = opened_in (begun_by cause (effect_by flow change) s.sessions) change.opened opened;
+      opened = opened_in (begun_by cause (effect_by flow change led) s.sessions) change.opened opened;
       sent = subst (λ (ss : List Session). FitsSent (party me) stamp ss change.sent) (sym begun_same) sent;
       taken = taken;
     }
 
     -- what a change that fits says of what is sent
-    pub sent_there : (stamp : ℕ) → IsFitting (party me) stamp s.sessions change → FitsSent (party me) stamp (begun_by cause (effect_by flow change) s.sessions) change.sent
+    pub sent_there : (stamp : ℕ) → IsFitting (party me) stamp s.sessions change → FitsSent (party me) stamp (begun_by cause (effect_by flow change led) s.sessions) change.sent
     sent_there stamp h = subst (λ (ss : List Session). FitsSent (party me) stamp ss change.sent) begun_same h.sent

@@ -1,7 +1,7 @@
--- A record that leaves the ledger alone fits exactly where the machine's rules say so.
-use Rattle.std.proofs.Common.{◌≡◌, ℕ, ◌+◌, ◌^◌, ◌&&◌, List, [], ◌∷◌, length, Option, Some, None, true, refl, sym, ap, subst, nat_lt, nat_le, not, option_to_list, is_none}
+-- A record fits exactly where the machine's rules say so.
+use Rattle.std.proofs.Common.{◌≡◌, ℕ, ◌+◌, ◌^◌, ◌&&◌, List, [], ◌∷◌, ◌++◌, length, find, is_some, Option, Some, None, true, false, refl, sym, ap, subst, nat_lt, nat_le, not, option_to_list, is_none}
 use Rattle.std.specs.Bool.{◌==◌}
-use Rattle.std.specs.List.{list_any}
+use Rattle.std.specs.List.{list_any, list_all}
 use Rattle.std.proofs.lemmas.Bool.{ltb-true, leb-true, eqb-true, and_parts, and_from, lt-ltb, le-leb, eq-eqb, not-true, not_from_false}
 use Rattle.net_base.specs.declared.names.Key.{Key}
 use Rattle.net_base.specs.declared.values.Party.{Party}
@@ -16,13 +16,19 @@ use Rattle.session_wire.specs.declared.change.SentItem.{SentItem}
 use Rattle.session_wire.specs.Sessions.{Session, key_eq, session_of, changed_at, with_sent, opened_on}
 use Rattle.session_wire.specs.Rules.{direction_in, direction_out, next_key, is_new_key, is_lawful, is_init_of, sessions_of, OpensNext, Continues, FitsSent, TakesUpTo, FitsTaken}
 use Rattle.session_wire.proofs.Keys.{key_exact, key_same}
+use Rattle.ledger_types.specs.declared.notary.Entry.{Entry}
+use Rattle.ledger_types.specs.Names.{party_eq, ref_eq, has_repeat}
+use Rattle.ledger_types.specs.Notary.{repeats}
+use Rattle.ledger_types.specs.Stores.{may_record, untagged}
+use Rattle.ledger_types.specs.Vaults.{vault_of, has_coin}
+use Rattle.ledger_tables.specs.Ledgers.{may_book}
 use Rattle.flow_machine.specs.declared.flows.Checkpoint.{Checkpoint}
 use Rattle.net_model.specs.Environment.{Environment, party}
-use Rattle.net_model.specs.State.{NodeState, FlowPart, no_flow, now_live, now_ended, now_failed, Change, Effect, nothing, flow_of, came_on}
+use Rattle.net_model.specs.State.{NodeState, FlowPart, no_flow, now_live, now_ended, now_failed, Change, Effect, nothing, with_ids, flow_of, came_on}
 use Rattle.net_model.specs.Steps.{live_at}
-use Rattle.net_model.specs.Fits.{Fits, FitsEvent, FitsChange, FitsOpened, IsNewFlow, IsNextOf, GoesOn, AnswersBy, AnswersFirst, AcceptsInit, ArrivesAt}
+use Rattle.net_model.specs.Fits.{Fits, FitsEvent, FitsChange, FitsOpened, FitsBooked, IsNewFlow, IsNextOf, GoesOn, AnswersBy, AnswersFirst, AcceptsInit, ArrivesAt}
 use Rattle.flow_records.specs.Alone.{leaves_ledger}
-use Rattle.node_tables.specs.Fits.{rises, is_no_flow, is_new_flow, is_next_of, goes_on, answers_by, answers_first, accepts_init, is_lawful_item, only_accepts, arrives_in, fits_event, opens_next, owns_few, fits_opened, continues_in, fits_sent, takes_up_to, fits_taken, fits_sessions, begun_by, fits, FitsAsRuled}
+use Rattle.node_tables.specs.Fits.{rises, is_no_flow, is_new_flow, is_next_of, goes_on, answers_by, answers_first, accepts_init, is_lawful_item, only_accepts, arrives_in, fits_event, opens_next, owns_few, fits_opened, continues_in, fits_sent, takes_up_to, fits_taken, fits_sessions, fits_ledger, begun_by, fits, FitsAsRuled}
 use Rattle.node_tables.proofs.Keys.{none_from}
 
 -- ---- flows
@@ -122,29 +128,20 @@ init_to f key e (Some body_of.End) h = cc
 
 -- ---- an item that arrives
 
--- a change that leaves the ledger alone, of its other parts
-pub unledgered : (c : Change) → leaves_ledger c ≡ true → c ≡ record { opened = c.opened; sent = c.sent; came = c.came; taken = c.taken; recorded = None; locked = []; booked = None }
-unledgered c h =
-    let p = and_parts (is_none c.recorded) ((length c.locked == 0) && is_none c.booked) h in
-    let q = and_parts (length c.locked == 0) (is_none c.booked) p.1 in
-    let recorded = none_of c.recorded p.0 in
-    let locked = no_items c.locked q.0 in
-    let booked = none_of c.booked q.1 in
-    λ i. record { opened = c.opened; sent = c.sent; came = c.came; taken = c.taken; recorded = recorded i; locked = locked i; booked = booked i }
-
 -- what an effect is that accepts an item alone
-pub accepted_alone : {F : Type 0} (e : Effect F) (body : Body) → leaves_ledger e.change ≡ true → only_accepts e ≡ true → e.change.came ≡ Some body → e ≡ record { flow = no_flow; change = record nothing { came = Some body } }
-accepted_alone e body still only came =
+pub accepted_alone : {F : Type 0} (e : Effect F) (body : Body) → only_accepts e ≡ true → e.change.came ≡ Some body → e ≡ record { flow = no_flow; change = record nothing { came = Some body } }
+accepted_alone e body only came =
     let c = e.change in
-    let l = and_parts (is_none c.recorded) ((length c.locked == 0) && is_none c.booked) still in
+    let p = and_parts (is_no_flow e.flow) (is_none c.opened && ((length c.sent == 0) && (is_none c.taken && leaves_ledger c))) only in
+    let q = and_parts (is_none c.opened) ((length c.sent == 0) && (is_none c.taken && leaves_ledger c)) p.1 in
+    let r = and_parts (length c.sent == 0) (is_none c.taken && leaves_ledger c) q.1 in
+    let t = and_parts (is_none c.taken) (leaves_ledger c) r.1 in
+    let l = and_parts (is_none c.recorded) ((length c.locked == 0) && is_none c.booked) t.1 in
     let m = and_parts (length c.locked == 0) (is_none c.booked) l.1 in
-    let p = and_parts (is_no_flow e.flow) (is_none c.opened && ((length c.sent == 0) && is_none c.taken)) only in
-    let q = and_parts (is_none c.opened) ((length c.sent == 0) && is_none c.taken) p.1 in
-    let r = and_parts (length c.sent == 0) (is_none c.taken) q.1 in
     let flow = no_flow_to e.flow p.0 in
     let opened = none_of c.opened q.0 in
     let sent = no_items c.sent r.0 in
-    let taken = none_of c.taken r.1 in
+    let taken = none_of c.taken t.0 in
     let recorded = none_of c.recorded l.0 in
     let locked = no_items c.locked m.0 in
     let booked = none_of c.booked m.1 in
@@ -158,18 +155,18 @@ arrives_from {F} me s key direction number e h =
     subst (λ (o : Option Session). arrives_in (party me) key direction number e o ≡ true) (sym h.stands) (and_from _ _ (eq-eqb direction (direction_in (party me) key) h.incoming) (and_from _ _ (eq-eqb number (length h.session.came) h.expected) (and_from _ _ lawful only)))
 
 lawful_to : {F : Type 0} (me : ℕ) (s : NodeState F) (key : Key) (direction number : ℕ) (e : Effect F) (session : Session) (o : Option Body) → session_of key s.sessions ≡ Some session → direction ≡ direction_in (party me) key → number ≡ length session.came → e.change.came ≡ o → is_lawful_item direction number o ≡ true
-    → leaves_ledger e.change ≡ true → only_accepts e ≡ true → ArrivesAt me s key direction number e
-lawful_to me s key direction number e session None stands incoming expected came lawful still only = cc
-lawful_to me s key direction number e session (Some body) stands incoming expected came lawful still only =
-    record { session = session; stands = stands; incoming = incoming; expected = expected; body = body; lawful = lawful; alone = accepted_alone e body still only came }
+    → only_accepts e ≡ true → ArrivesAt me s key direction number e
+lawful_to me s key direction number e session None stands incoming expected came lawful only = cc
+lawful_to me s key direction number e session (Some body) stands incoming expected came lawful only =
+    record { session = session; stands = stands; incoming = incoming; expected = expected; body = body; lawful = lawful; alone = accepted_alone e body only came }
 
-arrives_to : {F : Type 0} (me : ℕ) (s : NodeState F) (key : Key) (direction number : ℕ) (e : Effect F) (o : Option Session) → leaves_ledger e.change ≡ true → session_of key s.sessions ≡ o → arrives_in (party me) key direction number e o ≡ true → ArrivesAt me s key direction number e
-arrives_to me s key direction number e None still is h = cc
-arrives_to me s key direction number e (Some session) still is h =
+arrives_to : {F : Type 0} (me : ℕ) (s : NodeState F) (key : Key) (direction number : ℕ) (e : Effect F) (o : Option Session) → session_of key s.sessions ≡ o → arrives_in (party me) key direction number e o ≡ true → ArrivesAt me s key direction number e
+arrives_to me s key direction number e None is h = cc
+arrives_to me s key direction number e (Some session) is h =
     let p = and_parts (direction == direction_in (party me) key) ((number == length session.came) && (is_lawful_item direction number e.change.came && only_accepts e)) h in
     let q = and_parts (number == length session.came) (is_lawful_item direction number e.change.came && only_accepts e) p.1 in
     let r = and_parts (is_lawful_item direction number e.change.came) (only_accepts e) q.1 in
-    lawful_to me s key direction number e session e.change.came is (eqb-true direction (direction_in (party me) key) p.0) (eqb-true number (length session.came) q.0) refl r.0 still r.1
+    lawful_to me s key direction number e session e.change.came is (eqb-true direction (direction_in (party me) key) p.0) (eqb-true number (length session.came) q.0) refl r.0 r.1
 
 -- ---- events
 
@@ -189,17 +186,17 @@ event_from w me s (event.Arrive key direction number) e h = arrives_from me s ke
 event_from w me s (event.Move f) e h = goes_from s f e h
 event_from w me s (event.Lapse f) e h = goes_from s f e h
 
-pub event_to : {F : Type 0} (w : Environment F) (me : ℕ) (s : NodeState F) (event : Event) (e : Effect F) → leaves_ledger e.change ≡ true → fits_event w.nodes (party me) s event e ≡ true → FitsEvent w me s event e
-event_to w me s (event.Start f class args) e still h =
+pub event_to : {F : Type 0} (w : Environment F) (me : ℕ) (s : NodeState F) (event : Event) (e : Effect F) → fits_event w.nodes (party me) s event e ≡ true → FitsEvent w me s event e
+event_to w me s (event.Start f class args) e h =
     let p = and_parts (f == length s.flows) (is_new_flow f class e.flow && is_none e.change.came) h in
     let q = and_parts (is_new_flow f class e.flow) (is_none e.change.came) p.1 in
     (eqb-true f (length s.flows) p.0, new_to f class e.flow q.0, none_of e.change.came q.1)
-event_to w me s (event.Answer key) e still h =
+event_to w me s (event.Answer key) e h =
     let p = and_parts (is_new_key w.nodes (party me) s.sessions key) (accepts_init (length s.flows) key e.flow e.change.sent e.change.came) h in
     (p.0, init_to (length s.flows) key e e.change.came p.1)
-event_to w me s (event.Arrive key direction number) e still h = arrives_to me s key direction number e (session_of key s.sessions) still refl h
-event_to w me s (event.Move f) e still h = goes_to s f e (live_at s f) refl h
-event_to w me s (event.Lapse f) e still h = goes_to s f e (live_at s f) refl h
+event_to w me s (event.Arrive key direction number) e h = arrives_to me s key direction number e (session_of key s.sessions) refl h
+event_to w me s (event.Move f) e h = goes_to s f e (live_at s f) refl h
+event_to w me s (event.Lapse f) e h = goes_to s f e (live_at s f) refl h
 
 -- ---- sessions
 
@@ -269,65 +266,99 @@ pub taken_to : (sessions : List Session) (taken : Option (Key × ℕ)) → fits_
 taken_to sessions None h = tt
 taken_to sessions (Some taken) h = takes_to sessions taken.0 taken.1 (session_of taken.0 sessions) refl h
 
+-- ---- the ledger
+
+none_is : {X : Type 0} (o : Option X) → is_some o ≡ false → o ≡ None
+none_is None e = refl
+none_is (Some x) e = cc
+
+booked_to : {F : Type 0} (w : Environment F) (me : ℕ) (entries : List Entry) (booked : Option Entry) → may_book (party me) w.notary entries booked ≡ true → FitsBooked w me entries booked
+booked_to w me entries None h = tt
+booked_to w me entries (Some e) h =
+    let p = and_parts (party_eq (party me) w.notary) (not (is_some (find (repeats e.request) entries))) h in
+    (p.0, none_is (find (repeats e.request) entries) (not-true _ p.1))
+
+booked_from : {F : Type 0} (w : Environment F) (me : ℕ) (entries : List Entry) (booked : Option Entry) → FitsBooked w me entries booked → may_book (party me) w.notary entries booked ≡ true
+booked_from w me entries None h = refl
+booked_from w me entries (Some e) h = and_from _ _ h.0 (ap (λ (o : Option Entry). not (is_some o)) h.1)
+
+-- what is said of the ledger of a record
+pub record LedgerParts {F : Type 0} (notary me : Party) (s : NodeState F) (c : Change) : Type 0 where
+  pub recorded : may_record (with_ids s.stored) c.recorded ≡ true
+  pub coins : list_all (has_coin (vault_of me (untagged (with_ids (s.stored ++ option_to_list c.recorded))) s.locked)) c.locked ≡ true
+  pub once : has_repeat ref_eq c.locked ≡ false
+  pub booked : may_book me notary s.entries c.booked ≡ true
+
+pub ledger_parts : {F : Type 0} (notary me : Party) (s : NodeState F) (c : Change) → fits_ledger notary me s c ≡ true → LedgerParts notary me s c
+ledger_parts notary me s c h =
+    let coins = list_all (has_coin (vault_of me (untagged (with_ids (s.stored ++ option_to_list c.recorded))) s.locked)) c.locked in
+    let p = and_parts (may_record (with_ids s.stored) c.recorded) ((coins && not (has_repeat ref_eq c.locked)) && may_book me notary s.entries c.booked) h in
+    let q = and_parts (coins && not (has_repeat ref_eq c.locked)) (may_book me notary s.entries c.booked) p.1 in
+    let r = and_parts coins (not (has_repeat ref_eq c.locked)) q.0 in
+    record { recorded = p.0; coins = r.0; once = not-true _ r.1; booked = q.1 }
+
 -- ---- records
 
 -- which tests of a record hold
-pub record Parts {F : Type 0} (nodes : ℕ) (me : Party) (s : NodeState F) (cause : Cause) (e : Effect F) : Type 0 where
-  pub still : leaves_ledger e.change ≡ true
+pub record Parts {F : Type 0} (notary : Party) (nodes : ℕ) (me : Party) (s : NodeState F) (cause : Cause) (e : Effect F) : Type 0 where
   pub in_order : rises s cause ≡ true
   pub event : fits_event nodes me s cause.event e ≡ true
   pub opened : fits_opened nodes me s.sessions (begun_by cause e s.sessions) (flow_of e.flow) e.change.sent e.change.opened ≡ true
   pub sent : fits_sent me cause.stamp (begun_by cause e s.sessions) e.change.sent ≡ true
   pub taken : fits_taken s.sessions e.change.taken ≡ true
+  pub ledger : fits_ledger notary me s e.change ≡ true
 
-pub parts_of : {F : Type 0} (nodes : ℕ) (me : Party) (s : NodeState F) (cause : Cause) (e : Effect F) → fits nodes me s (record { cause = cause; effect = e }) ≡ true → Parts nodes me s cause e
+pub parts_of : {F : Type 0} (notary : Party) (nodes : ℕ) (me : Party) (s : NodeState F) (cause : Cause) (e : Effect F) → fits notary nodes me s (record { cause = cause; effect = e }) ≡ true → Parts notary nodes me s cause e
 unfolding fits
-parts_of nodes me s cause e h =
+parts_of notary nodes me s cause e h =
     let later = begun_by cause e s.sessions in
     let sessions = fits_sessions nodes me s.sessions later cause.stamp (flow_of e.flow) e.change in
-    let p = and_parts (leaves_ledger e.change) (rises s cause && (fits_event nodes me s cause.event e && sessions)) h in
-    let q = and_parts (rises s cause) (fits_event nodes me s cause.event e && sessions) p.1 in
-    let r = and_parts (fits_event nodes me s cause.event e) sessions q.1 in
-    let t = and_parts (fits_opened nodes me s.sessions later (flow_of e.flow) e.change.sent e.change.opened) (fits_sent me cause.stamp later e.change.sent && fits_taken s.sessions e.change.taken) r.1 in
+    let ledger = fits_ledger notary me s e.change in
+    let q = and_parts (rises s cause) (fits_event nodes me s cause.event e && (sessions && ledger)) h in
+    let r = and_parts (fits_event nodes me s cause.event e) (sessions && ledger) q.1 in
+    let v = and_parts sessions ledger r.1 in
+    let t = and_parts (fits_opened nodes me s.sessions later (flow_of e.flow) e.change.sent e.change.opened) (fits_sent me cause.stamp later e.change.sent && fits_taken s.sessions e.change.taken) v.0 in
     let u = and_parts (fits_sent me cause.stamp later e.change.sent) (fits_taken s.sessions e.change.taken) t.1 in
-    record { still = p.0; in_order = q.0; event = r.0; opened = t.0; sent = u.0; taken = u.1 }
+    record { in_order = q.0; event = r.0; opened = t.0; sent = u.0; taken = u.1; ledger = v.1 }
 
-pub fits_of : {F : Type 0} (nodes : ℕ) (me : Party) (s : NodeState F) (cause : Cause) (e : Effect F) → Parts nodes me s cause e → fits nodes me s (record { cause = cause; effect = e }) ≡ true
+pub fits_of : {F : Type 0} (notary : Party) (nodes : ℕ) (me : Party) (s : NodeState F) (cause : Cause) (e : Effect F) → Parts notary nodes me s cause e → fits notary nodes me s (record { cause = cause; effect = e }) ≡ true
 unfolding fits
-fits_of nodes me s cause e h = and_from _ _ h.still (and_from _ _ h.in_order (and_from _ _ h.event (and_from _ _ h.opened (and_from _ _ h.sent h.taken))))
+fits_of notary nodes me s cause e h = and_from _ _ h.in_order (and_from _ _ h.event (and_from _ _ (and_from _ _ h.opened (and_from _ _ h.sent h.taken)) h.ledger))
 
-fits_from : {F : Type 0} (w : Environment F) (me : ℕ) (s : NodeState F) (cause : Cause) (e : Effect F) → leaves_ledger e.change ≡ true → Fits w me s cause e → fits w.nodes (party me) s (record { cause = cause; effect = e }) ≡ true
-fits_from w me s cause e still h =
+fits_from : {F : Type 0} (w : Environment F) (me : ℕ) (s : NodeState F) (cause : Cause) (e : Effect F) → Fits w me s cause e → fits w.notary w.nodes (party me) s (record { cause = cause; effect = e }) ≡ true
+fits_from w me s cause e h =
     let later = begun_by cause e s.sessions in
-    fits_of w.nodes (party me) s cause e (record {
-      still = still;
+    fits_of w.notary w.nodes (party me) s cause e (record {
       in_order = and_from _ _ (lt-ltb s.stamp cause.stamp h.later) (and_from _ _ (lt-ltb cause.stamp (2 ^ 63) h.bounded) (le-leb s.moment cause.moment.0 h.moment));
       event = event_from w me s cause.event e h.event;
       opened = opened_from w me s later (flow_of e.flow) e.change.sent e.change.opened h.change.opened;
       sent = sent_from (party me) cause.stamp later e.change.sent h.change.sent;
       taken = taken_from s.sessions e.change.taken h.change.taken;
+      ledger = and_from _ _ h.change.recorded (and_from _ _ (and_from _ _ h.change.locked (not_from_false _ h.change.once)) (booked_from w me s.entries e.change.booked h.change.booked));
     })
 
--- what is said of the ledger of a change that leaves it alone
-still_fits : {F : Type 0} (w : Environment F) (me : ℕ) (s : NodeState F) (stamp : ℕ) (before : List Session) (owner : Option ℕ) (c : Change) → leaves_ledger c ≡ true → FitsOpened w me s (opened_on c.opened owner before) owner c.sent c.opened → FitsSent (party me) stamp (opened_on c.opened owner before) c.sent → FitsTaken s.sessions c.taken → FitsChange w me s stamp before owner c
-still_fits w me s stamp before owner c still opened sent taken =
-    subst (λ (x : Change). FitsChange w me s stamp before owner x) (sym (unledgered c still)) (record { opened = opened; sent = sent; taken = taken; recorded = refl; locked = refl; once = refl; booked = tt })
-
-pub fits_to : {F : Type 0} (w : Environment F) (me : ℕ) (s : NodeState F) (cause : Cause) (e : Effect F) → fits w.nodes (party me) s (record { cause = cause; effect = e }) ≡ true → Fits w me s cause e
+pub fits_to : {F : Type 0} (w : Environment F) (me : ℕ) (s : NodeState F) (cause : Cause) (e : Effect F) → fits w.notary w.nodes (party me) s (record { cause = cause; effect = e }) ≡ true → Fits w me s cause e
 fits_to w me s cause e h =
-    let p = parts_of w.nodes (party me) s cause e h in
+    let p = parts_of w.notary w.nodes (party me) s cause e h in
     let order = and_parts (nat_lt s.stamp cause.stamp) (nat_lt cause.stamp (2 ^ 63) && nat_le s.moment cause.moment.0) p.in_order in
     let rest = and_parts (nat_lt cause.stamp (2 ^ 63)) (nat_le s.moment cause.moment.0) order.1 in
     let later = begun_by cause e s.sessions in
+    let l = ledger_parts w.notary (party me) s e.change p.ledger in
     record {
       later = ltb-true s.stamp cause.stamp order.0;
       bounded = ltb-true cause.stamp (2 ^ 63) rest.0;
       moment = leb-true s.moment cause.moment.0 rest.1;
-      event = event_to w me s cause.event e p.still p.event;
-      change =
-          still_fits w me s cause.stamp (came_on cause.event (option_to_list e.change.came) (flow_of e.flow) s.sessions) (flow_of e.flow) e.change p.still (opened_to w me s later (flow_of e.flow) e.change.sent e.change.opened p.opened) (sent_to (party me) cause.stamp later e.change.sent p.sent)
-          (taken_to s.sessions e.change.taken p.taken);
+      event = event_to w me s cause.event e p.event;
+      change = record {
+        opened = opened_to w me s later (flow_of e.flow) e.change.sent e.change.opened p.opened;
+        sent = sent_to (party me) cause.stamp later e.change.sent p.sent;
+        taken = taken_to s.sessions e.change.taken p.taken;
+        recorded = l.recorded;
+        locked = l.coins;
+        once = l.once;
+        booked = booked_to w me s.entries e.change.booked l.booked;
+      };
     }
 
 pub fits_as_ruled : {F : Type 0} → FitsAsRuled F
-fits_as_ruled w me s r still = (λ h. fits_to w me s r.cause r.effect h, λ h. fits_from w me s r.cause r.effect still h)
+fits_as_ruled w me s r = (λ h. fits_to w me s r.cause r.effect h, λ h. fits_from w me s r.cause r.effect h)

@@ -29,23 +29,26 @@ use Rattle.flow_machine.specs.declared.flows.FlowState.TheVariants.{Live, Ended,
 use Rattle.checkpoints.specs.Tables.{with_flow, IsNumbered as IsTabled}
 use Rattle.checkpoints.proofs.Items.{set_parts, push_parts, length_parts}
 use Rattle.net_model.specs.Environment.{Environment, environment, party}
-use Rattle.net_model.specs.State.{NodeState, FlowPart, no_flow, now_live, now_ended, now_failed, Record, Effect, flow_of, flows_on, locks_on, sessions_on, apply_effect, fresh, replay, replay_from}
+use Rattle.net_model.specs.State.{NodeState, FlowPart, no_flow, now_live, now_ended, now_failed, Record, Effect, flow_of, flows_on, sessions_on, apply_effect, fresh, replay, replay_from}
 use Rattle.net_model.specs.Steps.{checkpoint_of}
 use Rattle.net_model.specs.Enabled.{part_of}
 use Rattle.net_model.specs.Fits.{Fits, FitsEvent, AcceptsInit, AnswersFirst, AnswersBy, IsNewFlow, IsNextOf, GoesOn, IsSound}
 use Rattle.net_model.specs.Sound.{IsNumbered, AreNumbered, steps_of}
 use Rattle.net_model.proofs.Numbers.{numbered_push, numbered_set, set_on, push_on}
 use Rattle.net_model.proofs.Sound.{fits_keep_sound, fresh_is_sound}
+use Rattle.ledger_types.specs.declared.tx.SignedTx.{SignedTx}
+use Rattle.ledger_types.specs.declared.change.LedgerChange.{LedgerChange}
+use Rattle.node_ledger.specs.Ledgered.{LedgerState, ledger_in, ledger_after}
 use Rattle.flow_records.specs.declared.step.FlowAfter.{FlowAfter}
 use Rattle.flow_records.specs.declared.step.Step.{Step}
 use Rattle.flow_records.specs.Records.{record_of, IsFlow}
-use Rattle.flow_records.specs.Steps.{part_after, effect_by, step_record, IsAfter, IsStep}
-use Rattle.node_tables.specs.Journals.{Reads, records_of, state_of, causes_of, lone}
-use Rattle.node_tables.specs.Fits.{fits, apply_read, begun_by}
+use Rattle.flow_records.specs.Steps.{part_after, whole_part, effect_by, step_record, IsAfter, IsStep}
+use Rattle.node_tables.specs.Journals.{Reads, records_of, state_of, causes_of, state_with}
+use Rattle.node_tables.specs.Fits.{fits, fits_ledger, apply_read, begun_by}
 use Rattle.node_tables.specs.Seen.{Keeps, IsSmall, AreOwned, flows_after, padded}
 use Rattle.node_tables.proofs.Small.{begun_small, record_small, record_count, few_numbers, few_arrived}
 use Rattle.node_tables.proofs.Linking.{IsOwn, owner_is, sessions_same, change_fits}
-use Rattle.node_tables.proofs.Ruled.{fits_to}
+use Rattle.node_tables.proofs.Ruled.{Parts, parts_of, fits_to}
 use Rattle.node_tables.proofs.Acked.{acks_padded}
 use Rattle.node_tables.proofs.Held.{record_held}
 use Rattle.node_tables.proofs.Owned.{record_owned}
@@ -76,17 +79,10 @@ causes_push f bs b r is = ap (λ rs. map cause_in rs) (records_push f bs b) ∙ 
 
 -- ---- the state after one more record
 
--- no lock is given back where there was none
-locks_none : {F : Type 0} (e : FlowPart F) → locks_on e [] ≡ []
-locks_none no_flow = refl
-locks_none (now_live checkpoint) = refl
-locks_none (now_ended flow step class value) = refl
-locks_none (now_failed flow step class code) = refl
-
-applied : {F : Type 0} (flows : List (FlowState F)) (ss : List Session) (stamp moment : ℕ) (cause : Cause) (flow : Option (FlowAfter F)) (change : SessionChange)
-    → apply_effect (lone flows ss stamp moment) cause (effect_by flow change) ≡ lone (flows_on (part_after flow) flows) (sessions_on cause (effect_by flow change) ss) cause.stamp cause.moment.0
+applied : {F : Type 0} (l : LedgerState) (flows : List (FlowState F)) (ss : List Session) (stamp moment : ℕ) (cause : Cause) (flow : Option (FlowAfter F)) (change : SessionChange) (led : LedgerChange)
+    → apply_effect (state_with l flows ss stamp moment) cause (effect_by flow change led) ≡ state_with (ledger_after (part_after flow) led l) (flows_on (part_after flow) flows) (sessions_on cause (effect_by flow change led) ss) cause.stamp cause.moment.0
 unfolding apply_effect
-applied flows ss stamp moment cause flow change = rw (locks_none (part_after flow)) refl
+applied l flows ss stamp moment cause flow change led = refl
 
 -- a flow at its number, one of the table or the next
 put_on : {F : Type 0} (flows : List (FlowState F)) (n : ℕ) (flow : FlowState F) → n ≤ length flows → IsNumbered n flow → flows_on (part_of n flow) flows ≡ with_flow n flow flows
@@ -146,28 +142,28 @@ first_puts : {F : Type 0} (flows : List (FlowState F)) (key : Key) (class m n : 
 first_puts flows key class m n flow [] h own = absurd h
 first_puts flows key class m n flow (item ∷ items) h own = by_puts flows class m n flow item.body h.3 own
 
-init_puts : {F : Type 0} (flows : List (FlowState F)) (key : Key) (m : ℕ) (after : FlowAfter F) (change : SessionChange) (o : Option Body) → AcceptsInit (length flows) key (effect_by (Some after) change) o → IsOwn after → Puts flows m after.number after.state
-init_puts flows key m after change None h own = absurd h
-init_puts flows key m after change (Some (body_of.Init class first)) h own = first_puts flows key class m after.number after.state change.sent h own
-init_puts flows key m after change (Some body_of.Confirm) h own = absurd h
-init_puts flows key m after change (Some (body_of.Reject code)) h own = absurd h
-init_puts flows key m after change (Some (body_of.Data value)) h own = absurd h
-init_puts flows key m after change (Some (body_of.Error code)) h own = absurd h
-init_puts flows key m after change (Some body_of.End) h own = absurd h
+init_puts : {F : Type 0} (flows : List (FlowState F)) (key : Key) (m : ℕ) (after : FlowAfter F) (change : SessionChange) (led : LedgerChange) (o : Option Body) → AcceptsInit (length flows) key (effect_by (Some after) change led) o → IsOwn after → Puts flows m after.number after.state
+init_puts flows key m after change led None h own = absurd h
+init_puts flows key m after change led (Some (body_of.Init class first)) h own = first_puts flows key class m after.number after.state change.sent h own
+init_puts flows key m after change led (Some body_of.Confirm) h own = absurd h
+init_puts flows key m after change led (Some (body_of.Reject code)) h own = absurd h
+init_puts flows key m after change led (Some (body_of.Data value)) h own = absurd h
+init_puts flows key m after change led (Some (body_of.Error code)) h own = absurd h
+init_puts flows key m after change led (Some body_of.End) h own = absurd h
 
-goes_puts : {F : Type 0} (flows : List (FlowState F)) (ss : List Session) (stamp moment f m : ℕ) (after : FlowAfter F) (change : SessionChange) → GoesOn (lone flows ss stamp moment) f (effect_by (Some after) change) → IsOwn after → AllByRecursion (λ flow. steps_of flow ≤ m) flows → Puts flows m after.number after.state
-goes_puts flows ss stamp moment f m after change h own all =
+goes_puts : {F : Type 0} (l : LedgerState) (flows : List (FlowState F)) (ss : List Session) (stamp moment f m : ℕ) (after : FlowAfter F) (change : SessionChange) (led : LedgerChange) → GoesOn (state_with l flows ss stamp moment) f (effect_by (Some after) change led) → IsOwn after → AllByRecursion (λ flow. steps_of flow ≤ m) flows → Puts flows m after.number after.state
+goes_puts l flows ss stamp moment f m after change led h own all =
     let p = next_is f h.at.step h.at.class after.number after.state h.next own in
     let q = live_get flows f m (slice_get flows f) h.at refl h.live all in
     record { within = omega (arith, p.0, q.0); steps = omega (arith, p.1, q.1) }
 
-event_puts : {F : Type 0} (w : Environment F) (me : ℕ) (flows : List (FlowState F)) (ss : List Session) (stamp moment m : ℕ) (event : Event) (after : FlowAfter F) (change : SessionChange) → FitsEvent w me (lone flows ss stamp moment) event (effect_by (Some after) change) → IsOwn after → AllByRecursion (λ flow. steps_of flow ≤ m) flows
+event_puts : {F : Type 0} (w : Environment F) (me : ℕ) (l : LedgerState) (flows : List (FlowState F)) (ss : List Session) (stamp moment m : ℕ) (event : Event) (after : FlowAfter F) (change : SessionChange) (led : LedgerChange) → FitsEvent w me (state_with l flows ss stamp moment) event (effect_by (Some after) change led) → IsOwn after → AllByRecursion (λ flow. steps_of flow ≤ m) flows
     → Puts flows m after.number after.state
-event_puts w me flows ss stamp moment m (event.Start f class args) after change h own all = new_puts flows f class m after.number after.state h.0 h.1 own
-event_puts w me flows ss stamp moment m (event.Answer key) after change h own all = init_puts flows key m after change change.came h.1 own
-event_puts {F} w me flows ss stamp moment m (event.Arrive key direction number) after change h own all = absurd (no_part after.number after.state (ap (λ (e : Effect F). e.flow) h.alone))
-event_puts w me flows ss stamp moment m (event.Move f) after change h own all = goes_puts flows ss stamp moment f m after change h own all
-event_puts w me flows ss stamp moment m (event.Lapse f) after change h own all = goes_puts flows ss stamp moment f m after change h own all
+event_puts w me l flows ss stamp moment m (event.Start f class args) after change led h own all = new_puts flows f class m after.number after.state h.0 h.1 own
+event_puts w me l flows ss stamp moment m (event.Answer key) after change led h own all = init_puts flows key m after change led change.came h.1 own
+event_puts {F} w me l flows ss stamp moment m (event.Arrive key direction number) after change led h own all = absurd (no_part after.number after.state (ap (λ (e : Effect F). e.flow) h.alone))
+event_puts w me l flows ss stamp moment m (event.Move f) after change led h own all = goes_puts l flows ss stamp moment f m after change led h own all
+event_puts w me l flows ss stamp moment m (event.Lapse f) after change led h own all = goes_puts l flows ss stamp moment f m after change led h own all
 
 put_numbered : {F : Type 0} (flows : List (FlowState F)) (n : ℕ) (flow : FlowState F) (b : Bool) → nat_lt n (length flows) ≡ b → n ≤ length flows → IsNumbered n flow → AreNumbered 0 flows → AreNumbered 0 (with_flow n flow flows)
 put_numbered flows n flow true is h own all = let below = ltb-true n (length flows) is in subst (AreNumbered 0) (set_parts flows n flow below) (numbered_set 0 n flows flow all (subst (λ k. IsNumbered k flow) (omega arith) own))
@@ -197,12 +193,12 @@ record Flowing {F : Type 0} (is_frame : F → Type 0) (flows : List (FlowState F
   more : length flows ≤ length (flows_after flow flows)
   below : IfSome (flow_of (part_after flow)) (λ f. f < length (flows_after flow flows))
 
-flowing : {F : Type 0} (w : Environment F) (me : ℕ) (is_frame : F → Type 0) (flows : List (FlowState F)) (ss : List Session) (stamp moment m : ℕ) (event : Event) (flow : Option (FlowAfter F)) (change : SessionChange) → FitsEvent w me (lone flows ss stamp moment) event (effect_by flow change)
+flowing : {F : Type 0} (w : Environment F) (me : ℕ) (is_frame : F → Type 0) (l : LedgerState) (flows : List (FlowState F)) (ss : List Session) (stamp moment m : ℕ) (event : Event) (flow : Option (FlowAfter F)) (change : SessionChange) (led : LedgerChange) → FitsEvent w me (state_with l flows ss stamp moment) event (effect_by flow change led)
     → IfSome flow (IsAfter is_frame) → length flows ≤ m → AllByRecursion (λ x. steps_of x ≤ m) flows → AllByRecursion (IsFlow is_frame) flows → AreNumbered 0 flows → Flowing is_frame flows m flow
-flowing w me is_frame flows ss stamp moment m event None change h after held steps limits numbered =
+flowing w me is_frame l flows ss stamp moment m event None change led h after held steps limits numbered =
     record { on = refl; held = omega (arith, held); steps = all_weaken (λ x. steps_of x ≤ m) (λ x. steps_of x ≤ m + 1) flows (λ x k. omega arith) steps; limits = limits; numbered = numbered; more = omega arith; below = tt }
-flowing w me is_frame flows ss stamp moment m event (Some after) change h own held steps limits numbered =
-    let puts = event_puts w me flows ss stamp moment m event after change h own.1 steps in
+flowing w me is_frame l flows ss stamp moment m event (Some after) change led h own held steps limits numbered =
+    let puts = event_puts w me l flows ss stamp moment m event after change led h own.1 steps in
     let place = place_in flows after.number after.state puts.within in
     let more : AllByRecursion (λ x. steps_of x ≤ m + 1) flows = all_weaken (λ x. steps_of x ≤ m) (λ x. steps_of x ≤ m + 1) flows (λ x k. omega arith) steps in
     record {
@@ -231,55 +227,63 @@ if_some P (Some x) f = f x refl
 pub no_machine : {F : Type 0} → Machine F
 no_machine = record { worded = λ name words. Err word.UnknownClass; made = λ class args at. Err make.UnknownClass; begun = λ class key at. None; next = λ frame with at. (frame, act.Fail 0); content = λ frame. []; weight = λ frame. 0; over = λ frame. false; tags = λ frame. []; load = λ class. 0 }
 
-abbrev pub some_world : {F : Type 0} → ℕ → Environment F
-some_world nodes = environment no_machine (λ bytes. Err 0) (record { party = party 0; nodes = nodes; notary = party 0 })
+abbrev pub some_world : {F : Type 0} → Party → ℕ → Environment F
+some_world notary nodes = environment no_machine (λ bytes. Err 0) (record { party = party 0; nodes = nodes; notary = notary })
 
 pub own_of : {F : Type 0} (is_frame : F → Type 0) (flow : Option (FlowAfter F)) → IfSome flow (IsAfter is_frame) → IfSome flow IsOwn
 own_of is_frame None h = tt
 own_of is_frame (Some after) h = h.1
 
-module _ {F : Type 0} (nodes : ℕ) (me : Party) (f : Reads F) (is_frame : F → Type 0) (bodies : List (List ℕ)) (causes : List Cause) (flows : List (FlowState F)) (ss : List Session) (stamp moment : ℕ) (step : Step F) (kept : Keeps me f is_frame bodies causes flows ss stamp moment)
-    (fit : fits nodes me (state_of f bodies) (step_record step) ≡ true) (limits : IsStep is_frame step) where
-  here : fits nodes me (lone flows ss stamp moment) (step_record step) ≡ true
-  here = subst (λ (s : NodeState F). fits nodes me s (step_record step) ≡ true) kept.state fit
+recorded_more : (stored : List SignedTx) (recorded : Option SignedTx) → length (stored ++ option_to_list recorded) ≤ length stored + 1
+recorded_more stored None = let e = length-append stored [] in omega (arith, e)
+recorded_more stored (Some stx) = let e = length-append stored (stx ∷ []) in omega (arith, e)
 
-  ruled : Fits (some_world nodes) me.0 (lone flows ss stamp moment) step.cause (effect_by step.flow step.session)
-  ruled = fits_to (some_world nodes) me.0 (lone flows ss stamp moment) step.cause (effect_by step.flow step.session) here
+module _ {F : Type 0} (notary : Party) (nodes : ℕ) (me : Party) (f : Reads F) (is_frame : F → Type 0) (bodies : List (List ℕ)) (causes : List Cause) (l : LedgerState) (flows : List (FlowState F)) (ss : List Session) (stamp moment : ℕ) (step : Step F) (kept : Keeps me f is_frame bodies causes l flows ss stamp moment)
+    (fit : fits notary nodes me (state_of f bodies) (step_record step) ≡ true) (limits : IsStep is_frame step) where
+  here : fits notary nodes me (state_with l flows ss stamp moment) (step_record step) ≡ true
+  here = subst (λ (s : NodeState F). fits notary nodes me s (step_record step) ≡ true) kept.state fit
+
+  ruled : Fits (some_world notary nodes) me.0 (state_with l flows ss stamp moment) step.cause (effect_by step.flow step.session step.ledger)
+  ruled = fits_to (some_world notary nodes) me.0 (state_with l flows ss stamp moment) step.cause (effect_by step.flow step.session step.ledger) here
 
   owned : (n : ℕ) → flow_of (part_after step.flow) ≡ Some n → step.session.owner ≡ n
   owned n is = limits.2.1.0 ∙ owner_is step.flow n (own_of is_frame step.flow limits.1) is
 
   flows_go : Flowing is_frame flows (length bodies) step.flow
-  flows_go = flowing (some_world nodes) me.0 is_frame flows ss stamp moment (length bodies) step.cause.event step.flow step.session ruled.event limits.1 kept.held kept.steps kept.limits kept.numbered
+  flows_go = flowing (some_world notary nodes) me.0 is_frame l flows ss stamp moment (length bodies) step.cause.event step.flow step.session step.ledger ruled.event limits.1 kept.held kept.steps kept.limits kept.numbered
 
-  after_is : changed_by step.cause.stamp step.session ss ≡ sessions_on step.cause (effect_by step.flow step.session) ss
-  after_is = sessions_same (some_world nodes) me.0 (255 * length bodies) (length bodies) (lone flows ss stamp moment) step.flow step.session kept.small owned step.cause limits.2.1.1 ruled.event ruled.change.opened
+  after_is : changed_by step.cause.stamp step.session ss ≡ sessions_on step.cause (effect_by step.flow step.session step.ledger) ss
+  after_is = sessions_same (some_world notary nodes) me.0 (255 * length bodies) (length bodies) (state_with l flows ss stamp moment) step.flow step.session step.ledger kept.small owned step.cause limits.2.1.1 ruled.event ruled.change.opened
 
-  state_is : apply_effect (lone flows ss stamp moment) step.cause (effect_by step.flow step.session) ≡ lone (flows_after step.flow flows) (changed_by step.cause.stamp step.session ss) step.cause.stamp step.cause.moment.0
-  state_is = applied flows ss stamp moment step.cause step.flow step.session ∙ ap (λ (l : List (FlowState F)). lone l (sessions_on step.cause (effect_by step.flow step.session) ss) step.cause.stamp step.cause.moment.0) flows_go.on ∙ ap (λ (l : List Session). lone (flows_after step.flow flows) l step.cause.stamp step.cause.moment.0) (sym after_is)
+  -- the ledger afterwards
+  abbrev pub ledger_is : LedgerState
+  ledger_is = ledger_after (part_after step.flow) step.ledger l
+
+  state_is : apply_effect (state_with l flows ss stamp moment) step.cause (effect_by step.flow step.session step.ledger) ≡ state_with ledger_is (flows_after step.flow flows) (changed_by step.cause.stamp step.session ss) step.cause.stamp step.cause.moment.0
+  state_is = applied l flows ss stamp moment step.cause step.flow step.session step.ledger ∙ ap (λ (x : List (FlowState F)). state_with ledger_is x (sessions_on step.cause (effect_by step.flow step.session step.ledger) ss) step.cause.stamp step.cause.moment.0) flows_go.on ∙ ap (λ (x : List Session). state_with ledger_is (flows_after step.flow flows) x step.cause.stamp step.cause.moment.0) (sym after_is)
 
   small_after : AllByRecursion (IsSmall me (255 * length bodies + 255) (length bodies + 1)) (changed_by step.cause.stamp step.session ss)
   small_after =
-      subst (λ (l : List Session). AllByRecursion (IsSmall me (255 * length bodies + 255) (length bodies + 1)) l) (sym after_is)
-      (record_small (some_world nodes) me.0 (lone flows ss stamp moment) step.cause (effect_by step.flow step.session) (255 * length bodies) (length bodies) ruled limits.2.0.1.0.0 kept.small)
+      subst (λ (x : List Session). AllByRecursion (IsSmall me (255 * length bodies + 255) (length bodies + 1)) x) (sym after_is)
+      (record_small (some_world notary nodes) me.0 (state_with l flows ss stamp moment) step.cause (effect_by step.flow step.session step.ledger) (255 * length bodies) (length bodies) ruled limits.2.0.1.0.0 kept.small)
 
   lawful_after : AreLawful me (changed_by step.cause.stamp step.session ss)
   lawful_after =
       subst (λ (l : List Session). AreLawful me l) (sym after_is)
-      (record_lawful (some_world nodes) me.0 (lone flows ss stamp moment) step.cause (effect_by step.flow step.session) kept.sound limits.0.1.1 limits.2.0.0 limits.2.0.1.0.1 ruled kept.lawful)
+      (record_lawful (some_world notary nodes) me.0 (state_with l flows ss stamp moment) step.cause (effect_by step.flow step.session step.ledger) kept.sound limits.0.1.1 limits.2.0.0 limits.2.0.1.0.1 ruled kept.lawful)
 
   owned_after : AreOwned (length (flows_after step.flow flows)) (changed_by step.cause.stamp step.session ss)
   owned_after =
       subst (λ (l : List Session). AreOwned (length (flows_after step.flow flows)) l) (sym after_is)
-      (record_owned (some_world nodes) me.0 (lone flows ss stamp moment) step.cause (effect_by step.flow step.session) (length (flows_after step.flow flows)) limits.0.1.1 limits.2.0.0 ruled flows_go.more flows_go.below kept.owned)
+      (record_owned (some_world notary nodes) me.0 (state_with l flows ss stamp moment) step.cause (effect_by step.flow step.session step.ledger) (length (flows_after step.flow flows)) limits.0.1.1 limits.2.0.0 ruled flows_go.more flows_go.below kept.owned)
 
   arrived_after : AllByRecursion IsHeld (changed_by step.cause.stamp step.session ss)
   arrived_after =
-      subst (λ (l : List Session). AllByRecursion IsHeld l) (sym after_is)
-      (record_held step.cause (effect_by step.flow step.session) ss limits.2.0.1.1.0 kept.arrived)
+      subst (λ (x : List Session). AllByRecursion IsHeld x) (sym after_is)
+      (record_held step.cause (effect_by step.flow step.session step.ledger) ss limits.2.0.1.1.0 kept.arrived)
 
   -- the tables keep what they keep
-  pub kept_add : (body : List ℕ) → length bodies < 65536 → record_of f body ≡ Some (step_record step) → Keeps me f is_frame (bodies ++ body ∷ []) (causes ++ step.cause ∷ []) (flows_after step.flow flows) (changed_by step.cause.stamp step.session ss) step.cause.stamp step.cause.moment.0
+  pub kept_add : (body : List ℕ) → length bodies < 65536 → record_of f body ≡ Some (step_record step) → Keeps me f is_frame (bodies ++ body ∷ []) (causes ++ step.cause ∷ []) ledger_is (flows_after step.flow flows) (changed_by step.cause.stamp step.session ss) step.cause.stamp step.cause.moment.0
   kept_add body room reads =
       let longer : length (bodies ++ body ∷ []) ≡ length bodies + 1 = length-append bodies (body ∷ []) in
       let sent_bound : 255 * length bodies + 255 ≡ 255 * length (bodies ++ body ∷ []) = omega (arith, longer) in
@@ -287,10 +291,11 @@ module _ {F : Type 0} (nodes : ℕ) (me : Party) (f : Reads F) (is_frame : F →
       let go = flows_go in
       let held = go.held in
       let made = kept.made in
-      let count = record_count step.cause (effect_by step.flow step.session) ss in
+      let count = record_count step.cause (effect_by step.flow step.session step.ledger) ss in
       let size = ap length after_is in
       record {
-        state = state_push f bodies body ∙ ap (λ (o : Option (Record F)). apply_read (state_of f bodies) o) reads ∙ ap (λ (s : NodeState F). apply_effect s step.cause (effect_by step.flow step.session)) kept.state ∙ state_is;
+        state = state_push f bodies body ∙ ap (λ (o : Option (Record F)). apply_read (state_of f bodies) o) reads ∙ ap (λ (s : NodeState F). apply_effect s step.cause (effect_by step.flow step.session step.ledger)) kept.state ∙ state_is;
+        recorded = omega (arith, longer, kept.recorded, recorded_more l.stored step.ledger.recorded);
         told = ap (λ (l : List Cause). l ++ step.cause ∷ []) kept.told ∙ sym (causes_push f bodies body (step_record step) reads);
         few = omega (arith, longer, room);
         held = omega (arith, longer, held);
@@ -300,11 +305,23 @@ module _ {F : Type 0} (nodes : ℕ) (me : Party) (f : Reads F) (is_frame : F →
         late = ruled.bounded;
         made = omega (arith, longer, made, count, size);
         small = subst (λ k. AllByRecursion (IsSmall me k (length (bodies ++ body ∷ []))) (changed_by step.cause.stamp step.session ss)) sent_bound (subst (λ k. AllByRecursion (IsSmall me (255 * length bodies + 255) k) (changed_by step.cause.stamp step.session ss)) came_bound small_after);
-        sound = subst (λ (s : NodeState F). IsSound me.0 s) state_is (fits_keep_sound (some_world nodes) me.0 (lone flows ss stamp moment) step.cause (effect_by step.flow step.session) kept.sound ruled);
+        sound = subst (λ (s : NodeState F). IsSound me.0 s) state_is (fits_keep_sound (some_world notary nodes) me.0 (state_with l flows ss stamp moment) step.cause (effect_by step.flow step.session step.ledger) kept.sound ruled);
         lawful = lawful_after;
         owned = owned_after;
         arrived = arrived_after;
       }
+
+  -- the ledger of the state afterwards
+  pub ledger_next : (body : List ℕ) → length bodies < 65536 → record_of f body ≡ Some (step_record step) → ledger_in (state_of f (bodies ++ body ∷ [])) ≡ ledger_is
+  ledger_next body room reads = ap (λ (s : NodeState F). ledger_in s) (kept_add body room reads).state
+
+  -- the same, by the ledger of the state that the bodies make
+  pub kept_next : (body : List ℕ) → length bodies < 65536 → record_of f body ≡ Some (step_record step) → Keeps me f is_frame (bodies ++ body ∷ []) (causes ++ step.cause ∷ []) (ledger_in (state_of f (bodies ++ body ∷ []))) (flows_after step.flow flows) (changed_by step.cause.stamp step.session ss) step.cause.stamp step.cause.moment.0
+  kept_next body room reads = subst (λ (x : LedgerState). Keeps me f is_frame (bodies ++ body ∷ []) (causes ++ step.cause ∷ []) x (flows_after step.flow flows) (changed_by step.cause.stamp step.session ss) step.cause.stamp step.cause.moment.0) (sym (ledger_next body room reads)) (kept_add body room reads)
+
+  -- the ledger's part fits
+  pub ledger_fits : fits_ledger notary me (state_with l flows ss stamp moment) (whole_part step.session step.ledger) ≡ true
+  ledger_fits = (parts_of notary nodes me (state_with l flows ss stamp moment) step.cause (effect_by step.flow step.session step.ledger) here).ledger
 
   -- of the new sessions nothing is acknowledged
   pub acked_add : (body : List ℕ) → length bodies < 65536 → record_of f body ≡ Some (step_record step) → (acked : List ℕ) → length acked ≡ length ss → acks_after step.session acked ≡ padded acked (state_of f (bodies ++ body ∷ [])).sessions
@@ -313,7 +330,7 @@ module _ {F : Type 0} (nodes : ℕ) (me : Party) (f : Reads F) (is_frame : F →
   -- what is asked of the sessions holds
   pub change_fits_here : IsFitting me step.cause.stamp ss step.session
   change_fits_here =
-      change_fits (some_world nodes) me.0 (255 * length bodies) (length bodies) (lone flows ss stamp moment) step.flow step.session kept.small owned step.cause limits.2.1.1 ruled.event ruled.change.opened step.cause.stamp ruled.change.sent ruled.change.taken
+      change_fits (some_world notary nodes) me.0 (255 * length bodies) (length bodies) (state_with l flows ss stamp moment) step.flow step.session step.ledger kept.small owned step.cause limits.2.1.1 ruled.event ruled.change.opened step.cause.stamp ruled.change.sent ruled.change.taken
 
   pub few_sessions : length ss + 2 < 2 ^ 32
   few_sessions = let made = kept.made in let few = kept.few in omega (arith, made, few)
@@ -325,20 +342,20 @@ module _ {F : Type 0} (nodes : ℕ) (me : Party) (f : Reads F) (is_frame : F →
   few_sent =
       let few = kept.few in
       let short : length step.session.sent ≤ 255 = limits.2.0.1.0.0 in
-      let begun = begun_small (some_world nodes) me.0 (lone flows ss stamp moment) step.cause (effect_by step.flow step.session) (255 * length bodies) (length bodies) ruled.event ruled.change.opened kept.small in
-      few_numbers me step.cause.stamp (255 * length bodies) (length bodies + 1) step.session.sent (begun_by step.cause (effect_by step.flow step.session) ss) ruled.change.sent begun (omega (arith, few, short))
+      let begun = begun_small (some_world notary nodes) me.0 (state_with l flows ss stamp moment) step.cause (effect_by step.flow step.session step.ledger) (255 * length bodies) (length bodies) ruled.event ruled.change.opened kept.small in
+      few_numbers me step.cause.stamp (255 * length bodies) (length bodies + 1) step.session.sent (begun_by step.cause (effect_by step.flow step.session step.ledger) ss) ruled.change.sent begun (omega (arith, few, short))
 
   -- the place at which the flow is put
   place_within : (after : FlowAfter F) → step.flow ≡ Some after → (after.number ≤ length flows) × IsOwn after
   place_within after is =
-      let event = subst (λ (o : Option (FlowAfter F)). FitsEvent (some_world nodes) me.0 (lone flows ss stamp moment) step.cause.event (effect_by o step.session)) is ruled.event in
+      let event = subst (λ (o : Option (FlowAfter F)). FitsEvent (some_world notary nodes) me.0 (state_with l flows ss stamp moment) step.cause.event (effect_by o step.session step.ledger)) is ruled.event in
       let own : IsAfter is_frame after = subst (λ (o : Option (FlowAfter F)). IfSome o (IsAfter is_frame)) is limits.1 in
-      ((event_puts (some_world nodes) me.0 flows ss stamp moment (length bodies) step.cause.event after step.session event own.1 kept.steps).within, own.1)
+      ((event_puts (some_world notary nodes) me.0 l flows ss stamp moment (length bodies) step.cause.event after step.session step.ledger event own.1 kept.steps).within, own.1)
 
   pub place_there : IfSome step.flow (λ after. (after.number ≤ length flows) × IsTabled after.number after.state)
   place_there = if_some (λ after. (after.number ≤ length flows) × IsTabled after.number after.state) step.flow (λ after is. let p = place_within after is in (p.0, tabled after.number after.state p.1))
 
 -- nothing has happened yet
-pub kept_none : {F : Type 0} (me : Party) (f : Reads F) (is_frame : F → Type 0) → me.0 < 16 → Keeps me f is_frame [] [] [] [] 0 0
+pub kept_none : {F : Type 0} (me : Party) (f : Reads F) (is_frame : F → Type 0) → me.0 < 16 → Keeps me f is_frame [] [] (ledger_in (state_of f [])) [] [] 0 0
 unfolding state_of causes_of replay
-kept_none me f is_frame node = record { state = refl; told = refl; few = omega arith; held = omega arith; steps = tt; limits = tt; numbered = tt; late = omega arith; made = omega arith; small = tt; sound = fresh_is_sound me.0; lawful = record { node = node; each = tt }; owned = record { keys = tt; owners = tt; few = λ f. omega arith }; arrived = tt }
+kept_none me f is_frame node = record { state = refl; recorded = omega arith; told = refl; few = omega arith; held = omega arith; steps = tt; limits = tt; numbered = tt; late = omega arith; made = omega arith; small = tt; sound = fresh_is_sound me.0; lawful = record { node = node; each = tt }; owned = record { keys = tt; owners = tt; few = λ f. omega arith }; arrived = tt }

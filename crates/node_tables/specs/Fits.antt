@@ -1,6 +1,6 @@
--- Which records a node takes at a boot: those that change nothing of the ledger, and fit after the records before them.
-use Rattle.std.specs.Prelude.{◌≡◌, ℕ, ◌+◌, ◌^◌, ◌==◌, ◌&&◌, nat_lt, nat_le, not, Bool, true, false, List, [], ◌∷◌, Option, Some, None, is_none, if◌then◌else◌, length, option_to_list, ◌↔◌}
-use Rattle.std.specs.List.{list_any}
+-- Which records a node takes at a boot: those that fit after the records before them.
+use Rattle.std.specs.Prelude.{◌≡◌, ℕ, ◌+◌, ◌^◌, ◌==◌, ◌&&◌, nat_lt, nat_le, not, Bool, true, false, List, [], ◌∷◌, ◌++◌, Option, Some, None, is_none, if◌then◌else◌, length, option_to_list, ◌↔◌}
+use Rattle.std.specs.List.{list_any, list_all}
 use Rattle.net_base.specs.declared.names.Key.{Key}
 use Rattle.net_base.specs.declared.values.Party.{Party}
 use Rattle.net_base.specs.declared.causes.Cause.{Cause}
@@ -12,8 +12,12 @@ use Rattle.session_wire.specs.declared.change.SentItem.{SentItem}
 use Rattle.session_wire.specs.Sessions.{Session, key_eq, session_of, changed_at, with_sent, opened_on}
 use Rattle.session_wire.specs.Rules.{direction_in, direction_out, next_key, is_new_key, is_lawful, is_init_of, sessions_of}
 use Rattle.flow_machine.specs.declared.flows.Checkpoint.{Checkpoint}
+use Rattle.ledger_types.specs.Names.{ref_eq, has_repeat}
+use Rattle.ledger_types.specs.Stores.{may_record, untagged}
+use Rattle.ledger_types.specs.Vaults.{vault_of, has_coin}
+use Rattle.ledger_tables.specs.Ledgers.{may_book}
 use Rattle.net_model.specs.Environment.{Environment, party}
-use Rattle.net_model.specs.State.{NodeState, FlowPart, no_flow, now_live, now_ended, now_failed, Change, Effect, Record, came_on, flow_of, apply_effect, fresh}
+use Rattle.net_model.specs.State.{NodeState, FlowPart, no_flow, now_live, now_ended, now_failed, Change, Effect, Record, with_ids, came_on, flow_of, apply_effect, fresh}
 use Rattle.net_model.specs.Steps.{live_at}
 use Rattle.net_model.specs.Fits.{Fits}
 use Rattle.flow_records.specs.Records.{record_of}
@@ -74,9 +78,9 @@ abbrev pub is_lawful_item : ℕ → ℕ → Option Body → Bool
 is_lawful_item direction number None = false
 is_lawful_item direction number (Some body) = is_lawful direction number body
 
--- whether no flow changes, no session is opened, and nothing is sent or taken
+-- whether no flow changes, no session is opened, and nothing is sent, taken, recorded, locked or booked
 abbrev pub only_accepts : {F : Type 0} → Effect F → Bool
-only_accepts e = is_no_flow e.flow && (is_none e.change.opened && ((length e.change.sent == 0) && is_none e.change.taken))
+only_accepts e = is_no_flow e.flow && (is_none e.change.opened && ((length e.change.sent == 0) && (is_none e.change.taken && leaves_ledger e.change)))
 
 -- whether the item comes next in the session, if it stands, and nothing else happens
 abbrev pub arrives_in : {F : Type 0} → Party → Key → ℕ → ℕ → Effect F → Option Session → Bool
@@ -147,16 +151,25 @@ fits_sessions nodes me earlier later stamp owner change = fits_opened nodes me e
 abbrev pub begun_by : {F : Type 0} → Cause → Effect F → List Session → List Session
 begun_by cause e sessions = opened_on e.change.opened (flow_of e.flow) (came_on cause.event (option_to_list e.change.came) (flow_of e.flow) sessions)
 
+-- ---- the ledger
+
+-- whether what is recorded, locked and booked fits, at a party whose network has this notary
+abbrev pub fits_ledger : {F : Type 0} → Party → Party → NodeState F → Change → Bool
+fits_ledger notary me s c =
+    may_record (with_ids s.stored) c.recorded
+    && ((list_all (has_coin (vault_of me (untagged (with_ids (s.stored ++ option_to_list c.recorded))) s.locked)) c.locked && not (has_repeat ref_eq c.locked))
+    && may_book me notary s.entries c.booked)
+
 -- ---- records
 
--- whether a record changes nothing of the ledger, and fits after a state of the party in a network of so many nodes
-unfoldable pub fits : {F : Type 0} → ℕ → Party → NodeState F → Record F → Bool
-fits nodes me s r = leaves_ledger r.effect.change && (rises s r.cause && (fits_event nodes me s r.cause.event r.effect && fits_sessions nodes me s.sessions (begun_by r.cause r.effect s.sessions) r.cause.stamp (flow_of r.effect.flow) r.effect.change))
+-- whether a record fits after a state of the party in a network of so many nodes with this notary
+unfoldable pub fits : {F : Type 0} → Party → ℕ → Party → NodeState F → Record F → Bool
+fits notary nodes me s r = rises s r.cause && (fits_event nodes me s r.cause.event r.effect && (fits_sessions nodes me s.sessions (begun_by r.cause r.effect s.sessions) r.cause.stamp (flow_of r.effect.flow) r.effect.change && fits_ledger notary me s r.effect.change))
 
 -- whether what was read is a record that fits
-abbrev pub fits_read : {F : Type 0} → ℕ → Party → NodeState F → Option (Record F) → Bool
-fits_read nodes me s None = false
-fits_read nodes me s (Some r) = fits nodes me s r
+abbrev pub fits_read : {F : Type 0} → Party → ℕ → Party → NodeState F → Option (Record F) → Bool
+fits_read notary nodes me s None = false
+fits_read notary nodes me s (Some r) = fits notary nodes me s r
 
 -- the state after what was read
 abbrev pub apply_read : {F : Type 0} → NodeState F → Option (Record F) → NodeState F
@@ -164,14 +177,14 @@ apply_read s None = s
 apply_read s (Some r) = apply_effect s r.cause r.effect
 
 -- the place of the first body after a state that is no record or doesn't fit; each stands with the place of its gate
-abbrev pub misfit_from : {F : Type 0} → Reads F → ℕ → Party → NodeState F → List (ℕ × List ℕ) → Option ℕ
-misfit_from frame_at nodes me s [] = None
-misfit_from frame_at nodes me s (x ∷ xs) = if fits_read nodes me s (record_of frame_at x.1) then misfit_from frame_at nodes me (apply_read s (record_of frame_at x.1)) xs else Some x.0
+abbrev pub misfit_from : {F : Type 0} → Reads F → Party → ℕ → Party → NodeState F → List (ℕ × List ℕ) → Option ℕ
+misfit_from frame_at notary nodes me s [] = None
+misfit_from frame_at notary nodes me s (x ∷ xs) = if fits_read notary nodes me s (record_of frame_at x.1) then misfit_from frame_at notary nodes me (apply_read s (record_of frame_at x.1)) xs else Some x.0
 
 -- the place of the first body of a journal that is no record or doesn't fit
-unfoldable pub misfit : {F : Type 0} → Reads F → ℕ → Party → List (ℕ × List ℕ) → Option ℕ
-misfit frame_at nodes me list = misfit_from frame_at nodes me fresh list
+unfoldable pub misfit : {F : Type 0} → Reads F → Party → ℕ → Party → List (ℕ × List ℕ) → Option ℕ
+misfit frame_at notary nodes me list = misfit_from frame_at notary nodes me fresh list
 
--- a record that leaves the ledger alone fits exactly where the machine's rules for records say so
+-- a record fits exactly where the machine's rules for records say so
 abbrev pub FitsAsRuled : (F : Type 0) → Type 0
-FitsAsRuled F = (w : Environment F) (me : ℕ) (s : NodeState F) (r : Record F) → leaves_ledger r.effect.change ≡ true → ((fits w.nodes (party me) s r ≡ true) ↔ Fits w me s r.cause r.effect)
+FitsAsRuled F = (w : Environment F) (me : ℕ) (s : NodeState F) (r : Record F) → (fits w.notary w.nodes (party me) s r ≡ true) ↔ Fits w me s r.cause r.effect

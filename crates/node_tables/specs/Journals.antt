@@ -5,6 +5,7 @@ use Rattle.session_wire.specs.Sessions.{Session}
 use Rattle.flow_machine.specs.declared.flows.FlowState.{FlowState}
 use Rattle.net_model.specs.State.{NodeState, Record, replay}
 use Rattle.flow_records.specs.Records.{record_of}
+use Rattle.node_ledger.specs.Ledgered.{LedgerState}
 
 -- how a frame is read from the front of bytes
 abbrev pub Reads : Type 0 → Type 0
@@ -23,9 +24,9 @@ state_of frame_at bodies = replay (records_of frame_at bodies)
 unfoldable pub causes_of : {F : Type 0} → Reads F → List (List ℕ) → List Cause
 causes_of frame_at bodies = map (λ r. r.cause) (records_of frame_at bodies)
 
--- the state of a node that has flows and sessions, and has recorded, locked and booked nothing
-abbrev pub lone : {F : Type 0} → List (FlowState F) → List Session → ℕ → ℕ → NodeState F
-lone flows sessions stamp moment = record { flows = flows; sessions = sessions; stored = []; locked = []; entries = []; stamp = stamp; moment = moment }
+-- the state of a node that has this ledger, these flows and sessions
+abbrev pub state_with : {F : Type 0} → LedgerState → List (FlowState F) → List Session → ℕ → ℕ → NodeState F
+state_with l flows sessions stamp moment = record { flows = flows; sessions = sessions; stored = l.stored; locked = l.locked; entries = l.entries; stamp = stamp; moment = moment }
 
 -- a list as contracts see it, with the room for more
 pub record Listed (T : Type 0) : Type 0 where

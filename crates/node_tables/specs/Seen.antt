@@ -12,13 +12,15 @@ use Rattle.checkpoints.specs.Tables.{with_flow}
 use Rattle.net_model.specs.State.{NodeState}
 use Rattle.net_model.specs.Fits.{IsSound}
 use Rattle.net_model.specs.Sound.{AreNumbered, steps_of}
+use Rattle.ledger_types.specs.declared.change.LedgerChange.{LedgerChange}
+use Rattle.node_ledger.specs.Ledgered.{LedgerState}
 use Rattle.flow_records.specs.declared.step.FlowAfter.{FlowAfter}
 use Rattle.flow_records.specs.declared.step.Step.{Step}
 use Rattle.flow_records.specs.Records.{record_of, IsFlow}
 use Rattle.flow_records.specs.Steps.{step_record, IsStep}
 use Rattle.node_tables.specs.declared.boot.RebuildFault.{RebuildFault}
 use Rattle.node_tables.specs.declared.boot.RebuildFault.TheVariants as rebuild_fault
-use Rattle.node_tables.specs.Journals.{Reads, state_of, causes_of, lone}
+use Rattle.node_tables.specs.Journals.{Reads, state_of, causes_of, state_with}
 use Rattle.node_tables.specs.Fits.{fits, fits_read, misfit}
 
 -- the flows once one of them is this afterwards
@@ -49,8 +51,9 @@ abbrev pub no_acks : List Session → List ℕ
 no_acks sessions = padded [] sessions
 
 -- what the tables of a node of the party keep: they are those of its bodies
-pub record Keeps {F : Type 0} (me : Party) (frame_at : Reads F) (is_frame : F → Type 0) (bodies : List (List ℕ)) (causes : List Cause) (flows : List (FlowState F)) (sessions : List Session) (stamp moment : ℕ) : Type 0 where
-  pub state : state_of frame_at bodies ≡ lone flows sessions stamp moment
+pub record Keeps {F : Type 0} (me : Party) (frame_at : Reads F) (is_frame : F → Type 0) (bodies : List (List ℕ)) (causes : List Cause) (l : LedgerState) (flows : List (FlowState F)) (sessions : List Session) (stamp moment : ℕ) : Type 0 where
+  pub state : state_of frame_at bodies ≡ state_with l flows sessions stamp moment
+  pub recorded : length l.stored ≤ length bodies
   pub told : causes ≡ causes_of frame_at bodies
   pub few : length bodies ≤ 65536
   pub held : length flows ≤ length bodies
@@ -60,36 +63,50 @@ pub record Keeps {F : Type 0} (me : Party) (frame_at : Reads F) (is_frame : F �
   pub late : stamp < 2 ^ 63
   pub made : length sessions ≤ 2 * length bodies
   pub small : AllByRecursion (IsSmall me (255 * length bodies) (length bodies)) sessions
-  pub sound : IsSound me.0 (lone flows sessions stamp moment)
+  pub sound : IsSound me.0 (state_with l flows sessions stamp moment)
   pub lawful : AreLawful me sessions
   pub owned : AreOwned (length flows) sessions
   pub arrived : AllByRecursion IsHeld sessions
+
+-- for how many more transactions, states and entries a ledger has room
+pub record Rooms : Type 0 where
+  pub store : ℕ
+  pub vault : ℕ
+  pub book : ℕ
 
 -- the tables as contracts see them
 pub record TablesSeen : Type 0 where
   -- the node's party, and how many nodes its network has
   pub party : Party
   pub nodes : ℕ
+  -- the network's notary
+  pub notary : Party
   -- the bodies of the records, of which all else is made but what is acknowledged
   pub bodies : List (List ℕ)
   -- how many of the items that the node sent are acknowledged, session by session
   pub acked : List ℕ
   -- for how many more sessions and items one more record has room
   pub room : ℕ
+  -- the same for what one more record changes of the ledger
+  pub rooms : Rooms
+
+-- room for what a change makes of a ledger
+abbrev pub HasRooms : LedgerChange → Rooms → Type 0
+HasRooms change rooms = IfSome change.recorded (λ stx. (0 < rooms.store) × (length stx.tx.outputs ≤ rooms.vault)) × IfSome change.booked (λ _. 0 < rooms.book)
 
 -- what a body is read as after a state: a record that fits, or none
-abbrev pub IsRead : {F : Type 0} → ℕ → Party → Reads F → (F → Type 0) → NodeState F → List ℕ → Option (Step F) → Type 0
-IsRead nodes me frame_at within s body None = fits_read nodes me s (record_of frame_at body) ≡ false
-IsRead nodes me frame_at within s body (Some step) = (record_of frame_at body ≡ Some (step_record step)) × (fits nodes me s (step_record step) ≡ true) × IsStep within step
+abbrev pub IsRead : {F : Type 0} → Party → ℕ → Party → Reads F → (F → Type 0) → NodeState F → List ℕ → Option (Step F) → Type 0
+IsRead notary nodes me frame_at within s body None = fits_read notary nodes me s (record_of frame_at body) ≡ false
+IsRead notary nodes me frame_at within s body (Some step) = (record_of frame_at body ≡ Some (step_record step)) × (fits notary nodes me s (step_record step) ≡ true) × IsStep within step
 
 -- what the taking of a body answers, whose gate is at a place
-abbrev pub TakesAs : {F : Type 0} → Reads F → ℕ → Party → List (List ℕ) → ℕ → List ℕ → {T : Type 0} → Result T RebuildFault → List (List ℕ) → Type 0
-TakesAs frame_at nodes me old at body (Ok _) new = (fits_read nodes me (state_of frame_at old) (record_of frame_at body) ≡ true) × (new ≡ old ++ body ∷ [])
-TakesAs frame_at nodes me old at body (Err (rebuild_fault.Damaged place)) new = (fits_read nodes me (state_of frame_at old) (record_of frame_at body) ≡ false) × (place ≡ at)
-TakesAs frame_at nodes me old at body (Err rebuild_fault.Memory) new = ⊤
+abbrev pub TakesAs : {F : Type 0} → Reads F → Party → ℕ → Party → List (List ℕ) → ℕ → List ℕ → {T : Type 0} → Result T RebuildFault → List (List ℕ) → Type 0
+TakesAs frame_at notary nodes me old at body (Ok _) new = (fits_read notary nodes me (state_of frame_at old) (record_of frame_at body) ≡ true) × (new ≡ old ++ body ∷ [])
+TakesAs frame_at notary nodes me old at body (Err (rebuild_fault.Damaged place)) new = (fits_read notary nodes me (state_of frame_at old) (record_of frame_at body) ≡ false) × (place ≡ at)
+TakesAs frame_at notary nodes me old at body (Err rebuild_fault.Memory) new = ⊤
 
 -- what a rebuilding of the tables answers
-abbrev pub RebuildsAs : {F : Type 0} → Reads F → ℕ → Party → List (ℕ × List ℕ) → Result TablesSeen RebuildFault → Type 0
-RebuildsAs frame_at nodes me list (Ok tables) = (tables.bodies ≡ map (λ x. x.1) list) × (tables.party ≡ me) × (tables.nodes ≡ nodes) × (misfit frame_at nodes me list ≡ None) × (tables.acked ≡ no_acks (state_of frame_at tables.bodies).sessions)
-RebuildsAs frame_at nodes me list (Err (rebuild_fault.Damaged at)) = misfit frame_at nodes me list ≡ Some at
-RebuildsAs frame_at nodes me list (Err rebuild_fault.Memory) = ⊤
+abbrev pub RebuildsAs : {F : Type 0} → Reads F → Party → ℕ → Party → List (ℕ × List ℕ) → Result TablesSeen RebuildFault → Type 0
+RebuildsAs frame_at notary nodes me list (Ok tables) = (tables.bodies ≡ map (λ x. x.1) list) × (tables.party ≡ me) × (tables.nodes ≡ nodes) × (tables.notary ≡ notary) × (misfit frame_at notary nodes me list ≡ None) × (tables.acked ≡ no_acks (state_of frame_at tables.bodies).sessions)
+RebuildsAs frame_at notary nodes me list (Err (rebuild_fault.Damaged at)) = misfit frame_at notary nodes me list ≡ Some at
+RebuildsAs frame_at notary nodes me list (Err rebuild_fault.Memory) = ⊤

@@ -33,14 +33,15 @@ fn take_step<F: Spelt + Drop>(
 ) -> Result<(), AllocError>
     requires few { length tables.old.bodies < 65536 }
     requires reads { record_of F.reading body ≡ Some (step_record step) }
-    requires fits { fits tables.old.nodes tables.old.party (state_of F.reading tables.old.bodies) (step_record step) ≡ true }
+    requires fits { fits tables.old.notary tables.old.nodes tables.old.party (state_of F.reading tables.old.bodies) (step_record step) ≡ true }
     requires limits { IsStep F.within step }
     ensures party { tables.new.party ≡ tables.old.party }
     ensures nodes { tables.new.nodes ≡ tables.old.nodes }
+    ensures notary { tables.new.notary ≡ tables.old.notary }
     ensures ok { OnOk result (tables.new.bodies ≡ tables.old.bodies ++ body ∷ []) }
     ensures acked { OnOk result (tables.new.acked ≡ padded tables.old.acked (state_of F.reading tables.new.bodies).sessions) }
 {
-    match tables.make_room(alloc, &step.session) {
+    match tables.make_room(alloc, &step.session, &step.ledger) {
         Ok(()) => {
             tables.add(body, step);
             Ok(())
@@ -62,7 +63,8 @@ fn take<F: Spelt + Drop>(
     requires { length tables.old.bodies < 65536 }
     ensures party { tables.new.party ≡ tables.old.party }
     ensures nodes { tables.new.nodes ≡ tables.old.nodes }
-    ensures takes { TakesAs F.reading tables.old.nodes tables.old.party tables.old.bodies at body result tables.new.bodies }
+    ensures notary { tables.new.notary ≡ tables.old.notary }
+    ensures takes { TakesAs F.reading tables.old.notary tables.old.nodes tables.old.party tables.old.bodies at body result tables.new.bodies }
     ensures acked { OnOk result (tables.new.acked ≡ padded tables.old.acked (state_of F.reading tables.new.bodies).sessions) }
 {
     match tables.read(alloc, body.as_slice()) {
@@ -85,14 +87,15 @@ pub fn rebuild<F: Spelt + Drop>(
     alloc: Global,
     party: Party,
     nodes: u8,
+    notary: Party,
     list: RecordList,
 ) -> Result<Tables<F>, RebuildFault>
     requires party { party.0 < 16 }
     requires nodes { nodes ≤ 16 }
     requires few { length list ≤ 65536 }
-    ensures { RebuildsAs F.reading nodes party list result }
+    ensures { RebuildsAs F.reading notary nodes party list result }
 {
-    let mut tables = Tables::new(alloc, party, nodes);
+    let mut tables = Tables::new(alloc, party, nodes, notary);
     for (at, body) in list.into_vec() {
         if let Err(why) = take(&mut tables, alloc, at, body) {
             return Err(why);

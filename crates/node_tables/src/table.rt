@@ -1,6 +1,6 @@
 //! The tables of a node.
 
-ghost use Rattle.std.specs.Prelude.{◌≡◌, ◌++◌, ◌∷◌, [], ◌<◌, ◌≤◌, ◌^◌, ◌+◌, ◌-◌, ◌&&◌, OnOk, IfOk, IfSome, length, nat_lt, nat_le, Some, None, true, false, ℕ};
+ghost use Rattle.std.specs.Prelude.{◌≡◌, ◌++◌, ◌∷◌, [], ◌<◌, ◌≤◌, ◌^◌, ◌+◌, ◌-◌, ◌&&◌, ◌==◌, is_none, OnOk, IfOk, IfSome, length, nat_lt, nat_le, Some, None, true, false, ℕ};
 ghost use Rattle.std.specs.List.{AllByRecursion};
 ghost use Rattle.net_base.specs.Names.{IsKey};
 ghost use Rattle.checkpoints.specs.Tables.{IsNumbered};
@@ -14,10 +14,13 @@ ghost use Rattle.net_model.specs.Fits.{IsSound};
 ghost use Rattle.net_model.specs.Sound.{AreNumbered, steps_of};
 ghost use Rattle.flow_records.specs.declared.step.FlowAfter.{FlowAfter as After};
 ghost use Rattle.flow_records.specs.Records.{record_of, IsFlow};
-ghost use Rattle.flow_records.specs.Steps.{part_after, effect_by, step_record, IsStep};
-ghost use Rattle.node_tables.specs.Journals.{state_of, causes_of, lone};
-ghost use Rattle.node_tables.specs.Fits.{rises, is_no_flow, only_accepts, arrives_in, fits_event, may_open, made_by, begun_by, fits};
-ghost use Rattle.node_tables.specs.Seen.{flows_after, padded, IsRead};
+ghost use Rattle.flow_records.specs.Steps.{part_after, whole_part, effect_by, step_record, IsStep};
+ghost use Rattle.net_base.specs.declared.values.Party.{Party as OfParty};
+ghost use Rattle.ledger_tables.specs.Ledgers.{HasRecordRoom, HasEntryRoom};
+ghost use Rattle.node_ledger.specs.Ledgered.{LedgerState, ledger_in, HoldsLedger};
+ghost use Rattle.node_tables.specs.Journals.{state_of, causes_of};
+ghost use Rattle.node_tables.specs.Fits.{rises, is_no_flow, only_accepts, arrives_in, fits_event, may_open, made_by, begun_by, fits_ledger, fits};
+ghost use Rattle.node_tables.specs.Seen.{flows_after, padded, HasRooms, IsRead};
 
 use crate::fitting::{
     LAST_STAMP, accepts_init, goes_on, is_lawful_item, is_new_flow, is_no_flow, made_by, rises,
@@ -25,7 +28,10 @@ use crate::fitting::{
 use crate::roomy::Roomy;
 use checkpoints::Flows;
 use flow_records::{FlowAfter, Step, read_step};
+use ledger_tables::Tables as Ledger;
+use ledger_types::LedgerChange;
 use net_base::{ByteList, Cause, Event, Key, Moment, Party, Spelt};
+use node_ledger::{add as add_change, fits as fits_change, make_room as make_ledger_room, new_ledger};
 use session_table::Sessions;
 use session_wire::SessionChange;
 use std::alloc::{AllocError, Global};
@@ -37,10 +43,12 @@ use std::marker::Model;
 pub struct Tables<F: Spelt + Drop> {
     party: Party,
     nodes: u8,
+    notary: Party,
     bodies: Roomy<ByteList>,
     causes: Roomy<Cause>,
     flows: Flows<F>,
     sessions: Sessions,
+    ledger: Ledger,
     stamp: u64,
     moment: Moment,
 }
@@ -48,62 +56,91 @@ pub struct Tables<F: Spelt + Drop> {
 impl<F: Spelt + Drop> Model for Tables<F> {
     ghost use Rattle.std.specs.Prelude.{◌≡◌, ◌≤◌, ◌&&◌, nat_lt, length, if◌then◌else◌};
     ghost use Rattle.node_tables.specs.Seen.{TablesSeen, Keeps};
+    ghost use Rattle.node_tables.specs.Journals.{state_of};
+    ghost use Rattle.node_ledger.specs.Ledgered.{ledger_in, HoldsLedger};
 
     ghost Value = { TablesSeen };
 
-    ghost view = { λ t. record { party = t.party; nodes = t.nodes; bodies = t.bodies.items; acked = t.sessions.acked; room = if nat_lt 0 t.bodies.room && (nat_lt 0 t.causes.room && nat_lt 0 t.flows.room) then t.sessions.room else 0 } };
+    ghost view = { λ t. record { party = t.party; nodes = t.nodes; notary = t.notary; rooms = record { store = t.ledger.store.room; vault = t.ledger.vault.room; book = t.ledger.book.room }; bodies = t.bodies.items; acked = t.sessions.acked; room = if nat_lt 0 t.bodies.room && (nat_lt 0 t.causes.room && nat_lt 0 t.flows.room) then t.sessions.room else 0 } };
 
-    ghost invariant = { λ t. (t.sessions.party ≡ t.party) × Keeps t.party F.reading F.within t.bodies.items t.causes.items t.flows.flows t.sessions.list t.stamp t.moment.0 × (t.nodes ≤ 16) × (length t.sessions.acked ≡ length t.sessions.list) };
+    ghost invariant = { λ t. (t.sessions.party ≡ t.party) × Keeps t.party F.reading F.within t.bodies.items t.causes.items (ledger_in (state_of F.reading t.bodies.items)) t.flows.flows t.sessions.list t.stamp t.moment.0 × (t.nodes ≤ 16) × (length t.sessions.acked ≡ length t.sessions.list) × HoldsLedger t.party (ledger_in (state_of F.reading t.bodies.items)) t.ledger };
 }
 
 impl<F: Spelt + Drop> Tables<F> {
     /// The tables of a node to which nothing has happened. A network has 16 nodes at most. Takes no memory.
-    pub fn new(alloc: Global, party: Party, nodes: u8) -> Tables<F>
+    pub fn new(alloc: Global, party: Party, nodes: u8, notary: Party) -> Tables<F>
         requires party { party.0 < 16 }
         requires nodes { nodes ≤ 16 }
         ensures party { result.party ≡ party }
         ensures nodes { result.nodes ≡ nodes }
+        ensures notary { result.notary ≡ notary }
         ensures bodies { result.bodies ≡ [] }
         ensures acked { result.acked ≡ [] }
     {
         Tables {
             party,
             nodes,
+            notary,
             bodies: Roomy::new(alloc),
             causes: Roomy::new(alloc),
             flows: Flows::new(alloc),
             sessions: Sessions::new(alloc, party),
+            ledger: new_ledger(alloc, party),
             stamp: 0,
             moment: Moment(0),
         }
     }
 
-    /// Makes room for one more record, which changes this of the sessions. Want of memory leaves the tables as they were.
-    pub fn make_room(&mut self, alloc: Global, change: &SessionChange) -> Result<(), AllocError>
+    /// Makes room for one more record, which changes this of the sessions and this of the ledger. Want of memory leaves the tables as
+    /// they were.
+    pub fn make_room(
+        &mut self,
+        alloc: Global,
+        change: &SessionChange,
+        ledger: &LedgerChange,
+    ) -> Result<(), AllocError>
         ensures party { self.new.party ≡ self.old.party }
         ensures nodes { self.new.nodes ≡ self.old.nodes }
+        ensures notary { self.new.notary ≡ self.old.notary }
         ensures bodies { self.new.bodies ≡ self.old.bodies }
         ensures acked { self.new.acked ≡ self.old.acked }
         ensures room { OnOk result (room_for change.now ≤ self.new.room) }
+        ensures rooms { OnOk result (HasRooms ledger.now self.new.rooms) }
     {
-        self.bodies.make_room()?;
-        self.causes.make_room()?;
-        self.flows.make_room()?;
-        self.sessions.make_room(alloc, change)
+        make_all_room(
+            alloc,
+            &mut self.bodies,
+            &mut self.causes,
+            &mut self.flows,
+            &mut self.sessions,
+            &mut self.ledger,
+            change,
+            ledger,
+        )
     }
 
     /// Whether a record fits here: whether its cause and what it makes of a flow and of the sessions follow on what there is.
     pub fn fits(&self, step: &Step<F>) -> bool
         requires { IsStep F.within step.now }
-        ensures { result ≡ fits self.now.nodes self.now.party (state_of F.reading self.now.bodies) (step_record step.now) }
+        ensures { result ≡ fits self.now.notary self.now.nodes self.now.party (state_of F.reading self.now.bodies) (step_record step.now) }
     {
         rises(self.stamp, self.moment, &step.cause)
-            && (self.fits_event(step) && (self.may_open(step) && self.sessions.fits(&step.session)))
+            && (self.fits_event(step)
+                && (self.may_open(step)
+                    && (self.sessions.fits(&step.session) && self.fits_ledger(step))))
+    }
+
+    /// Whether what the record changes of the ledger fits.
+    fn fits_ledger(&self, step: &Step<F>) -> bool
+        requires { IsStep F.within step.now }
+        ensures { result ≡ fits_ledger self.now.notary self.now.party (state_of F.reading self.now.bodies) (whole_part step.now.session step.now.ledger) }
+    {
+        fits_change(&self.ledger, self.notary, &step.ledger)
     }
 
     /// Whether the effect is one that such an event may have.
     fn fits_event(&self, step: &Step<F>) -> bool
-        ensures { result ≡ fits_event self.now.nodes self.now.party (state_of F.reading self.now.bodies) step.now.cause.event (effect_by step.now.flow step.now.session) }
+        ensures { result ≡ fits_event self.now.nodes self.now.party (state_of F.reading self.now.bodies) step.now.cause.event (effect_by step.now.flow step.now.session step.now.ledger) }
     {
         let came = &step.session.came;
         match &step.cause.event {
@@ -137,7 +174,7 @@ impl<F: Spelt + Drop> Tables<F> {
 
     /// Whether an item comes next in the session of the key, if it stands, and nothing else happens.
     fn arrives(&self, key: &Key, direction: u8, number: u32, step: &Step<F>) -> bool
-        ensures { result ≡ arrives_in self.now.party key.now direction number (effect_by step.now.flow step.now.session) (session_of key.now (state_of F.reading self.now.bodies).sessions) }
+        ensures { result ≡ arrives_in self.now.party key.now direction number (effect_by step.now.flow step.now.session step.now.ledger) (session_of key.now (state_of F.reading self.now.bodies).sessions) }
     {
         match self.sessions.expected(key, direction) {
             Some(next) => {
@@ -151,7 +188,7 @@ impl<F: Spelt + Drop> Tables<F> {
     /// Whether the flow that opens a session, if one does, opens it with a node of the network and owns 64 sessions at most with it.
     fn may_open(&self, step: &Step<F>) -> bool
         requires { IsStep F.within step.now }
-        ensures { result ≡ may_open self.now.nodes (begun_by step.now.cause (effect_by step.now.flow step.now.session) (state_of F.reading self.now.bodies).sessions) (flow_of (part_after step.now.flow)) step.now.session.opened }
+        ensures { result ≡ may_open self.now.nodes (begun_by step.now.cause (effect_by step.now.flow step.now.session step.now.ledger) (state_of F.reading self.now.bodies).sessions) (flow_of (part_after step.now.flow)) step.now.session.opened }
     {
         match &step.session.opened {
             Some((_, peer)) => self.owns_few(*peer, &step.cause.event, &step.flow),
@@ -179,7 +216,7 @@ impl<F: Spelt + Drop> Tables<F> {
     ///
     /// Want of memory.
     pub fn read(&self, alloc: Global, body: &[u8]) -> Result<Option<Step<F>>, AllocError>
-        ensures { IfOk result (λ r. IsRead self.now.nodes self.now.party F.reading F.within (state_of F.reading self.now.bodies) body.now r) }
+        ensures { IfOk result (λ r. IsRead self.now.notary self.now.nodes self.now.party F.reading F.within (state_of F.reading self.now.bodies) body.now r) }
     {
         let Some(step) = read_step::<F>(alloc, body)? else {
             return Ok(None);
@@ -194,12 +231,14 @@ impl<F: Spelt + Drop> Tables<F> {
     /// Takes a record that fits, in the room that was made.
     pub fn add(&mut self, body: ByteList, step: Step<F>)
         requires room { room_for step.session ≤ self.old.room }
+        requires rooms { HasRooms step.ledger self.old.rooms }
         requires few { length self.old.bodies < 65536 }
         requires reads { record_of F.reading body ≡ Some (step_record step) }
-        requires fits { fits self.old.nodes self.old.party (state_of F.reading self.old.bodies) (step_record step) ≡ true }
+        requires fits { fits self.old.notary self.old.nodes self.old.party (state_of F.reading self.old.bodies) (step_record step) ≡ true }
         requires limits { IsStep F.within step }
         ensures party { self.new.party ≡ self.old.party }
         ensures nodes { self.new.nodes ≡ self.old.nodes }
+        ensures notary { self.new.notary ≡ self.old.notary }
         ensures bodies { self.new.bodies ≡ self.old.bodies ++ body ∷ [] }
         ensures acked { self.new.acked ≡ padded self.old.acked (state_of F.reading self.new.bodies).sessions }
     {
@@ -207,6 +246,7 @@ impl<F: Spelt + Drop> Tables<F> {
             cause,
             flow,
             session,
+            ledger,
         } = step;
         let stamp = cause.stamp;
         self.stamp = stamp;
@@ -215,6 +255,7 @@ impl<F: Spelt + Drop> Tables<F> {
         self.bodies.add(body);
         self.sessions.apply(session, stamp);
         set_flow(&mut self.flows, flow);
+        add_change::<F>(&mut self.ledger, self.notary, ledger);
     }
 
     /// Raises the number of acknowledged items of the session to `upto`, and never lowers it. Items of the direction in which this
@@ -223,6 +264,7 @@ impl<F: Spelt + Drop> Tables<F> {
         requires { (s : Session) → session_of key.now (state_of F.reading self.old.bodies).sessions ≡ Some s → upto ≤ length s.sent }
         ensures party { self.new.party ≡ self.old.party }
         ensures nodes { self.new.nodes ≡ self.old.nodes }
+        ensures notary { self.new.notary ≡ self.old.notary }
         ensures bodies { self.new.bodies ≡ self.old.bodies }
         ensures acked { self.new.acked ≡ raised self.old.party key.now direction upto (state_of F.reading self.old.bodies).sessions self.old.acked }
     {
@@ -234,6 +276,20 @@ impl<F: Spelt + Drop> Tables<F> {
         ensures { result ≡ self.now.party }
     {
         self.party
+    }
+
+    /// The network's notary.
+    pub fn notary(&self) -> Party
+        ensures { result ≡ self.now.notary }
+    {
+        self.notary
+    }
+
+    /// The ledger: what is recorded, locked and booked.
+    pub fn ledger(&self) -> &Ledger
+        ensures { HoldsLedger self.now.party (ledger_in (state_of F.reading self.now.bodies)) result.now }
+    {
+        &self.ledger
     }
 
     /// How many nodes the network has.
@@ -291,7 +347,6 @@ impl<F: Spelt + Drop> Tables<F> {
     /// Tells a proof what the tables keep. It does nothing when it runs.
     pub fn kept(&self)
         ensures few { length self.now.bodies ≤ 65536 }
-        ensures alone { state_of F.reading self.now.bodies ≡ lone (state_of F.reading self.now.bodies).flows (state_of F.reading self.now.bodies).sessions (state_of F.reading self.now.bodies).stamp (state_of F.reading self.now.bodies).moment }
         ensures numbered { AreNumbered 0 (state_of F.reading self.now.bodies).flows }
         ensures sound { IsSound self.now.party.0 (state_of F.reading self.now.bodies) }
         ensures lawful { AreLawful self.now.party (state_of F.reading self.now.bodies).sessions }
@@ -309,13 +364,53 @@ impl<F: Spelt + Drop> Tables<F> {
     }
 }
 
-/// Whether no flow changes, no session is opened, and nothing is sent or taken.
+/// Whether nothing was recorded, locked or booked.
+fn leaves_ledger(change: &LedgerChange) -> bool
+    ensures { result ≡ (is_none change.now.recorded && (length change.now.locked == 0 && is_none change.now.booked)) }
+{
+    change.recorded.is_none() && (change.locked.len() == 0 && change.booked.is_none())
+}
+
+/// Whether no flow changes, no session is opened, and nothing is sent, taken, recorded, locked or booked.
 fn only_accepts<F>(step: &Step<F>) -> bool
-    ensures { result ≡ only_accepts (effect_by step.now.flow step.now.session) }
+    ensures { result ≡ only_accepts (effect_by step.now.flow step.now.session step.now.ledger) }
 {
     is_no_flow(&step.flow)
         && (step.session.opened.is_none()
-            && (step.session.sent.len() == 0 && step.session.taken.is_none()))
+            && (step.session.sent.len() == 0
+                && (step.session.taken.is_none() && leaves_ledger(&step.ledger))))
+}
+
+/// Makes room for one more record in each of the tables.
+fn make_all_room<F: Drop>(
+    alloc: Global,
+    bodies: &mut Roomy<ByteList>,
+    causes: &mut Roomy<Cause>,
+    flows: &mut Flows<F>,
+    sessions: &mut Sessions,
+    ledger: &mut Ledger,
+    session: &SessionChange,
+    change: &LedgerChange,
+) -> Result<(), AllocError>
+    ensures bodies { bodies.new.items ≡ bodies.old.items }
+    ensures causes { causes.new.items ≡ causes.old.items }
+    ensures flows { flows.new.flows ≡ flows.old.flows }
+    ensures party { sessions.new.party ≡ sessions.old.party }
+    ensures list { sessions.new.list ≡ sessions.old.list }
+    ensures acked { sessions.new.acked ≡ sessions.old.acked }
+    ensures holds { (me : OfParty) (s : LedgerState) → HoldsLedger me s ledger.old → HoldsLedger me s ledger.new }
+    ensures bodies_room { OnOk result (0 < bodies.new.room) }
+    ensures causes_room { OnOk result (0 < causes.new.room) }
+    ensures flows_room { OnOk result (0 < flows.new.room) }
+    ensures sessions_room { OnOk result (room_for session.now ≤ sessions.new.room) }
+    ensures record_room { OnOk result (HasRecordRoom change.now.recorded ledger.new.store ledger.new.vault) }
+    ensures entry_room { OnOk result (HasEntryRoom change.now.booked ledger.new.book) }
+{
+    bodies.make_room()?;
+    causes.make_room()?;
+    flows.make_room()?;
+    sessions.make_room(alloc, session)?;
+    make_ledger_room(alloc, ledger, change)
 }
 
 /// The flow is this one now, if one changed.

@@ -1,6 +1,6 @@
 //! The book.
 
-ghost use Rattle.std.specs.Prelude.{◌≡◌, ◌<◌, ◌≤◌, ◌+◌, ◌++◌, ◌∷◌, [], false, find, slice_get, length, OnOk, IfSome};
+ghost use Rattle.std.specs.Prelude.{◌≡◌, ◌<◌, ◌≤◌, ◌+◌, ◌++◌, ◌∷◌, [], false, is_some, find, slice_get, length, OnOk, IfSome};
 ghost use Rattle.std.specs.Option.{option_copied};
 ghost use Rattle.std.specs.List.{list_any};
 ghost use Rattle.ledger_types.specs.Notary.{signs, repeats, consumes};
@@ -88,6 +88,13 @@ impl Book {
         ensures { result ≡ list_any (signs id.now) self.now.entries }
     {
         self.by_id.contains_key(id)
+    }
+
+    /// Whether an entry answers the same request: one party, one flow, one id.
+    pub fn has_answered(&self, request: &Request) -> bool
+        ensures { result ≡ is_some (find (repeats request.now) self.now.entries) }
+    {
+        self.find_repeated(request).is_some()
     }
 
     fn entry_at(&self, place: usize) -> Option<&Entry>

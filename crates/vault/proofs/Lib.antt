@@ -6,3 +6,4 @@ pub mod Chosen
 pub mod Locking
 pub mod Distinct
 pub mod Vaults
+pub mod Gaining

@@ -8,7 +8,7 @@ use Rattle.net_base.specs.declared.names.Token.{Token}
 use Rattle.ledger_types.specs.declared.tx.Tx.{Tx}
 use Rattle.ledger_types.specs.declared.held.Held.{Held}
 use Rattle.ledger_types.specs.Names.{hash_eq, ref_eq, has_ref, has_repeat}
-use Rattle.ledger_types.specs.Vaults.{IsHeld, Lock, is_relevant, outputs_from, vault_of, is_coin_of}
+use Rattle.ledger_types.specs.Vaults.{IsHeld, Lock, is_coin, is_relevant, outputs_from, vault_of, is_coin_of}
 
 -- what contracts see of a vault: whose it is, what it holds in order of recording, and for how many more states there is room
 pub record Holding : Type 0 where
@@ -41,6 +41,10 @@ gained me id tx = filter (λ h. is_relevant me h.state.body) (outputs_from [] id
 -- the states behind a transaction: without those that it consumes, and with its relevant outputs
 abbrev pub held_after : Party → Hash32 → Tx → List Held → List Held
 held_after me id tx states = filter (λ h. not (has_ref h.reference tx.inputs)) states ++ gained me id tx
+
+-- whether a state is one of the party's that the reference names, and a coin
+abbrev pub gains : Party → StateRef → Held → Bool
+gains me r h = is_relevant me h.state.body && (ref_eq h.reference r && is_coin h)
 
 -- a state, soft-locked by the flow where it is one of the references
 abbrev pub locked_in : ℕ → List StateRef → Held → Held

@@ -1,9 +1,10 @@
 //! Tests of single states, and what the calls of a vault do to its list of states.
 
-ghost use Rattle.std.specs.Prelude.{◌≡◌, ◌≤◌, ◌<◌, ◌+◌, ◌-◌, ◌++◌, ◌∷◌, [], not, vec_len, vec_capacity, length, map, filter, take, IfOk, if◌then◌else◌};
+ghost use Rattle.std.specs.Prelude.{◌≡◌, ◌≤◌, ◌<◌, ◌+◌, ◌-◌, ◌^◌, ◌&&◌, ◌++◌, ◌∷◌, [], not, is_none, vec_len, vec_capacity, length, map, filter, take, IfOk, if◌then◌else◌};
+ghost use Rattle.std.specs.List.{list_any};
 ghost use Rattle.ledger_types.specs.Names.{has_ref};
 ghost use Rattle.ledger_types.specs.Vaults.{is_relevant, is_cash, is_cash_of, cash_amount, is_free, has_coin, coins_of, balance_of, outputs_from};
-ghost use Rattle.vault.specs.Holdings.{locked_in, freed_of};
+ghost use Rattle.vault.specs.Holdings.{locked_in, freed_of, gains};
 
 use coin_select::Coin;
 use ledger_types::{Held, StateData, TxState};
@@ -194,5 +195,28 @@ pub fn free_each(states: &mut [Held], flow: u32)
 {
     for held in states.iter_mut() {
         free_if_locked(held, flow);
+    }
+}
+
+/// Whether an output of a transaction would be a coin of the party: relevant Cash that nothing encumbers.
+fn is_new_coin(me: Party, state: &TxState) -> bool
+    ensures { result ≡ (is_relevant me state.now.body && (is_cash state.now.body && is_none state.now.encumbrance)) }
+{
+    is_relevant(me, &state.body) && (is_cash(&state.body) && state.encumbrance.is_none())
+}
+
+/// Whether the reference names an output, the first of these being output `n` of the transaction, that would be a coin of the party.
+#[tactic(auto, using(crate::proofs::Gaining::gains_one))]
+pub fn gains_coin(me: Party, id: &Hash32, n: u32, outputs: &[TxState], reference: &StateRef) -> bool
+    requires { n + length outputs.now < 2 ^ 32 }
+    ensures { result ≡ list_any (gains me reference.now) (outputs_from [] id.now n outputs.now) }
+{
+    match outputs {
+        [] => false,
+        [first, rest @ ..] => {
+            let here = StateRef { id: *id, index: n };
+            (is_new_coin(me, first) && here == *reference)
+                || gains_coin(me, id, n + 1, rest, reference)
+        }
     }
 }

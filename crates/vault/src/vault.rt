@@ -13,7 +13,8 @@ ghost use Rattle.vault.specs.Faults.{Refuses};
 
 use crate::fault::ReserveFault;
 use crate::states::{
-    add_relevant, amounts, balance, first_coins, free_each, has_coin, lock_each, remove_consumed,
+    add_relevant, amounts, balance, first_coins, free_each, gains_coin, has_coin, lock_each,
+    remove_consumed,
 };
 use coin_select::pick;
 use ledger_types::{Held, HeldList, RefList, Tx};
@@ -52,6 +53,13 @@ impl Vault {
             party,
             states: Vec::new(alloc),
         }
+    }
+
+    /// The party.
+    pub fn party(&self) -> Party
+        ensures { result ≡ self.now.party }
+    {
+        self.party
     }
 
     /// Makes room for the outputs of a transaction. Want of memory leaves the vault as it was.
@@ -145,6 +153,18 @@ impl Vault {
         ensures { result ≡ has_coin self.now.held reference.now }
     {
         has_coin(self.states.as_slice(), reference)
+    }
+
+    /// Whether the reference would name a coin once the transaction of the id was noted. It is what `is_coin` answers then.
+    #[tactic(auto, using(crate::proofs::Gaining::coin_behind))]
+    pub fn is_coin_behind(&self, id: &Hash32, tx: &Tx, reference: &StateRef) -> bool
+        requires { length tx.now.outputs ≤ 64 }
+        ensures { result ≡ has_coin (held_after self.now.party id.now tx.now self.now.held) reference.now }
+    {
+        let inputs = tx.inputs.as_slice();
+        let outputs = tx.outputs.as_slice();
+        (!inputs.contains(reference) && has_coin(self.states.as_slice(), reference))
+            || gains_coin(self.party, id, 0, outputs, reference)
     }
 
     /// Soft-locks coins for a flow. `is_coin` tells which states are coins. It takes no memory.

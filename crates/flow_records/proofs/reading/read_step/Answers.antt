@@ -1,6 +1,5 @@
-use Rattle.std.proofs.Common.{ap, arith}
+use Rattle.std.proofs.Common.{arith}
 use Rattle.net_base.specs.Reading.{IsBytes}
-use Rattle.flow_records.specs.Steps.{besides_ledger}
 use Rattle.flow_records.proofs.Meaning.{spelt_means, unspelt_means}
 use Rattle.flow_records.proofs.reading.read_step.Goals as goal
 
@@ -14,4 +13,4 @@ returns-in-Err-Malformed-clause-tells g c =
     let bytes = c.args.bytes.now in
     let fits : IsBytes bytes = λ i. omega (arith, c.type_inv.bytes i) in
     let none = rw c.in-Err-Malformed.field-0-is at c.in-Err-Malformed.ensures.record in
-    ap besides_ledger (unspelt_means g.F.Spelt.reading bytes fits none.1)
+    unspelt_means g.F.Spelt.reading bytes fits none.1

@@ -3,5 +3,4 @@ use Rattle.flow_records.proofs.reading.step_of.Goals as goal
 
 pub returns-clause-tells : goal.returns-clause-tells
 returns-clause-tells g c =
-    let tells = rw c.leaves_ledger-still.ensures at c.in_ok-told.ensures.tells in
-    rw c.joined.ensures (step_is g.F.Spelt.reading g.F.Spelt.within c.args.cause c.args.effect c.in_ok-told.told c.requires.cause c.requires.effect.1.0 tells c.in_ok-told.ensures.own)
+    rw c.joined.ensures (step_is g.F.Spelt.reading g.F.Spelt.within c.args.cause c.args.effect c.in_ok-told.told c.requires.cause c.requires.effect.1.0 c.requires.effect.1.1 c.in_ok-told.ensures.tells c.in_ok-told.ensures.own)

@@ -8,8 +8,9 @@ abbrev pub invariant-loop-at : goal.invariant-loop-at
 invariant-loop-at g l =
     (goal.iterator-loop-at g).can_next l.at-iterator ×
     (goal.iterator-loop-at g).is_finite l.at-iterator ×
-    Rebuilding g.F.Spelt.reading l.fn.nodes l.fn.party l.fn.list l.tables.bodies l.at-iterator.rest.items ×
+    Rebuilding g.F.Spelt.reading l.fn.notary l.fn.nodes l.fn.party l.fn.list l.tables.bodies l.at-iterator.rest.items ×
     (length l.fn.list ≤ 65536) ×
     (l.tables.party ≡ l.fn.party) ×
     (l.tables.nodes ≡ l.fn.nodes) ×
+    (l.tables.notary ≡ l.fn.notary) ×
     (l.tables.acked ≡ no_acks (state_of g.F.Spelt.reading l.tables.bodies).sessions)

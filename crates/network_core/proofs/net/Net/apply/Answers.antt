@@ -1,4 +1,6 @@
-use Rattle.std.proofs.Common.{inr, refl, ap, arith, true, false, Some, None}
+use Rattle.std.specs.contracts.alloc.AllocError.{the_row}
+use Rattle.network_core.specs.declared.steps.Step.TheVariants as step
+use Rattle.std.proofs.Common.{inl, inr, Ok, refl, sym, ◌∙◌, ap, arith, true, false, Some, None}
 use Rattle.network_core.specs.declared.steps.Outcome.TheVariants as outcome
 use Rattle.network_core.specs.Rounds.{drain_outcome}
 use Rattle.network_core.proofs.Places.{start_world, turn_world, cut_within, clock_world, lose_world}
@@ -6,6 +8,7 @@ use Rattle.network_core.proofs.Booting.{boot_world}
 use Rattle.network_core.proofs.Delivering.{post_world, hand_world}
 use Rattle.network_core.proofs.Driving.{same_count}
 use Rattle.network_core.proofs.Turning.{drained_as}
+use Rattle.network_core.proofs.Pairing.{pair_step, pair_drain}
 use Rattle.network_core.specs.Answers.{StartServes, TurnServes, CutServes, BootServes}
 use Rattle.network_core.proofs.net.Net.apply.Goals as goal
 
@@ -89,3 +92,41 @@ returns-in-Ok-clause-answers g c = rw c.in-Drain.is ((drained_as g.F.FlowSet.mac
 
 pub returns-in-Err-clause-answers : goal.returns-in-Err-clause-answers
 returns-in-Err-clause-answers g c = rw c.in-Drain.is ((drained_as g.F.FlowSet.machine g.F.Spelt.reading c.args.self.now c.drain.new.self c.drain.result None (ap drain_outcome c.in-Err.is) c.drain.ensures).seen, c.drain.ensures.clock)
+
+-- ---- networks with their worlds
+
+pub returns-in-Clock-clause-pairs : goal.returns-in-Clock-clause-pairs
+returns-in-Clock-clause-pairs g c = pair_step g.F.FlowSet.machine g.F.Spelt.reading _ _ _ c.args.step.now (λ drain. let no = sym c.in-Clock.is ∙ drain in cc) (returns-in-Clock-clause-serves g c) (returns-in-Clock-clause-answers g c)
+
+pub returns-in-Start-clause-pairs : goal.returns-in-Start-clause-pairs
+returns-in-Start-clause-pairs g c = pair_step g.F.FlowSet.machine g.F.Spelt.reading _ _ _ c.args.step.now (λ drain. let no = sym c.in-Start.is ∙ drain in cc) (returns-in-Start-clause-serves g c) (returns-in-Start-clause-answers g c)
+
+pub returns-in-Turn-clause-pairs : goal.returns-in-Turn-clause-pairs
+returns-in-Turn-clause-pairs g c = pair_step g.F.FlowSet.machine g.F.Spelt.reading _ _ _ c.args.step.now (λ drain. let no = sym c.in-Turn.is ∙ drain in cc) (returns-in-Turn-clause-serves g c) (returns-in-Turn-clause-answers g c)
+
+pub returns-in-Post-clause-pairs : goal.returns-in-Post-clause-pairs
+returns-in-Post-clause-pairs g c = pair_step g.F.FlowSet.machine g.F.Spelt.reading _ _ _ c.args.step.now (λ drain. let no = sym c.in-Post.is ∙ drain in cc) (returns-in-Post-clause-serves g c) (returns-in-Post-clause-answers g c)
+
+pub returns-in-Deliver-clause-pairs : goal.returns-in-Deliver-clause-pairs
+returns-in-Deliver-clause-pairs g c = pair_step g.F.FlowSet.machine g.F.Spelt.reading _ _ _ c.args.step.now (λ drain. let no = sym c.in-Deliver.is ∙ drain in cc) (returns-in-Deliver-clause-serves g c) (returns-in-Deliver-clause-answers g c)
+
+pub returns-in-Repeat-clause-pairs : goal.returns-in-Repeat-clause-pairs
+returns-in-Repeat-clause-pairs g c = pair_step g.F.FlowSet.machine g.F.Spelt.reading _ _ _ c.args.step.now (λ drain. let no = sym c.in-Repeat.is ∙ drain in cc) (returns-in-Repeat-clause-serves g c) (returns-in-Repeat-clause-answers g c)
+
+pub returns-in-Lose-clause-pairs : goal.returns-in-Lose-clause-pairs
+returns-in-Lose-clause-pairs g c = pair_step g.F.FlowSet.machine g.F.Spelt.reading _ _ _ c.args.step.now (λ drain. let no = sym c.in-Lose.is ∙ drain in cc) (returns-in-Lose-clause-serves g c) (returns-in-Lose-clause-answers g c)
+
+pub returns-in-Boot-clause-pairs : goal.returns-in-Boot-clause-pairs
+returns-in-Boot-clause-pairs g c = pair_step g.F.FlowSet.machine g.F.Spelt.reading _ _ _ c.args.step.now (λ drain. let no = sym c.in-Boot.is ∙ drain in cc) (returns-in-Boot-clause-serves g c) (returns-in-Boot-clause-answers g c)
+
+pub returns-else-outcome-gt3-clause-pairs : goal.returns-else-outcome-gt3-clause-pairs
+returns-else-outcome-gt3-clause-pairs g c = pair_step g.F.FlowSet.machine g.F.Spelt.reading _ _ _ c.args.step.now (λ drain. let no = sym c.in-Cut.is ∙ drain in cc) (returns-else-outcome-gt3-clause-serves g c) (returns-else-outcome-gt3-clause-answers g c)
+
+pub returns-in-Ok-clause-pairs : goal.returns-in-Ok-clause-pairs
+returns-in-Ok-clause-pairs g c = rw c.in-Drain.is (pair_drain g.F.FlowSet.machine g.F.Spelt.reading c.args.self.now c.drain.new.self (Some (outcome.Drained c.in-Ok.full)) c.drain.ensures.clock (drained_as g.F.FlowSet.machine g.F.Spelt.reading c.args.self.now c.drain.new.self c.drain.result (Some (outcome.Drained c.in-Ok.full)) (ap drain_outcome c.in-Ok.is) c.drain.ensures).pairs)
+
+pub returns-in-Err-clause-pairs : goal.returns-in-Err-clause-pairs
+returns-in-Err-clause-pairs g c = rw c.in-Drain.is (pair_drain g.F.FlowSet.machine g.F.Spelt.reading c.args.self.now c.drain.new.self None c.drain.ensures.clock (drained_as g.F.FlowSet.machine g.F.Spelt.reading c.args.self.now c.drain.new.self c.drain.result None (ap drain_outcome c.in-Err.is) c.drain.ensures).pairs)
+
+pub returns-then-outcome-gt3-clause-pairs : goal.returns-then-outcome-gt3-clause-pairs
+returns-then-outcome-gt3-clause-pairs g c = rw c.in-Cut.is (pair_step {E = the_row.Denot} g.F.FlowSet.machine g.F.Spelt.reading c.args.self.now c.args.self.now (Ok (outcome.Refused 1)) (step.Cut c.in-Cut.node c.in-Cut.calls c.in-Cut.outcome) (λ drain. cc) (λ id w shows coherent. (w, shows, coherent, inl (c.if-outcome-gt3.true, refl, refl))) (inl (c.if-outcome-gt3.true, refl, refl)))

@@ -29,7 +29,7 @@ add-requires-clause-fits g c =
     let by : (state_of f bodies).moment ≤ c.args.now.0 = rw (← c.self.view_is) at c.requires.by in
     let r : (item : Option Sent) × MayCommit w id c.args.now.0 g.F.Spelt.within bodies item c.args.step = rw (← c.self.view_is) at c.requires.ready in
     let sound : IsSound id.party.0 (state_of f bodies) = rw (c.self.invariant.0, tied.of) at c.kept.ensures.sound in
-    rw (c.log.ensures.bodies, c.log.ensures.nodes, c.log.ensures.party, c.self.invariant.0, c.self.invariant.1, tied.of) (step_fits w id c.args.now.0 g.F.Spelt.within bodies r.0 c.args.step r.1 by sound)
+    rw (c.log.ensures.bodies, c.log.ensures.nodes, c.log.ensures.notary, c.log.ensures.party, c.self.invariant.0, c.self.invariant.1, c.self.invariant.3, tied.of) (step_fits w id c.args.now.0 g.F.Spelt.within bodies r.0 c.args.step r.1 by sound)
 
 pub invariant_of-self : goal.invariant_of-self
 invariant_of-self g c =
@@ -45,6 +45,7 @@ invariant_of-self g c =
       c.add.ensures.party ∙ c.log.ensures.party ∙ c.self.invariant.0 ∙ ap (λ (i : Identity). i.party) (sym c.log.ensures.of),
       c.add.ensures.nodes ∙ c.log.ensures.nodes ∙ c.self.invariant.1 ∙ ap (λ (i : Identity). i.nodes) (sym c.log.ensures.of),
       rw (c.after-idle.ensures.at, c.after-idle.ensures.below) idle,
+      c.add.ensures.notary ∙ c.log.ensures.notary ∙ c.self.invariant.3 ∙ ap (λ (i : Identity). i.notary) (sym c.log.ensures.of),
     )
 
 pub returns-in-Ok-clause-commits : goal.returns-in-Ok-clause-commits

@@ -11,7 +11,7 @@ returns-in-Ok-rebuild-clause-ok g c =
     let opening : Opening c.args.identity old journal list = record { format = o.opened; told = o.list; ready = o.ready; left = o.left; same = o.same; counts = o.counts; moments = o.moments; young = o.young; sound = o.sound; later = o.later; calm = o.calm; rest = o.of_file } in
     let run = c.in-Ok-rebuild.ensures in
     let tied : Tied c.args.identity journal c.in-Ok-rebuild.tables.bodies = opening_tied c.args.identity old journal list c.in-Ok-rebuild.tables.bodies opening run.0 in
-    (list, run.0, run.4, record { opens = opening_opens c.args.identity old journal list opening; fits = run.3 }, tied)
+    (list, run.0, run.5, record { opens = opening_opens c.args.identity old journal list opening; fits = run.4 }, tied)
 
 pub returns-in-Err-rebuild-clause-refused : goal.returns-in-Err-rebuild-clause-refused
 returns-in-Err-rebuild-clause-refused g c =

@@ -6,4 +6,4 @@ use Rattle.node_tables.proofs.table.Tables.may_open.Goals as goal
 pub returns-in-Some : goal.returns-in-Some
 returns-in-Some g c =
     let t = c.args.step.now in
-    owns_is c.args.self.now.nodes t.cause t.flow t.session (state_of g.F.Spelt.reading c.args.self.now.bodies).sessions _ c.owns_few.result (own_of g.F.Spelt.within t.flow c.requires.1) c.in-Some.is c.owns_few.ensures.none c.owns_few.ensures.some
+    owns_is c.args.self.now.nodes t.cause t.flow t.session t.ledger (state_of g.F.Spelt.reading c.args.self.now.bodies).sessions _ c.owns_few.result (own_of g.F.Spelt.within t.flow c.requires.1) c.in-Some.is c.owns_few.ensures.none c.owns_few.ensures.some

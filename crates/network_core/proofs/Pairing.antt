@@ -1,0 +1,108 @@
+-- What a step makes of a network and of its world, as one.
+use Rattle.std.proofs.Common.{◌≡◌, ◌⊎◌, inl, inr, ⊎_elim, ℕ, ◌≤◌, length, take, List, [], ◌∷◌, ◌++◌, Option, Some, None, Result, Ok, Err, Bool, true, false, refl, sym, ◌∙◌, ap, subst}
+use Rattle.std.proofs.lemmas.List.{take_all}
+use Rattle.net_base.specs.declared.names.Identity.{Identity}
+use Rattle.flow_machine.specs.Machine.{Machine}
+use Rattle.net_model.specs.Environment.{Environment, environment}
+use Rattle.node_tables.specs.Journals.{Reads}
+use Rattle.node_core.specs.Seen.{NodeSeen}
+use Rattle.network_core.specs.declared.steps.Outcome.{Outcome}
+use Rattle.network_core.specs.declared.steps.Step.{Step}
+use Rattle.network_core.specs.declared.steps.Step.TheVariants as step
+use Rattle.network_core.specs.Worlds.{World, NetSeen, KeepsWorld}
+use Rattle.network_core.specs.Answers.{said, answer_of, AtPlace, StartServes, TurnServes, CutServes, BootServes, LoseServes, Posting, PostServes, Handing, HandServes, Answered, net_steps}
+use Rattle.network_core.specs.Rounds.{DrainsTo}
+use Rattle.network_core.specs.Drains.{Pair, with_world, pair_steps, KeepsPair, PairDrains, world_steps}
+use Rattle.network_core.specs.Served.{Serve, PairServes, PairLinks, begin, go_on, PairFollows}
+use Rattle.network_core.proofs.Mapping.{drains_map}
+use Rattle.network_core.proofs.Driving.{to_world, to_net}
+
+-- what is said of an outcome is said whatever stands for want of memory
+bare : (o : Option Outcome) → said (answer_of o) ≡ o
+bare (Some o) = refl
+bare None = refl
+
+module _ {F E : Type 0} (m : Machine F) (f : Reads F) (old new : NetSeen) (r : Result Outcome E) where
+  is : said (answer_of (said r)) ≡ said r
+  is = bare (said r)
+
+  start_bare : (p class : ℕ) (args : List ℕ) → AtPlace p old r new (λ n a k. StartServes m f old.now class args n a k) → AtPlace p old (answer_of (said r)) new (λ n a k. StartServes m f old.now class args n a k)
+  start_bare p class args (inl (past, two, same)) = inl (past, is ∙ two, same)
+  start_bare p class args (inr (n, k, at, nodes, waiting, (answer, answers, so))) = inr (n, k, at, nodes, waiting, (answer, answers, is ∙ so))
+
+  turn_bare : (p : ℕ) (pick : Option ℕ) → AtPlace p old r new (λ n a k. TurnServes m f old.now pick n a k) → AtPlace p old (answer_of (said r)) new (λ n a k. TurnServes m f old.now pick n a k)
+  turn_bare p pick (inl (past, two, same)) = inl (past, is ∙ two, same)
+  turn_bare p pick (inr (n, k, at, nodes, waiting, (answer, answers, so))) = inr (n, k, at, nodes, waiting, (answer, answers, is ∙ so))
+
+  cut_bare : (p calls kind : ℕ) → AtPlace p old r new (λ n a k. CutServes calls kind n a k) → AtPlace p old (answer_of (said r)) new (λ n a k. CutServes calls kind n a k)
+  cut_bare p calls kind (inl (past, two, same)) = inl (past, is ∙ two, same)
+  cut_bare p calls kind (inr (n, k, at, nodes, waiting, (answer, answers, so))) = inr (n, k, at, nodes, waiting, (answer, answers, is ∙ so))
+
+  boot_bare : (p : ℕ) → AtPlace p old r new (λ n a k. BootServes f n a k) → AtPlace p old (answer_of (said r)) new (λ n a k. BootServes f n a k)
+  boot_bare p (inl (past, two, same)) = inl (past, is ∙ two, same)
+  boot_bare p (inr (n, k, at, nodes, waiting, inl (up, four, same))) = inr (n, k, at, nodes, waiting, inl (up, is ∙ four, same))
+  boot_bare p (inr (n, k, at, nodes, waiting, inr (down, (mid, answer, restored, boots, so)))) = inr (n, k, at, nodes, waiting, inr (down, (mid, answer, restored, boots, is ∙ so)))
+
+  post_bare : (p : ℕ) → PostServes f p old r new → PostServes f p old (answer_of (said r)) new
+  post_bare p (inl (past, two, same)) = inl (past, is ∙ two, same)
+  post_bare p (inr (n, at, posting)) = inr (n, at, subst (λ (a : Option Outcome). Posting f n old a new) (sym is) posting)
+
+  hand_bare : (repeated : Bool) (p i : ℕ) → HandServes m f repeated p i old r new → HandServes m f repeated p i old (answer_of (said r)) new
+  hand_bare repeated p i (inl (past, two, same)) = inl (past, is ∙ two, same)
+  hand_bare repeated p i (inr (n, frames, at, waits, handing)) = inr (n, frames, at, waits, subst (λ (a : Option Outcome). Handing m f repeated p i n frames old a new) (sym is) handing)
+
+  lose_bare : (p i : ℕ) → LoseServes p i old r new → LoseServes p i old (answer_of (said r)) new
+  lose_bare p i (inl (past, two, same)) = inl (past, is ∙ two, same)
+  lose_bare p i (inr (frames, at, inl (gone, seven, same))) = inr (frames, at, inl (gone, is ∙ seven, same))
+  lose_bare p i (inr (frames, at, inr (bytes, there, lost, same))) = inr (frames, at, inr (bytes, there, is ∙ lost, same))
+
+  answered_bare : (s : Step) → Answered m f s old r new → Answered m f s old (answer_of (said r)) new
+  answered_bare (step.Clock to) h = (h.0, is ∙ h.1, h.2)
+  answered_bare (step.Start node class args) h = (start_bare node class args h.0, h.1)
+  answered_bare (step.Turn node pick) h = (turn_bare node pick h.0, h.1)
+  answered_bare (step.Post node) h = post_bare node h
+  answered_bare (step.Deliver node at) h = hand_bare false node at h
+  answered_bare (step.Repeat node at) h = hand_bare true node at h
+  answered_bare (step.Lose node at) h = lose_bare node at h
+  answered_bare (step.Cut node calls kind) h = ⊎_elim (λ odd. inl (odd.0, is ∙ odd.1, odd.2)) (λ known. inr (known.0, cut_bare node calls kind known.1, known.2)) h
+  answered_bare (step.Boot node) h = (boot_bare node h.0, h.1)
+  answered_bare step.Drain h = (subst (λ (o : Option Outcome). DrainsTo (net_steps m f) old o new) (sym is) h.0, h.1)
+
+  -- any step but a drain
+  pub pair_step : (s : Step) → (s ≡ step.Drain → ⊥) → KeepsWorld m f old new (λ e w v. Serve e s w (said r) v) → Answered m f s old r new → KeepsPair m f old new (λ id a b. PairServes m f id s (said r) a b)
+  pair_step s other serves answers id w shows coherent =
+      let one = serves id w shows coherent in
+      (one.0, one.1, one.2, (answered_bare s answers, one.3, λ drain. absurd (other drain)))
+
+-- a drain
+pub pair_drain : {F : Type 0} (m : Machine F) (f : Reads F) (old new : NetSeen) (o : Option Outcome) → new.now ≡ old.now → KeepsPair m f old new (λ id a b. PairDrains m f id o a b) → KeepsPair m f old new (λ id a b. PairServes m f id step.Drain o a b)
+pair_drain m f old new o clock pairs id w shows coherent =
+    let b = pairs id w shows coherent in
+    let one = with_world old w shows coherent in
+    let two = with_world new b.0 b.1 b.2 in
+    let net = drains_map (pair_steps m f id) (net_steps m f) (λ (z : Pair (environment m f id)). z.net) (to_net m f id) one o two b.3.0 in
+    let world = drains_map (pair_steps m f id) (world_steps (environment m f id)) (λ (z : Pair (environment m f id)). z.world) (to_world m f id) one o two b.3.0 in
+    (b.0, b.1, b.2, ((subst (λ (x : Option Outcome). DrainsTo (net_steps m f) old x new) (sym (bare o)) net, clock), (world, b.3.1), λ drain. b.3))
+
+-- ---- steps, one after another
+
+module _ {F : Type 0} (m : Machine F) (f : Reads F) where
+  pub pairs_none : (net : NetSeen) (outcomes : List Outcome) → outcomes ≡ [] → KeepsPair m f net net (λ id a b. PairLinks m f id [] outcomes a b)
+  pairs_none net outcomes none id w shows coherent = (w, shows, coherent, begin refl none refl)
+
+  pub pairs_more : (old mid new : NetSeen) (steps all : List Step) (outcomes longer : List Outcome) (s : Step) (o : Outcome) → KeepsPair m f old mid (λ id a b. PairLinks m f id steps outcomes a b) → KeepsPair m f mid new (λ id a b. PairServes m f id s (Some o) a b)
+      → all ≡ steps ++ s ∷ [] → longer ≡ outcomes ++ o ∷ [] → KeepsPair m f old new (λ id a b. PairLinks m f id all longer a b)
+  pairs_more old mid new steps all outcomes longer s o before serves a b id w shows coherent =
+      let one = before id w shows coherent in
+      let two = serves id one.0 one.1 one.2 in
+      (two.0, two.1, two.2, go_on s o one.3 two.3 a b)
+
+  pub pairs_end : (old mid new : NetSeen) (steps first rest : List Step) (outcomes : List Outcome) (s : Step) → KeepsPair m f old mid (λ id a b. PairLinks m f id first outcomes a b) → KeepsPair m f mid new (λ id a b. PairServes m f id s None a b)
+      → steps ≡ first ++ s ∷ rest → KeepsPair m f old new (λ id a b. PairFollows m f id steps outcomes false a b)
+  pairs_end old mid new steps first rest outcomes s before serves all id w shows coherent =
+      let one = before id w shows coherent in
+      let two = serves id one.0 one.1 one.2 in
+      (two.0, two.1, two.2, (first, s, rest, with_world mid one.0 one.1 one.2, all, one.3, two.3))
+
+  pub pairs_all : (old new : NetSeen) (steps : List Step) (i : ℕ) (outcomes : List Outcome) → length steps ≤ i → KeepsPair m f old new (λ id a b. PairLinks m f id (take i steps) outcomes a b) → KeepsPair m f old new (λ id a b. PairFollows m f id steps outcomes true a b)
+  pairs_all old new steps i outcomes le keeps = subst (λ (l : List Step). KeepsPair m f old new (λ id a b. PairLinks m f id l outcomes a b)) (take_all i steps le) keeps

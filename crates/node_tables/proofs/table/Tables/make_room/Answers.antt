@@ -1,0 +1,7 @@
+use Rattle.std.proofs.Common.{◌∙◌}
+use Rattle.node_tables.proofs.table.Tables.make_room.Goals as goal
+
+pub invariant_of-self : goal.invariant_of-self
+invariant_of-self g c =
+    let e = c.make_all_room.ensures in
+    (e.party ∙ c.self.invariant.0, rw (e.bodies, e.causes, e.flows, e.list) c.self.invariant.1, c.self.invariant.2, rw (e.acked, e.list) c.self.invariant.3, rw e.bodies (e.holds _ _ c.self.invariant.4))
