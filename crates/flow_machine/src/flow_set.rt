@@ -6,7 +6,7 @@ ghost use Rattle.flow_machine.specs.Flows.{GivesWords, GivesMade, GivesBegun, Fa
 ghost use Rattle.flow_machine.specs.Tags.{KeepsTags, BeginsBare};
 
 use super::{Act, Place, Resumed};
-use net_base::{ByteList, Key, Spelt, Writer, decode_all, encode};
+use net_base::{ByteList, Key, Spelt, Writer, decode_if_spelt, encode};
 use std::alloc::{AllocError, Global};
 use thiserror::Error;
 
@@ -147,7 +147,7 @@ pub fn copy_frame<F: FlowSet>(alloc: Global, frame: &F) -> Result<F, AllocError>
     let mut out = Writer::new(alloc);
     encode(alloc, frame, &mut out)?;
     let bytes = out.into_bytes();
-    match decode_all(alloc, bytes.as_slice())? {
+    match decode_if_spelt(alloc, bytes.as_slice())? {
         Some(copy) => Ok(copy),
         None => unreachable!(),
     }

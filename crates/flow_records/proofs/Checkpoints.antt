@@ -3,7 +3,7 @@ use Rattle.std.proofs.Common.{◌≡◌, ◌<◌, ◌≤◌, ◌^◌, ℕ, List,
 use Rattle.ledger_types.specs.declared.value.Value.{Value}
 use Rattle.ledger_types.specs.Values.{IsValue}
 use Rattle.net_base.specs.Laws.{LawsIf}
-use Rattle.net_base.specs.Parts.{DecodesAll}
+use Rattle.net_base.specs.Parts.{DecodesIfSpelt}
 use Rattle.session_wire.specs.declared.effect.FlowPart.TheVariants as part
 use Rattle.flow_machine.specs.declared.act_spelling.FrameBytes.{FrameBytes}
 use Rattle.flow_machine.specs.declared.flows.Checkpoint.{Checkpoint}
@@ -63,6 +63,6 @@ failed_is reading number step class code hn hs hc hv = record {
 }
 
 -- what all of the bytes are decoded to is the flow's of which they tell
-pub decoded_own : {F : Type 0} (within : F → Type 0) (spelling : F → List ℕ) (bytes : List ℕ) (r : Option (Checkpoint F)) → DecodesAll (IsCheckpoint within) (checkpoint_text spelling) r bytes → IfSome r (λ at. at.flow ≡ checkpoint_flow bytes)
+pub decoded_own : {F : Type 0} (within : F → Type 0) (spelling : F → List ℕ) (bytes : List ℕ) (r : Option (Checkpoint F)) → DecodesIfSpelt (IsCheckpoint within) (checkpoint_text spelling) r bytes → IfSome r (λ at. at.flow ≡ checkpoint_flow bytes)
 decoded_own within spelling bytes (Some c) h = sym (ap checkpoint_flow h.1 ∙ checkpoint_flow_is spelling c h.0.0)
 decoded_own within spelling bytes None h = tt

@@ -3,7 +3,7 @@ use Rattle.std.proofs.Common.{◌≡◌, ℕ, List, [], ◌∷◌, Option, Some,
 use Rattle.std.proofs.lemmas.List.{append-nil}
 use Rattle.net_base.specs.Reading.{IsBytes}
 use Rattle.net_base.specs.Laws.{LawsIf, done}
-use Rattle.net_base.specs.Parts.{DecodesAll}
+use Rattle.net_base.specs.Parts.{DecodesIfSpelt}
 use Rattle.flow_records.specs.Records.{if_last, whole}
 
 -- what is spelt is read whole
@@ -39,7 +39,7 @@ whole_none {V} {within} {spelling} {reading} laws bytes fits none =
     none_or (whole (reading bytes)) (λ v e. let t = whole_takes laws bytes v fits e in none v t.0 t.1)
 
 -- what all of the bytes are decoded to is what is read whole
-pub whole_of : {V : Type 0} {within : V → Type 0} {spelling : V → List ℕ} {reading : List ℕ → Result (V × List ℕ) ℕ} {exact : Type 0} → LawsIf exact within spelling reading → (bytes : List ℕ) → IsBytes bytes → (r : Option V) → DecodesAll within spelling r bytes → r ≡ whole (reading bytes)
+pub whole_of : {V : Type 0} {within : V → Type 0} {spelling : V → List ℕ} {reading : List ℕ → Result (V × List ℕ) ℕ} {exact : Type 0} → LawsIf exact within spelling reading → (bytes : List ℕ) → IsBytes bytes → (r : Option V) → DecodesIfSpelt within spelling r bytes → r ≡ whole (reading bytes)
 whole_of {V} {within} {spelling} {reading} laws bytes fits (Some v) h = sym (ap (λ (b : List ℕ). whole (reading b)) h.1 ∙ whole_again laws v h.0)
 whole_of laws bytes fits None h = sym (whole_none laws bytes fits h)
 

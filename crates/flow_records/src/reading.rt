@@ -14,7 +14,7 @@ ghost use Rattle.flow_records.specs.Steps.{is_absent, after_told, owner_of, ends
 use crate::step::{FlowAfter, Step};
 use flow_machine::{Checkpoint, FlowState};
 use ledger_types::LedgerChange;
-use net_base::{Cause, DecodeFault, Spelt, decode_all};
+use net_base::{Cause, DecodeFault, Spelt, decode_if_spelt};
 use session_wire::{Effect, FlowPart, SessionChange};
 use std::alloc::{AllocError, Global};
 use transition_record::decode_record;
@@ -28,7 +28,7 @@ fn read_checkpoint<F: Spelt + Drop>(
     ensures within { IfOk result (λ r. IfSome r (IsCheckpoint F.within)) }
     ensures own { IfOk result (λ r. IfSome r (λ at. at.flow ≡ checkpoint_flow bytes.now)) }
 {
-    decode_all(alloc, bytes)
+    decode_if_spelt(alloc, bytes)
 }
 
 /// The flow that stands at this checkpoint, and its number.

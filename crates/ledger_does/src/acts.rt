@@ -14,7 +14,7 @@ ghost use Rattle.node_ledger.specs.Ledgered.{LedgerState, HoldsLedger};
 ghost use Rattle.ledger_does.specs.Acts.{done_of, vault_in};
 
 use flow_machine::Resumed;
-use ledger_tables::Tables;
+use ledger_tables::LedgerTables;
 use ledger_types::{Entry, Held, NotaryAnswer, RefList, Request, Tx, Visible};
 use net_base::{Boxed, Hash32, Identity, ListOf, Moment, Tag, Token};
 use notary_book::Decision;
@@ -28,7 +28,7 @@ use vault::ReserveFault;
 pub struct LedgerDone {
     pub with: Resumed,
     pub locked: RefList,
-    pub booked: Option<Entry>,
+    pub booked: Option<Boxed<Entry>>,
 }
 
 /// Nothing changes of the ledger.
@@ -56,7 +56,7 @@ fn references(alloc: Global, states: &[Held]) -> Result<RefList, AllocError>
 /// Reserves coins of a token that reach the amount. The only error is want of memory.
 pub fn reserve(
     alloc: Global,
-    ledger: &Tables,
+    ledger: &LedgerTables,
     token: &Token,
     amount: u64,
 ) -> Result<LedgerDone, AllocError>
@@ -77,7 +77,7 @@ pub fn reserve(
 }
 
 /// Looks for a recorded transaction. The only error is want of memory.
-pub fn look_up(alloc: Global, ledger: &Tables, id: &Hash32) -> Result<LedgerDone, AllocError>
+pub fn look_up(alloc: Global, ledger: &LedgerTables, id: &Hash32) -> Result<LedgerDone, AllocError>
     ensures { (me : OfParty) (s : LedgerState) → HoldsLedger me s ledger.now → IfOk result (λ p. done_of p ≡ finds (stored_of (with_ids s.stored) id.now)) }
 {
     match ledger.store().get(id) {
@@ -90,7 +90,7 @@ pub fn look_up(alloc: Global, ledger: &Tables, id: &Hash32) -> Result<LedgerDone
 }
 
 /// Asks which transactions that this one names are not recorded. The only error is want of memory.
-pub fn missing(alloc: Global, ledger: &Tables, tx: &Tx) -> Result<LedgerDone, AllocError>
+pub fn missing(alloc: Global, ledger: &LedgerTables, tx: &Tx) -> Result<LedgerDone, AllocError>
     ensures { (me : OfParty) (s : LedgerState) → HoldsLedger me s ledger.now → IfOk result (λ p. done_of p ≡ (Ids (missing_ids (with_ids s.stored) tx.now), nothing)) }
 {
     let list = ledger.store().missing(alloc, tx)?;
@@ -156,12 +156,13 @@ fn booked_of(
     request: &Request,
     seen: Option<Visible>,
     decision: &Decision,
-) -> Result<Option<Entry>, AllocError>
+) -> Result<Option<Boxed<Entry>>, AllocError>
     requires { seen ≡ visible_of request.now.torn }
     ensures { IfOk result (λ e. e ≡ (if decision.now.fresh then Some (entry_of request.now decision.now.answer) else None)) }
 {
     if decision.fresh {
-        Ok(Some(entry_of(alloc, request, seen, &decision.answer)?))
+        let entry = entry_of(alloc, request, seen, &decision.answer)?;
+        Ok(Some(Boxed::new(alloc, entry)?))
     } else {
         drop(seen);
         Ok(None)
@@ -172,7 +173,7 @@ fn booked_of(
 pub fn notarise(
     alloc: Global,
     identity: &Identity,
-    ledger: &Tables,
+    ledger: &LedgerTables,
     now: Moment,
     request: &Request,
 ) -> Result<LedgerDone, AllocError>

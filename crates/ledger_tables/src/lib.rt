@@ -7,4 +7,4 @@ mod tables;
 #[cfg(test)]
 mod tests;
 
-pub use tables::Tables;
+pub use tables::LedgerTables;

@@ -13,7 +13,7 @@ ghost use Rattle.vault.specs.Holdings.{IsVault};
 ghost use Rattle.ledger_tables.specs.Ledgers.{may_lock, may_book, recorded_in, outputs_in, held_with, freed_at_end, released_at_end, HasPlace, HasRecordRoom, HasEntryRoom};
 
 use ledger_types::{Entry, SignedTx};
-use net_base::{Hash32, Party, StateRef};
+use net_base::{Boxed, Hash32, Party, StateRef};
 use notary_book::Book;
 use std::alloc::{AllocError, Global};
 use tx_store::Store;
@@ -27,15 +27,16 @@ pub fn is_new(store: &Store, id: &Hash32) -> bool
 }
 
 /// Whether the references name coins once a transaction, where there is one, is recorded.
-fn are_coins(vault: &Vault, recorded: &Option<SignedTx>, refs: &[StateRef]) -> bool
+fn are_coins(vault: &Vault, recorded: &Option<Boxed<SignedTx>>, refs: &[StateRef]) -> bool
     requires { IfSome recorded.now IsSignedTx }
     ensures { result ≡ list_all (has_coin (held_with vault.now.party recorded.now vault.now.held)) refs.now }
 {
     match recorded {
         None => refs.iter().all(|r| vault.is_coin(r)),
         Some(stx) => {
-            let id = stx.tx.id();
-            refs.iter().all(|r| vault.is_coin_behind(&id, &stx.tx, r))
+            let tx = &stx.get().tx;
+            let id = tx.id();
+            refs.iter().all(|r| vault.is_coin_behind(&id, tx, r))
         }
     }
 }
@@ -54,7 +55,7 @@ fn has_repeated(refs: &[StateRef]) -> bool
 }
 
 /// Whether these states may be locked once a transaction, where there is one, is recorded.
-pub fn may_lock(vault: &Vault, recorded: &Option<SignedTx>, refs: &[StateRef]) -> bool
+pub fn may_lock(vault: &Vault, recorded: &Option<Boxed<SignedTx>>, refs: &[StateRef]) -> bool
     requires { IfSome recorded.now IsSignedTx }
     ensures { result ≡ may_lock vault.now.party recorded.now vault.now.held refs.now }
 {
@@ -62,12 +63,12 @@ pub fn may_lock(vault: &Vault, recorded: &Option<SignedTx>, refs: &[StateRef]) -
 }
 
 /// Whether an entry, where there is one, may be added to the book of a party.
-pub fn may_book(book: &Book, me: Party, notary: Party, booked: &Option<Entry>) -> bool
+pub fn may_book(book: &Book, me: Party, notary: Party, booked: &Option<Boxed<Entry>>) -> bool
     ensures { result ≡ may_book me notary book.now.entries booked.now }
 {
     match booked {
         None => true,
-        Some(entry) => me == notary && !book.has_answered(&entry.request),
+        Some(entry) => me == notary && !book.has_answered(&entry.get().request),
     }
 }
 
@@ -76,7 +77,7 @@ pub fn make_record_room(
     alloc: Global,
     store: &mut Store,
     vault: &mut Vault,
-    recorded: &Option<SignedTx>,
+    recorded: &Option<Boxed<SignedTx>>,
 ) -> Result<(), AllocError>
     ensures store { store.new.list ≡ store.old.list }
     ensures party { vault.new.party ≡ vault.old.party }
@@ -86,7 +87,7 @@ pub fn make_record_room(
 {
     if let Some(stx) = recorded {
         store.make_room(alloc)?;
-        vault.make_room(alloc, &stx.tx)?;
+        vault.make_room(alloc, &stx.get().tx)?;
     }
     Ok(())
 }
@@ -95,7 +96,7 @@ pub fn make_record_room(
 pub fn make_entry_room(
     alloc: Global,
     book: &mut Book,
-    booked: &Option<Entry>,
+    booked: &Option<Boxed<Entry>>,
 ) -> Result<(), AllocError>
     ensures entries { book.new.entries ≡ book.old.entries }
     ensures room { OnOk result (HasEntryRoom booked.now book.new) }
@@ -108,7 +109,7 @@ pub fn make_entry_room(
 }
 
 /// Stores a transaction, and notes it in the vault.
-pub fn record_next(store: &mut Store, vault: &mut Vault, recorded: Option<SignedTx>)
+pub fn record_next(store: &mut Store, vault: &mut Vault, recorded: Option<Boxed<SignedTx>>)
     requires limits { IfSome recorded IsSignedTx }
     requires next { may_record store.old.list recorded ≡ true }
     requires few { HasPlace recorded store.old.list }
@@ -121,20 +122,21 @@ pub fn record_next(store: &mut Store, vault: &mut Vault, recorded: Option<Signed
     ensures vault { (locks : List Lock) → IsVault vault.old.party (untagged store.old.list) locks vault.old.held → IsVault vault.old.party (untagged store.new.list) locks vault.new.held }
 {
     if let Some(stx) = recorded {
+        let stx = stx.into_inner();
         vault.note(&stx.tx.id(), &stx.tx);
         store.put(stx);
     }
 }
 
 /// Adds an entry to the book.
-pub fn add_entry(book: &mut Book, booked: Option<Entry>)
+pub fn add_entry(book: &mut Book, booked: Option<Boxed<Entry>>)
     requires limits { IfSome booked IsEntry }
     requires room { HasEntryRoom booked book.old }
     ensures entries { book.new.entries ≡ book.old.entries ++ option_to_list booked }
     ensures room { book.old.room ≤ book.new.room + length (option_to_list booked) }
 {
     if let Some(entry) = booked {
-        book.add(entry);
+        book.add(entry.into_inner());
     }
 }
 

@@ -15,7 +15,7 @@ use crate::parts::{
     release_ended,
 };
 use ledger_types::{LedgerChange, SignedTx};
-use net_base::Party;
+use net_base::{Boxed, Party};
 use notary_book::Book;
 use std::alloc::{AllocError, Global};
 use std::marker::Model;
@@ -25,13 +25,13 @@ use vault::{Vault, holds_each_once};
 /// The recorded transactions, the vault over them and the notary's book. At every moment the vault holds exactly what the
 /// recorded transactions leave its party, and each entry of the book is within its limits.
 #[derive(Drop)]
-pub struct Tables {
+pub struct LedgerTables {
     store: Store,
     vault: Vault,
     book: Book,
 }
 
-impl Model for Tables {
+impl Model for LedgerTables {
     ghost use Rattle.std.specs.List.{AllByRecursion};
     ghost use Rattle.ledger_types.specs.Requests.{IsEntry};
     ghost use Rattle.ledger_types.specs.Stores.{untagged};
@@ -44,16 +44,16 @@ impl Model for Tables {
     ghost invariant = { λ t. HasVault t.vault.party (untagged t.store.list) t.vault.held × AllByRecursion IsEntry t.book.entries };
 }
 
-impl Tables {
+impl LedgerTables {
     /// The tables of a party, all without contents. Takes no memory.
-    pub fn new(alloc: Global, party: Party) -> Tables
+    pub fn new(alloc: Global, party: Party) -> LedgerTables
         ensures store { result.store.list ≡ [] }
         ensures party { result.vault.party ≡ party }
         ensures held { result.vault.held ≡ [] }
         ensures book { result.book.entries ≡ [] }
         ensures vault { IsVault party [] [] result.vault.held }
     {
-        Tables {
+        LedgerTables {
             store: Store::new(alloc),
             vault: Vault::new(alloc, party),
             book: Book::new(alloc),
@@ -88,13 +88,16 @@ impl Tables {
 
     /// Whether a transaction, where there is one, may be recorded next: its id is new, and all that it depends on is recorded. It
     /// is a condition of `apply`.
-    pub fn may_record(&self, recorded: &Option<SignedTx>) -> bool
+    pub fn may_record(&self, recorded: &Option<Boxed<SignedTx>>) -> bool
         requires { IfSome recorded.now (λ stx. IsTx stx.tx) }
         ensures { result ≡ may_record self.now.store.list recorded.now }
     {
         match recorded {
             None => true,
-            Some(stx) => is_new(&self.store, &stx.tx.id()) && self.store.has_dependencies(&stx.tx),
+            Some(stx) => {
+                let tx = &stx.get().tx;
+                is_new(&self.store, &tx.id()) && self.store.has_dependencies(tx)
+            }
         }
     }
 

@@ -6,7 +6,7 @@ ghost use Rattle.ledger_types.specs.Txs.{IsTx};
 mod booking;
 mod locking;
 
-use crate::Tables;
+use crate::LedgerTables;
 use ledger_types::{LedgerChange, SignedTx, Tx};
 use net_base::{ByteList, Hash32, ListOf, Party, Reader, StateRef, Token, Writer};
 use std::alloc::{AllocError, Global};
@@ -71,7 +71,7 @@ fn output(alloc: Global, bytes: &ByteList) -> Result<StateRef, Fail> {
 }
 
 /// Records the transaction that the bytes spell, where it may be recorded next.
-fn record(alloc: Global, tables: &mut Tables, bytes: &ByteList) -> Result<bool, Fail> {
+fn record(alloc: Global, tables: &mut LedgerTables, bytes: &ByteList) -> Result<bool, Fail> {
     let tx = read(alloc, bytes)?;
     let tags = ListOf::new(alloc);
     let recorded = Some(SignedTx { tx, tags });
@@ -91,7 +91,7 @@ fn record(alloc: Global, tables: &mut Tables, bytes: &ByteList) -> Result<bool, 
 }
 
 /// What the vault holds, and what it is worth.
-fn held(alloc: Global, tables: &Tables) -> Result<(usize, u128), Fail> {
+fn held(alloc: Global, tables: &LedgerTables) -> Result<(usize, u128), Fail> {
     let list = tables.vault().unconsumed(alloc)?;
     Ok((list.len(), tables.vault().balance(&token())))
 }
@@ -118,7 +118,7 @@ fn three_in_a_row(alloc: Global) -> Result<Chain, Fail> {
 }
 
 /// Whether each was recorded: in order, out of order and again.
-fn record_all(alloc: Global, chain: &Chain, tables: &mut Tables) -> Result<[bool; 5], Fail> {
+fn record_all(alloc: Global, chain: &Chain, tables: &mut LedgerTables) -> Result<[bool; 5], Fail> {
     Ok([
         record(alloc, tables, &chain.first)?,
         record(alloc, tables, &chain.third)?,
@@ -130,7 +130,7 @@ fn record_all(alloc: Global, chain: &Chain, tables: &mut Tables) -> Result<[bool
 
 /// Whether each was recorded, and what the vault holds then.
 fn record_and_hold(alloc: Global, chain: &Chain) -> Result<([bool; 5], (usize, u128)), Fail> {
-    let mut tables = Tables::new(alloc, Party(1));
+    let mut tables = LedgerTables::new(alloc, Party(1));
     let answers = record_all(alloc, chain, &mut tables)?;
     Ok((answers, held(alloc, &tables)?))
 }

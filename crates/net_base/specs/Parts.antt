@@ -68,6 +68,6 @@ DecodesWhole within spelling (Ok v) bytes = within v × (bytes ≡ spelling v)
 DecodesWhole within spelling (Err e) bytes = WholeFault within spelling bytes e
 
 -- The value whose spelling the bytes are, or none, where they are no value's.
-abbrev pub DecodesAll : {V : Type 0} → (V → Type 0) → (V → List ℕ) → Option V → List ℕ → Type 0
-DecodesAll within spelling (Some v) bytes = within v × (bytes ≡ spelling v)
-DecodesAll {V} within spelling None bytes = (v : V) → within v → bytes ≡ spelling v → ⊥
+abbrev pub DecodesIfSpelt : {V : Type 0} → (V → Type 0) → (V → List ℕ) → Option V → List ℕ → Type 0
+DecodesIfSpelt within spelling (Some v) bytes = within v × (bytes ≡ spelling v)
+DecodesIfSpelt {V} within spelling None bytes = (v : V) → within v → bytes ≡ spelling v → ⊥

@@ -2,7 +2,7 @@
 
 ghost use Rattle.std.specs.Prelude.{◌≡◌, ◌++◌, ℕ, List, Result, IfOk};
 ghost use Rattle.net_base.specs.Reading.{Puts};
-ghost use Rattle.net_base.specs.Parts.{Gives, Writes, Decodes, DecodesWhole, DecodesAll};
+ghost use Rattle.net_base.specs.Parts.{Gives, Writes, Decodes, DecodesWhole, DecodesIfSpelt};
 
 use crate::fault::{DecodeFault, PartFault};
 use crate::reader::Reader;
@@ -114,8 +114,8 @@ pub fn decode_whole<T: Spelt>(alloc: Global, bytes: &[u8]) -> Result<T, DecodeFa
 /// # Errors
 ///
 /// `AllocError` for want of memory.
-pub fn decode_all<T: Spelt>(alloc: Global, bytes: &[u8]) -> Result<Option<T>, AllocError>
-    ensures { IfOk result (λ read. DecodesAll T.within T.spelling read bytes.now) }
+pub fn decode_if_spelt<T: Spelt>(alloc: Global, bytes: &[u8]) -> Result<Option<T>, AllocError>
+    ensures { IfOk result (λ read. DecodesIfSpelt T.within T.spelling read bytes.now) }
 {
     let mut from = Reader::new(bytes);
     match T::read_part(alloc, &mut from) {

@@ -32,7 +32,7 @@ use flow_machine::{FlowSet, MakeFault};
 use flow_records::{Step, spell_step};
 use flow_steps::{advance, answer_init, arrive_item, begin, flow_in, pick_event};
 use net_base::{ByteList, Cause, Event, Identity, Key, Moment, Spelt, Unlimited};
-use node_tables::{RebuildFault, Tables, rebuild};
+use node_tables::{RebuildFault, NodeTables, rebuild};
 use outside::{Bay, Disk, NoFuse};
 use session_frames::{Judged, OutgoingList, frames_to_send, judge};
 use session_table::Item;
@@ -46,7 +46,7 @@ const LAST_STAMP: u64 = 9_223_372_036_854_775_807;
 #[derive(Drop)]
 pub struct Up<D: Disk, F: Spelt + Drop> {
     journal: Journal<D>,
-    tables: Tables<F>,
+    tables: NodeTables<F>,
     // the flows that a turn need not look at
     idle: Idle,
 }
@@ -413,7 +413,7 @@ impl<D: Bay, F: Spelt + Drop> Up<D, F> {
 fn log<D: Disk, F: FlowSet>(
     alloc: Global,
     journal: &mut Journal<D>,
-    tables: &mut Tables<F>,
+    tables: &mut NodeTables<F>,
     step: &Step<F>,
 ) -> Result<ByteList, CommitFault>
     requires tied { Tied journal.old.of journal.old tables.old.bodies }

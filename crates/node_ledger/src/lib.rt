@@ -5,4 +5,4 @@ mod laws;
 mod tables;
 
 pub use laws::change_fits_as_ruled;
-pub use tables::{add, fits, make_room, new_ledger};
+pub use tables::{add_change, change_fits, make_change_room, new_ledger};

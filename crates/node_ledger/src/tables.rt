@@ -9,20 +9,20 @@ ghost use Rattle.ledger_tables.specs.Ledgers.{may_apply, HasPlace, HasRecordRoom
 ghost use Rattle.net_model.specs.State.{FlowPart};
 ghost use Rattle.node_ledger.specs.Ledgered.{LedgerState, HoldsLedger, IsBy, ledger_after};
 
-use ledger_tables::Tables;
+use ledger_tables::LedgerTables;
 use ledger_types::LedgerChange;
 use net_base::Party;
 use std::alloc::{AllocError, Global};
 
 /// The ledger of a party to which nothing has happened. Takes no memory.
-pub fn new_ledger(alloc: Global, party: Party) -> Tables
+pub fn new_ledger(alloc: Global, party: Party) -> LedgerTables
     ensures { HoldsLedger party (record { stored = []; locked = []; entries = [] }) result }
 {
-    Tables::new(alloc, party)
+    LedgerTables::new(alloc, party)
 }
 
 /// Whether a change fits, at a node whose network has this notary.
-pub fn fits(ledger: &Tables, notary: Party, change: &LedgerChange) -> bool
+pub fn change_fits(ledger: &LedgerTables, notary: Party, change: &LedgerChange) -> bool
     requires { IfSome change.now.recorded IsSignedTx }
     ensures { result ≡ may_apply ledger.now.vault.party notary ledger.now.store.list ledger.now.vault.held ledger.now.book.entries change.now }
 {
@@ -30,9 +30,9 @@ pub fn fits(ledger: &Tables, notary: Party, change: &LedgerChange) -> bool
 }
 
 /// Makes room for a change. Want of memory leaves what the tables hold.
-pub fn make_room(
+pub fn make_change_room(
     alloc: Global,
-    ledger: &mut Tables,
+    ledger: &mut LedgerTables,
     change: &LedgerChange,
 ) -> Result<(), AllocError>
     ensures holds { (me : OfParty) (s : LedgerState) → HoldsLedger me s ledger.old → HoldsLedger me s ledger.new }
@@ -43,7 +43,7 @@ pub fn make_room(
 }
 
 /// Applies a change that fits, in the room that was made. What the tables hold then is what the machine's effect makes of it.
-pub fn add<F>(ledger: &mut Tables, notary: Party, change: LedgerChange)
+pub fn add_change<F>(ledger: &mut LedgerTables, notary: Party, change: LedgerChange)
     requires transaction { IfSome change.recorded IsSignedTx }
     requires entry { IfSome change.booked IsEntry }
     requires fits { may_apply ledger.old.vault.party notary ledger.old.store.list ledger.old.vault.held ledger.old.book.entries change ≡ true }

@@ -7,7 +7,7 @@ ghost use Rattle.node_tables.specs.Journals.{state_of};
 ghost use Rattle.node_tables.specs.Fits.{fits};
 ghost use Rattle.node_tables.specs.Seen.{padded, RebuildsAs, TakesAs};
 
-use crate::table::{Tables, let_go};
+use crate::table::{NodeTables, let_go};
 use flow_records::Step;
 use net_base::{ByteList, Party, RecordList, Spelt};
 use std::alloc::{AllocError, Global};
@@ -26,7 +26,7 @@ pub enum RebuildFault {
 
 /// Takes a record that fits. Want of memory leaves the tables as they were.
 fn take_step<F: Spelt + Drop>(
-    tables: &mut Tables<F>,
+    tables: &mut NodeTables<F>,
     alloc: Global,
     body: ByteList,
     step: Step<F>,
@@ -55,7 +55,7 @@ fn take_step<F: Spelt + Drop>(
 
 /// Takes the record whose body this is, where it fits; its gate is at the place.
 fn take<F: Spelt + Drop>(
-    tables: &mut Tables<F>,
+    tables: &mut NodeTables<F>,
     alloc: Global,
     at: u64,
     body: ByteList,
@@ -89,13 +89,13 @@ pub fn rebuild<F: Spelt + Drop>(
     nodes: u8,
     notary: Party,
     list: RecordList,
-) -> Result<Tables<F>, RebuildFault>
+) -> Result<NodeTables<F>, RebuildFault>
     requires party { party.0 < 16 }
     requires nodes { nodes ≤ 16 }
     requires few { length list ≤ 65536 }
     ensures { RebuildsAs F.reading notary nodes party list result }
 {
-    let mut tables = Tables::new(alloc, party, nodes, notary);
+    let mut tables = NodeTables::new(alloc, party, nodes, notary);
     for (at, body) in list.into_vec() {
         if let Err(why) = take(&mut tables, alloc, at, body) {
             return Err(why);

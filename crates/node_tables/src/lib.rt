@@ -10,4 +10,4 @@ mod table;
 
 pub use boot::{RebuildFault, rebuild};
 pub use laws::fits_as_ruled;
-pub use table::Tables;
+pub use table::NodeTables;

@@ -28,10 +28,10 @@ use crate::fitting::{
 use crate::roomy::Roomy;
 use checkpoints::Flows;
 use flow_records::{FlowAfter, Step, read_step};
-use ledger_tables::Tables as Ledger;
+use ledger_tables::LedgerTables;
 use ledger_types::LedgerChange;
 use net_base::{ByteList, Cause, Event, Key, Moment, Party, Spelt};
-use node_ledger::{add as add_change, fits as fits_change, make_room as make_ledger_room, new_ledger};
+use node_ledger::{add_change, change_fits, make_change_room, new_ledger};
 use session_table::Sessions;
 use session_wire::SessionChange;
 use std::alloc::{AllocError, Global};
@@ -40,7 +40,7 @@ use std::marker::Model;
 /// The tables of a node, seen as the bodies of its records: all else is what these make, but how many of the items that it sent are
 /// acknowledged. Nothing is asked of frames but how they are spelt, so no flow is resumed here.
 #[derive(Drop)]
-pub struct Tables<F: Spelt + Drop> {
+pub struct NodeTables<F: Spelt + Drop> {
     party: Party,
     nodes: u8,
     notary: Party,
@@ -48,12 +48,12 @@ pub struct Tables<F: Spelt + Drop> {
     causes: Roomy<Cause>,
     flows: Flows<F>,
     sessions: Sessions,
-    ledger: Ledger,
+    ledger: LedgerTables,
     stamp: u64,
     moment: Moment,
 }
 
-impl<F: Spelt + Drop> Model for Tables<F> {
+impl<F: Spelt + Drop> Model for NodeTables<F> {
     ghost use Rattle.std.specs.Prelude.{◌≡◌, ◌≤◌, ◌&&◌, nat_lt, length, if◌then◌else◌};
     ghost use Rattle.node_tables.specs.Seen.{TablesSeen, Keeps};
     ghost use Rattle.node_tables.specs.Journals.{state_of};
@@ -66,9 +66,9 @@ impl<F: Spelt + Drop> Model for Tables<F> {
     ghost invariant = { λ t. (t.sessions.party ≡ t.party) × Keeps t.party F.reading F.within t.bodies.items t.causes.items (ledger_in (state_of F.reading t.bodies.items)) t.flows.flows t.sessions.list t.stamp t.moment.0 × (t.nodes ≤ 16) × (length t.sessions.acked ≡ length t.sessions.list) × HoldsLedger t.party (ledger_in (state_of F.reading t.bodies.items)) t.ledger };
 }
 
-impl<F: Spelt + Drop> Tables<F> {
+impl<F: Spelt + Drop> NodeTables<F> {
     /// The tables of a node to which nothing has happened. A network has 16 nodes at most. Takes no memory.
-    pub fn new(alloc: Global, party: Party, nodes: u8, notary: Party) -> Tables<F>
+    pub fn new(alloc: Global, party: Party, nodes: u8, notary: Party) -> NodeTables<F>
         requires party { party.0 < 16 }
         requires nodes { nodes ≤ 16 }
         ensures party { result.party ≡ party }
@@ -77,7 +77,7 @@ impl<F: Spelt + Drop> Tables<F> {
         ensures bodies { result.bodies ≡ [] }
         ensures acked { result.acked ≡ [] }
     {
-        Tables {
+        NodeTables {
             party,
             nodes,
             notary,
@@ -135,7 +135,7 @@ impl<F: Spelt + Drop> Tables<F> {
         requires { IsStep F.within step.now }
         ensures { result ≡ fits_ledger self.now.notary self.now.party (state_of F.reading self.now.bodies) (whole_part step.now.session step.now.ledger) }
     {
-        fits_change(&self.ledger, self.notary, &step.ledger)
+        change_fits(&self.ledger, self.notary, &step.ledger)
     }
 
     /// Whether the effect is one that such an event may have.
@@ -286,7 +286,7 @@ impl<F: Spelt + Drop> Tables<F> {
     }
 
     /// The ledger: what is recorded, locked and booked.
-    pub fn ledger(&self) -> &Ledger
+    pub fn ledger(&self) -> &LedgerTables
         ensures { HoldsLedger self.now.party (ledger_in (state_of F.reading self.now.bodies)) result.now }
     {
         &self.ledger
@@ -388,7 +388,7 @@ fn make_all_room<F: Drop>(
     causes: &mut Roomy<Cause>,
     flows: &mut Flows<F>,
     sessions: &mut Sessions,
-    ledger: &mut Ledger,
+    ledger: &mut LedgerTables,
     session: &SessionChange,
     change: &LedgerChange,
 ) -> Result<(), AllocError>
@@ -410,7 +410,7 @@ fn make_all_room<F: Drop>(
     causes.make_room()?;
     flows.make_room()?;
     sessions.make_room(alloc, session)?;
-    make_ledger_room(alloc, ledger, change)
+    make_change_room(alloc, ledger, change)
 }
 
 /// The flow is this one now, if one changed.

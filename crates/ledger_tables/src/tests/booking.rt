@@ -6,7 +6,7 @@ ghost use Rattle.net_base.specs.Names.{IsStateRef};
 ghost use Rattle.ledger_types.specs.Txs.{IsTx};
 ghost use Rattle.ledger_types.specs.Requests.{IsRequest, IsEntry, IsNotaryAnswer};
 
-use crate::Tables;
+use crate::LedgerTables;
 use crate::tests::{hash, read};
 use ledger_types::{Entry, LedgerChange, NotaryAnswer, RefList, Request, Tx};
 use net_base::{ByteList, Identity, ListOf, Moment, Party, Tag, Writer};
@@ -50,7 +50,7 @@ fn request_of(alloc: Global, tx: &Tx, flow: u32) -> Result<Request, AllocError>
 /// What the notary replies, and the inputs that it saw.
 fn decide(
     alloc: Global,
-    tables: &Tables,
+    tables: &LedgerTables,
     request: &Request,
     now: Moment,
 ) -> Result<(RefList, Decision), TearFault>
@@ -91,7 +91,7 @@ fn entry_of(request: Request, inputs: RefList, answer: NotaryAnswer, fresh: bool
 }
 
 /// Books an entry, if there is one.
-fn book(alloc: Global, tables: &mut Tables, booked: Option<Entry>) -> Result<(), AllocError>
+fn book(alloc: Global, tables: &mut LedgerTables, booked: Option<Entry>) -> Result<(), AllocError>
     requires { IfSome booked IsEntry }
 {
     let change = LedgerChange {
@@ -109,7 +109,7 @@ fn book(alloc: Global, tables: &mut Tables, booked: Option<Entry>) -> Result<(),
 /// The code of what the notary replies, and whether it is fresh. What is fresh is booked.
 fn answer(
     alloc: Global,
-    tables: &mut Tables,
+    tables: &mut LedgerTables,
     request: Request,
     now: Moment,
 ) -> Result<(u8, bool), TearFault>
@@ -128,7 +128,12 @@ fn answer(
     }
 }
 
-fn ask(alloc: Global, tables: &mut Tables, flow: u32, now: Moment) -> Result<(u8, bool), Fail> {
+fn ask(
+    alloc: Global,
+    tables: &mut LedgerTables,
+    flow: u32,
+    now: Moment,
+) -> Result<(u8, bool), Fail> {
     let tx = read(alloc, &spell_from_five(alloc)?)?;
     let request = request_of(alloc, &tx, flow);
     forget(tx);
@@ -136,7 +141,7 @@ fn ask(alloc: Global, tables: &mut Tables, flow: u32, now: Moment) -> Result<(u8
 }
 
 /// What is replied to flow 4 ahead of the window, to flow 4 again inside it, and to flow 5 there.
-fn ask_thrice(alloc: Global, tables: &mut Tables) -> Result<[(u8, bool); 3], Fail> {
+fn ask_thrice(alloc: Global, tables: &mut LedgerTables) -> Result<[(u8, bool); 3], Fail> {
     Ok([
         ask(alloc, tables, 4, Moment(3))?,
         ask(alloc, tables, 4, Moment(7))?,
@@ -145,7 +150,7 @@ fn ask_thrice(alloc: Global, tables: &mut Tables) -> Result<[(u8, bool); 3], Fai
 }
 
 /// Flow and code of both entries.
-fn booked(tables: &Tables) -> [(u32, u8); 2] {
+fn booked(tables: &LedgerTables) -> [(u32, u8); 2] {
     match tables.book().entries() {
         [a, b] => [
             (a.request.flow, a.answer.code()),
@@ -157,7 +162,7 @@ fn booked(tables: &Tables) -> [(u32, u8); 2] {
 
 #[test]
 fn a_repeated_request_has_its_first_answer(rt: HostRuntime) -> Result<(), Fail> {
-    let mut tables = Tables::new(rt.alloc(), Party(0));
+    let mut tables = LedgerTables::new(rt.alloc(), Party(0));
     let replies = ask_thrice(rt.alloc(), &mut tables)?;
     assert_eq!(rt; replies, [(45, true), (45, false), (0, true)]);
     assert_eq!(rt; booked(&tables), [(4, 45), (5, 0)]);

@@ -5,7 +5,7 @@ ghost use Rattle.std.specs.List.{list_all};
 ghost use Rattle.ledger_types.specs.Names.{ref_eq, has_repeat};
 ghost use Rattle.ledger_types.specs.Vaults.{has_coin};
 
-use crate::Tables;
+use crate::LedgerTables;
 use crate::tests::{output, record, spell, token};
 use ledger_types::LedgerChange;
 use net_base::{ListOf, Party, StateRef};
@@ -15,7 +15,7 @@ use std::test::Fail;
 use vault::ReserveFault;
 
 /// The references of two coins, of 100 and of 50, and tables that hold them.
-fn two_coins(alloc: Global, tables: &mut Tables) -> Result<[StateRef; 2], Fail> {
+fn two_coins(alloc: Global, tables: &mut LedgerTables) -> Result<[StateRef; 2], Fail> {
     let first = spell(alloc, 1, 100, &[], &[])?;
     let second = spell(alloc, 2, 50, &[], &[])?;
     record(alloc, tables, &first)?;
@@ -24,7 +24,7 @@ fn two_coins(alloc: Global, tables: &mut Tables) -> Result<[StateRef; 2], Fail> 
 }
 
 /// Locks one state for a flow, where it is a coin.
-fn lock(alloc: Global, tables: &mut Tables, flow: u32, coin: StateRef) -> Result<bool, Fail> {
+fn lock(alloc: Global, tables: &mut LedgerTables, flow: u32, coin: StateRef) -> Result<bool, Fail> {
     if !tables.vault().is_coin(&coin) {
         return Ok(false);
     }
@@ -41,7 +41,7 @@ fn lock(alloc: Global, tables: &mut Tables, flow: u32, coin: StateRef) -> Result
 }
 
 /// Ends a flow.
-fn end(alloc: Global, tables: &mut Tables, flow: u32) -> Result<(), Fail> {
+fn end(alloc: Global, tables: &mut LedgerTables, flow: u32) -> Result<(), Fail> {
     let change = LedgerChange {
         recorded: None,
         locked: ListOf::new(alloc),
@@ -55,7 +55,7 @@ fn end(alloc: Global, tables: &mut Tables, flow: u32) -> Result<(), Fail> {
 }
 
 /// Which flows have the states locked, in order.
-fn lockers(alloc: Global, tables: &Tables) -> Result<[Option<u32>; 2], Fail> {
+fn lockers(alloc: Global, tables: &LedgerTables) -> Result<[Option<u32>; 2], Fail> {
     Ok(match tables.vault().unconsumed(alloc)?.as_slice() {
         [a, b] => [a.locked, b.locked],
         _ => [Some(99), Some(99)],
@@ -63,7 +63,7 @@ fn lockers(alloc: Global, tables: &Tables) -> Result<[Option<u32>; 2], Fail> {
 }
 
 /// What a reservation of 60 names, by how many coins, and the sum of a short one, else 0.
-fn reserve(alloc: Global, tables: &Tables) -> (usize, u128) {
+fn reserve(alloc: Global, tables: &LedgerTables) -> (usize, u128) {
     match tables.vault().reserve(alloc, &token(), 60) {
         Ok(list) => (list.len(), 0),
         Err(ReserveFault::Short { have }) => (0, have),
@@ -72,14 +72,14 @@ fn reserve(alloc: Global, tables: &Tables) -> (usize, u128) {
 }
 
 /// Whether the first coin could be locked by flow 7, and then by flow 8.
-fn lock_twice(alloc: Global, tables: &mut Tables, coin: StateRef) -> Result<[bool; 2], Fail> {
+fn lock_twice(alloc: Global, tables: &mut LedgerTables, coin: StateRef) -> Result<[bool; 2], Fail> {
     Ok([lock(alloc, tables, 7, coin)?, lock(alloc, tables, 8, coin)?])
 }
 
 /// What a reservation of 60 names, and which flows have the two states locked.
 type Seen = ((usize, u128), [Option<u32>; 2]);
 
-fn look(alloc: Global, tables: &Tables) -> Result<Seen, Fail> {
+fn look(alloc: Global, tables: &LedgerTables) -> Result<Seen, Fail> {
     Ok((reserve(alloc, tables), lockers(alloc, tables)?))
 }
 
@@ -87,7 +87,7 @@ fn look(alloc: Global, tables: &Tables) -> Result<Seen, Fail> {
 /// could lock it.
 fn lock_and_end(
     alloc: Global,
-    tables: &mut Tables,
+    tables: &mut LedgerTables,
     coin: StateRef,
 ) -> Result<([bool; 2], [Seen; 4]), Fail> {
     let free = look(alloc, tables)?;
@@ -101,7 +101,7 @@ fn lock_and_end(
 
 #[test]
 fn locks_and_releases_at_the_end(rt: HostRuntime) -> Result<(), Fail> {
-    let mut tables = Tables::new(rt.alloc(), Party(1));
+    let mut tables = LedgerTables::new(rt.alloc(), Party(1));
     let [coin, _] = two_coins(rt.alloc(), &mut tables)?;
     let (could, seen) = lock_and_end(rt.alloc(), &mut tables, coin)?;
     forget(tables);
@@ -115,7 +115,7 @@ fn locks_and_releases_at_the_end(rt: HostRuntime) -> Result<(), Fail> {
 /// Locks coins for a flow.
 fn lock_all(
     alloc: Global,
-    tables: &mut Tables,
+    tables: &mut LedgerTables,
     flow: u32,
     coins: &[StateRef],
 ) -> Result<usize, AllocError>
@@ -137,7 +137,7 @@ fn lock_all(
 /// Locks for a flow all that a reservation of the amount names, as it stands, and tells how many coins that are: one or two, else 0.
 fn reserve_and_lock(
     alloc: Global,
-    tables: &mut Tables,
+    tables: &mut LedgerTables,
     flow: u32,
     amount: u64,
 ) -> Result<usize, AllocError> {
@@ -154,7 +154,7 @@ fn reserve_and_lock(
 }
 
 /// How many coins flow 7 locks for 60, flow 8 for 60 more, flow 8 for 50 and, once both have ended, flow 9 for 150.
-fn reserve_in_turn(alloc: Global, tables: &mut Tables) -> Result<[usize; 4], Fail> {
+fn reserve_in_turn(alloc: Global, tables: &mut LedgerTables) -> Result<[usize; 4], Fail> {
     let first = reserve_and_lock(alloc, tables, 7, 60)?;
     let short = reserve_and_lock(alloc, tables, 8, 60)?;
     let second = reserve_and_lock(alloc, tables, 8, 50)?;
@@ -170,7 +170,7 @@ fn reserve_in_turn(alloc: Global, tables: &mut Tables) -> Result<[usize; 4], Fai
 
 #[test]
 fn locks_what_a_reservation_names(rt: HostRuntime) -> Result<(), Fail> {
-    let mut tables = Tables::new(rt.alloc(), Party(1));
+    let mut tables = LedgerTables::new(rt.alloc(), Party(1));
     two_coins(rt.alloc(), &mut tables)?;
     let counts = reserve_in_turn(rt.alloc(), &mut tables)?;
     let lockers = lockers(rt.alloc(), &tables)?;

@@ -1,7 +1,7 @@
 use Rattle.std.proofs.Common.{arith}
 use Rattle.net_base.specs.Reading.{IsBytes}
 use Rattle.net_base.proofs.Whole.{is_whole, unread_none, longer_none}
-use Rattle.net_base.proofs.spelt.decode_all.Goals as goal
+use Rattle.net_base.proofs.spelt.decode_if_spelt.Goals as goal
 
 pub returns-then-remaining-gt0 : goal.returns-then-remaining-gt0
 returns-then-remaining-gt0 g c =

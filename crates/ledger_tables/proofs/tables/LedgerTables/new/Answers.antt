@@ -6,7 +6,7 @@ use Rattle.ledger_types.specs.declared.tx.SignedTx.{SignedTx}
 use Rattle.ledger_types.specs.Requests.{IsEntry}
 use Rattle.ledger_types.specs.Stores.{untagged}
 use Rattle.vault.specs.Holdings.{IsVault}
-use Rattle.ledger_tables.proofs.tables.Tables.new.Goals as goal
+use Rattle.ledger_tables.proofs.tables.LedgerTables.new.Goals as goal
 
 pub invariant_of-result : goal.invariant_of-result
 invariant_of-result c =

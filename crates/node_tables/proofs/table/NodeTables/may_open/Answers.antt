@@ -1,7 +1,7 @@
 use Rattle.node_tables.specs.Journals.{state_of}
 use Rattle.node_tables.proofs.Runs.{own_of}
 use Rattle.node_tables.proofs.Deciding.{owns_is}
-use Rattle.node_tables.proofs.table.Tables.may_open.Goals as goal
+use Rattle.node_tables.proofs.table.NodeTables.may_open.Goals as goal
 
 pub returns-in-Some : goal.returns-in-Some
 returns-in-Some g c =

@@ -1,7 +1,7 @@
 use Rattle.std.proofs.Common.{◌∙◌}
 use Rattle.node_tables.specs.Journals.{state_of}
 use Rattle.node_tables.proofs.Ledgered.{may_is}
-use Rattle.node_tables.proofs.table.Tables.fits_ledger.Goals as goal
+use Rattle.node_tables.proofs.table.NodeTables.fits_ledger.Goals as goal
 
 pub returns : goal.returns
 returns g c =

@@ -5,7 +5,7 @@ use Rattle.node_tables.specs.Journals.{state_of, state_with}
 use Rattle.flow_records.specs.Steps.{whole_part}
 use Rattle.node_tables.specs.Fits.{fits_ledger}
 use Rattle.node_tables.proofs.Deciding.{fits_is, not_in_order, not_by_event, not_opened}
-use Rattle.node_tables.proofs.table.Tables.fits.Goals as goal
+use Rattle.node_tables.proofs.table.NodeTables.fits.Goals as goal
 
 -- that all five tests hold, where the first three do
 abbrev all_of : Bool → Bool → Bool

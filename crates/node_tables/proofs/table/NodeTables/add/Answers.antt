@@ -5,7 +5,7 @@ use Rattle.node_ledger.specs.Ledgered.{LedgerState, ledger_in, HoldsLedger}
 use Rattle.node_tables.specs.Journals.{state_of}
 use Rattle.node_tables.proofs.Runs.{kept_next, ledger_next, ledger_fits, own_of, acked_add, change_fits_here, few_came, few_sent, place_there}
 use Rattle.node_tables.proofs.Acked.{acks_length}
-use Rattle.node_tables.proofs.table.Tables.add.Goals as goal
+use Rattle.node_tables.proofs.table.NodeTables.add.Goals as goal
 
 pub apply-requires-clause-fits : goal.apply-requires-clause-fits
 apply-requires-clause-fits g c =

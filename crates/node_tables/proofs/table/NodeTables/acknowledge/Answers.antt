@@ -1,6 +1,6 @@
 use Rattle.std.proofs.Common.{◌∙◌}
 use Rattle.node_tables.proofs.Acked.{raised_length}
-use Rattle.node_tables.proofs.table.Tables.acknowledge.Goals as goal
+use Rattle.node_tables.proofs.table.NodeTables.acknowledge.Goals as goal
 
 pub invariant_of-self : goal.invariant_of-self
 invariant_of-self g c =

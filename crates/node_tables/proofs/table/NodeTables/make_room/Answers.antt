@@ -1,5 +1,5 @@
 use Rattle.std.proofs.Common.{◌∙◌}
-use Rattle.node_tables.proofs.table.Tables.make_room.Goals as goal
+use Rattle.node_tables.proofs.table.NodeTables.make_room.Goals as goal
 
 pub invariant_of-self : goal.invariant_of-self
 invariant_of-self g c =
