@@ -5,8 +5,6 @@
 #![tactic(auto)]
 
 mod table;
-#[cfg(test)]
-mod tests;
 
 pub use flow_machine::{Checkpoint, FlowState, Stack};
 pub use table::{FlowView, Flows};

@@ -14,8 +14,6 @@ mod flows;
 #[cfg(test)]
 mod spelling_tests;
 mod stack;
-#[cfg(test)]
-mod tests;
 
 pub use act_spelling::FrameBytes;
 pub use acts::{Act, Place, Resumed};

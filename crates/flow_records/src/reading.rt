@@ -1,4 +1,4 @@
-//! What the bytes of a record tell of beside the ledger.
+//! What the bytes of a record tell of: the step that made it.
 
 ghost use Rattle.std.specs.Prelude.{◌≡◌, ◌≤◌, length, Option, Some, None, IfOk, IfSome, option_map};
 ghost use Rattle.transition_record.specs.Causes.{IsCause};
@@ -148,8 +148,8 @@ fn step_of<F: Spelt + Drop>(
     Ok(joined(told, cause, session, ledger))
 }
 
-/// The step whose record the bytes are: `None` exactly where they are no record, or their checkpoint is none of the flow set's. The bytes of what the step changes in the sessions
-/// are a part of the record's.
+/// The step whose record the bytes are: `None` exactly where they are no record, or their checkpoint is none of the flow set's. The
+/// bytes of what the step changes in the sessions are a part of the record's.
 ///
 /// # Errors
 ///

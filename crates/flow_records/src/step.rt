@@ -1,4 +1,4 @@
-//! What a record tells of beside the ledger.
+//! What a record tells of.
 
 use flow_machine::FlowState;
 use ledger_types::LedgerChange;

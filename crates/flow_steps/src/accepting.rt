@@ -16,7 +16,7 @@ ghost use Rattle.flow_steps.specs.Ready.{IsReady};
 use crate::ready::first_state;
 use crate::resuming::{let_go, place_of};
 use flow_machine::{FlowSet, MakeFault};
-use flow_records::{FlowAfter, Step, quiet};
+use flow_records::{FlowAfter, Step, unchanged_ledger};
 use net_base::{Cause, Event, Identity, Key, Moment, Unlimited};
 use session_acts::{answer, arrive};
 use session_wire::{Body, SessionChange};
@@ -61,7 +61,7 @@ fn whole<F>(
 ) -> Step<F>
     ensures { result ≡ record { cause = cause; flow = flow; session = session; ledger = no_ledger (owner_of flow) (ends_with flow) } }
 {
-    let ledger = quiet(alloc, &flow);
+    let ledger = unchanged_ledger(alloc, &flow);
     Step {
         cause,
         flow,

@@ -20,7 +20,7 @@ ghost use Rattle.flow_steps.specs.Ready.{AreKept};
 
 use crate::resuming::{call, hand_down, let_go, resume};
 use flow_machine::{Act, Checkpoint, FlowSet, FlowState, Resumed};
-use flow_records::{FlowAfter, Step, quiet};
+use flow_records::{FlowAfter, Step, unchanged_ledger};
 use ledger_types::Value;
 use net_base::{Cause, Identity, Key, Party, Unlimited};
 use session_acts::{Performed, end_sessions, open, receive, send, unchanged};
@@ -39,7 +39,7 @@ pub(crate) fn step_of<F>(
     ensures { result ≡ record { cause = cause; flow = Some (record { number = number; state = state }); session = session; ledger = no_ledger number (is_over state) } }
 {
     let flow = Some(FlowAfter { number, state });
-    let ledger = quiet(alloc, &flow);
+    let ledger = unchanged_ledger(alloc, &flow);
     Step {
         cause,
         flow,

@@ -19,8 +19,6 @@ mod reader;
 mod records;
 mod spelt;
 mod tested;
-#[cfg(test)]
-mod tests;
 mod values;
 mod writer;
 

@@ -14,7 +14,9 @@ pub trait Spelt: Sized + Drop {
     ghost use Rattle.std.specs.Prelude.{◌≡◌, ℕ, List, Result};
     ghost use Rattle.net_base.specs.Laws.{LawsIf};
 
-    /// Holds where each fault is the first one.
+    /// Whether faults are exact: where it holds, the place of a refusal is the first one at which no value's spelling can go on. Of a
+    /// type that says otherwise no more is known of a refused place than where the reader stood. It holds unless a type says
+    /// otherwise.
     ghost exact: { Type 0 } = { Unit {0} };
 
     /// The value's bytes.
@@ -81,7 +83,7 @@ pub fn encode<T: Spelt>(alloc: Global, value: &T, out: &mut Writer) -> Result<()
     }
 }
 
-/// The value whose spelling all of the bytes are.
+/// The value whose spelling all of the bytes are, of a type whose faults are exact.
 ///
 /// # Errors
 ///
@@ -108,8 +110,8 @@ pub fn decode_whole<T: Spelt>(alloc: Global, bytes: &[u8]) -> Result<T, DecodeFa
     }
 }
 
-/// The value whose spelling all of the bytes are, `None` exactly where they are no value's spelling. It asks of the type no more than
-/// that it is spelt: it doesn't tell where the bytes stop to be a spelling, as `decode_whole` does.
+/// The value whose spelling all of the bytes are, `None` exactly where they are no value's spelling. Its type need not have exact
+/// faults: where the bytes stop being a spelling is not told, as it is by `decode_whole`.
 ///
 /// # Errors
 ///

@@ -11,8 +11,6 @@ mod ping;
 mod probe;
 mod set;
 mod shared;
-#[cfg(test)]
-mod tests;
 
 pub use echo::{Echo, EchoPhase};
 pub use meeting::a_ping_returns_its_count;

@@ -9,6 +9,3 @@ mod record;
 mod session;
 
 pub use record::{RECORD_LIMIT, decode_record, encode_parts, encode_record, writer_with_room};
-
-#[cfg(test)]
-mod tests;
