@@ -11,6 +11,5 @@ mod step;
 
 pub use laws::few_values_are_short;
 pub use reading::read_step;
-pub use spelling::{no_ledger, unchanged_ledger, spell_step};
+pub use spelling::{no_ledger, spell_step, unchanged_ledger};
 pub use step::{FlowAfter, Step};
-
