@@ -6,19 +6,19 @@
 #![tactic(auto)]
 
 mod change;
+mod equality;
 mod held;
 mod id;
 mod notary;
 pub mod parts;
 mod state;
-#[cfg(test)]
-mod tests;
 mod torn;
 mod tx;
 mod value;
 mod verdict;
 
 pub use change::LedgerChange;
+pub use equality::same_tags;
 pub use held::{Held, HeldList};
 pub use notary::{
     ConflictItem, ConflictList, Entry, NotaryAnswer, RefKind, Request, consumer_hash,
