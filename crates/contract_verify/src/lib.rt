@@ -10,8 +10,6 @@ mod contract;
 mod judge;
 mod judging;
 mod laws;
-#[cfg(test)]
-mod tests;
 
 pub use book::ContractBook;
 pub use contract::{BoxedContract, LedgerContract};

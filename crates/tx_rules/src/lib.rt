@@ -13,8 +13,6 @@ mod notaries;
 mod references;
 mod shape;
 mod signers;
-#[cfg(test)]
-mod tests;
 
 pub use checking::{Broken, check, first_true};
 pub use laws::signed_where_none_is_missing;
