@@ -40,3 +40,10 @@ pub mod Pairing
 pub mod Beginning
 pub mod Loops
 pub mod NewDisks
+pub mod KeepingNodes
+pub mod KeepingLinks
+pub mod KeepingSteps
+pub mod KeepingWays
+pub mod KeepingCalls
+pub mod KeepingMoments
+pub mod KeepingCauses
