@@ -14,9 +14,10 @@ use Rattle.network_core.specs.Drains.{Pair, pair_steps}
 use Rattle.network_core.specs.Ways.{Way, stay, by_part, by_step, CallsAreWays, PairsAreBoth}
 use Rattle.network_core.specs.declared.steps.Step.{Step}
 use Rattle.network_core.specs.declared.steps.Step.TheVariants as step
-use Rattle.network_core.specs.Served.{Follows, Links, none, more, PairServes, PairLinks, begin, go_on, PairFollows}
+use Rattle.network_core.specs.Served.{PairServes, PairLinks, begin, go_on, PairFollows}
 use Rattle.network_core.proofs.Driving.{to_net, to_world}
 use Rattle.network_core.proofs.Mapping.{drains_go, drains_map}
+use Rattle.network_core.proofs.Pairing.{follows_worlds}
 
 module _ {F : Type 0} (m : Machine F) (f : Reads F) (id : Identity) where
   abbrev e : Environment F
@@ -62,15 +63,6 @@ pub calls_are_ways : {F : Type 0} → CallsAreWays F
 calls_are_ways m f id a b = record { apply = apply_way m f id a b; apply_all = follows_way m f id a b; drain = λ o h. drain_way m f id a o b h.0 }
 
 -- ---- the worlds alone, and the networks alone
-
-module _ {F : Type 0} (m : Machine F) (f : Reads F) (id : Identity) where
-  links_worlds : (a b : Pair (environment m f id)) (steps : List Step) (outcomes : List Outcome) → PairLinks m f id steps outcomes a b → Links (environment m f id) steps outcomes a.world b.world
-  links_worlds a b steps outcomes (begin no_step nothing is) = none no_step nothing (ap (λ (z : Pair (environment m f id)). z.world) is)
-  links_worlds a b all longer (go_on {steps = steps} {outcomes = outcomes} {c = c} s o before serves all_is longer_is) = more s o (links_worlds a c steps outcomes before) serves.1 all_is longer_is
-
-  follows_worlds : (a b : Pair (environment m f id)) (steps : List Step) (outcomes : List Outcome) (all : Bool) → PairFollows m f id steps outcomes all a b → Follows (environment m f id) steps outcomes all a.world b.world
-  follows_worlds a b steps outcomes true h = links_worlds a b steps outcomes h
-  follows_worlds a b steps outcomes false (first, s, rest, c, is, before, serves) = (first, s, rest, c.world, is, links_worlds a c first outcomes before, serves.1)
 
 pub pairs_are_both : {F : Type 0} → PairsAreBoth F
 pairs_are_both m f id a b = record {

@@ -116,8 +116,8 @@ module _ {F : Type 0} (m : Machine F) (f : Reads F) (id : Identity) (w : World) 
         record {
           identity_is = id_is;
           images = weaker n.disk.state k.disk.state (OldOrMore bodies body n.disk.state) (Fine e w p n)
-          (λ c may. ⊎_elim (λ is. (b, image, inl (is ∙ sym stands.1 ∙ sym was))) (λ is. (b, image, inr (adds (journal_of c) is))) may)
-          (moves.images shows.tells);
+              (λ c may. ⊎_elim (λ is. (b, image, inl (is ∙ sym stands.1 ∙ sym was))) (λ is. (b, image, inr (adds (journal_of c) is))) may)
+              (moves.images shows.tells);
           sound = λ all. form.sound shows.tells all;
         }
 

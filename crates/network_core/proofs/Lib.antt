@@ -35,7 +35,6 @@ pub mod Places
 pub mod Booting
 pub mod Delivering
 pub mod Turning
-pub mod Linking
 pub mod Pairing
 pub mod Beginning
 pub mod Loops
