@@ -57,11 +57,13 @@ fn words_of(alloc: Global, values: &str) -> Result<Vec<String>, AllocError> {
         .try_collect(alloc)
 }
 
-/// Writes the bytes to a disk that is empty, and syncs it.
-fn fill(alloc: Global, disk: &mut MemDisk, bytes: &[u8]) -> Result<()> {
+/// A disk that holds the bytes.
+fn disk_of(alloc: Global, bytes: &[u8]) -> Result<MemDisk> {
+    let mut disk = MemDisk::new(alloc);
     disk.make_room(alloc, bytes.len() as u64, 1)?;
     disk.write_at(0, bytes).ok().context("a write failed")?;
-    disk.sync().ok().context("a sync failed")
+    disk.sync().ok().context("a sync failed")?;
+    Ok(disk)
 }
 
 /// What a disk holds.
@@ -172,7 +174,7 @@ impl<'a> Stage<'a> {
             "case" => self.begin(alloc, values)?,
             "disk" => {
                 let bytes = bytes_of(alloc, lines)?;
-                fill(alloc, self.disk(values)?, bytes.as_slice())?;
+                *self.disk(values)? = disk_of(alloc, bytes.as_slice())?;
             }
             "dark" => self.disk(values)?.cut_power(0, 0).ok().context("no cut")?,
             "power" => self.disk(values)?.restore_power(),
