@@ -11,3 +11,6 @@ mod table;
 pub use boot::{RebuildFault, rebuild};
 pub use laws::fits_as_ruled;
 pub use table::NodeTables;
+
+#[cfg(test)]
+mod tests;
