@@ -13,3 +13,4 @@ pub mod Tears
 pub mod Notary
 pub mod Vaults
 pub mod Stores
+pub mod Equality

@@ -6,6 +6,7 @@
 #![tactic(auto)]
 
 mod change;
+mod equality;
 mod held;
 mod id;
 mod notary;
@@ -19,6 +20,7 @@ mod value;
 mod verdict;
 
 pub use change::LedgerChange;
+pub use equality::same_tags;
 pub use held::{Held, HeldList};
 pub use notary::{
     ConflictItem, ConflictList, Entry, NotaryAnswer, RefKind, Request, consumer_hash,
