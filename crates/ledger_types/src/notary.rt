@@ -10,8 +10,8 @@ use crate::torn::TornTx;
 use crate::tx::RefList;
 use component_merkle::digest;
 use net_base::{
-    DecodeFault, Hash32, ListOf, Moment, PartFault, Party, Reader, Spelt, StateRef, Tag, Writer,
-    decode, encode, read_kind, read_list, read_list_between, write_list,
+    DecodeFault, Hash32, ListOf, Moment, PartFault, Party, Reader, Spelt, StateRef, Tag, TryCopy,
+    Writer, decode, encode, read_kind, read_list, read_list_between, write_list,
 };
 use std::alloc::{AllocError, Global};
 
@@ -324,5 +324,23 @@ impl Entry {
             inputs: self.inputs.copy(alloc)?,
             answer: self.answer.copy(alloc)?,
         })
+    }
+}
+
+impl TryCopy for Request {
+    fn try_copy(&self, alloc: Global) -> Result<Request, AllocError> {
+        self.copy(alloc)
+    }
+}
+
+impl TryCopy for NotaryAnswer {
+    fn try_copy(&self, alloc: Global) -> Result<NotaryAnswer, AllocError> {
+        self.copy(alloc)
+    }
+}
+
+impl TryCopy for Entry {
+    fn try_copy(&self, alloc: Global) -> Result<Entry, AllocError> {
+        self.copy(alloc)
     }
 }

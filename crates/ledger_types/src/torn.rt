@@ -229,3 +229,9 @@ impl TornTx {
         })
     }
 }
+
+impl TryCopy for TornTx {
+    fn try_copy(&self, alloc: Global) -> Result<TornTx, AllocError> {
+        self.copy(alloc)
+    }
+}

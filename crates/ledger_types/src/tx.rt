@@ -9,8 +9,8 @@ ghost use Rattle.ledger_types.specs.Txs.{IsDeed, deed, deed_at, deed_laws, IsCom
 use crate::state::TxState;
 use net_base::{
     Block, Component, DecodeFault, Hash32, ListOf, Moment, PartFault, Party, PartySet, Reader,
-    Spelt, StateRef, Tag, Token, Unlimited, Writer, decode, encode, read_ascending, read_kind,
-    read_list, write_component, write_list,
+    Spelt, StateRef, Tag, Token, TryCopy, Unlimited, Writer, decode, encode, read_ascending,
+    read_kind, read_list, write_component, write_list,
 };
 use std::alloc::{AllocError, Global};
 
@@ -382,5 +382,17 @@ impl SignedTx {
             tx: self.tx.copy(alloc)?,
             tags: self.tags.copy(alloc)?,
         })
+    }
+}
+
+impl TryCopy for Tx {
+    fn try_copy(&self, alloc: Global) -> Result<Tx, AllocError> {
+        self.copy(alloc)
+    }
+}
+
+impl TryCopy for SignedTx {
+    fn try_copy(&self, alloc: Global) -> Result<SignedTx, AllocError> {
+        self.copy(alloc)
     }
 }

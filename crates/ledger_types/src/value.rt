@@ -8,8 +8,8 @@ ghost use Rattle.ledger_types.specs.Values.{IsValue, value, value_at, value_laws
 use crate::notary::{NotaryAnswer, Request};
 use crate::tx::{SignedTx, TagList};
 use net_base::{
-    Boxed, ByteList, DecodeFault, Hash32, PartFault, Reader, Spelt, Writer, decode, encode,
-    read_ascending, read_bytes16, read_kind, write_bytes16, write_list,
+    Boxed, ByteList, DecodeFault, Hash32, PartFault, Reader, Spelt, TryCopy, Writer, decode,
+    encode, read_ascending, read_bytes16, read_kind, write_bytes16, write_list,
 };
 use std::alloc::{AllocError, Global};
 
@@ -118,17 +118,17 @@ impl Value {
             Value::Unit => Ok(Value::Unit),
             Value::Number(number) => Ok(Value::Number(*number)),
             Value::Id(id) => Ok(Value::Id(*id)),
-            Value::Tx(stx) => Ok(Value::Tx(Boxed::new(alloc, stx.get().copy(alloc)?)?)),
-            Value::Request(request) => Ok(Value::Request(Boxed::new(
-                alloc,
-                request.get().copy(alloc)?,
-            )?)),
-            Value::Answer(answer) => Ok(Value::Answer(Boxed::new(
-                alloc,
-                answer.get().copy(alloc)?,
-            )?)),
+            Value::Tx(stx) => Ok(Value::Tx(stx.try_copy(alloc)?)),
+            Value::Request(request) => Ok(Value::Request(request.try_copy(alloc)?)),
+            Value::Answer(answer) => Ok(Value::Answer(answer.try_copy(alloc)?)),
             Value::Tags(tags) => Ok(Value::Tags(tags.copy(alloc)?)),
             Value::Bytes(bytes) => Ok(Value::Bytes(bytes.copy(alloc)?)),
         }
+    }
+}
+
+impl TryCopy for Value {
+    fn try_copy(&self, alloc: Global) -> Result<Value, AllocError> {
+        self.copy(alloc)
     }
 }
