@@ -1,4 +1,4 @@
-//! What gives verdicts.
+//! Whoever gives verdicts on transactions.
 
 ghost use Rattle.std.specs.Prelude.{◌≡◌, length};
 
@@ -6,7 +6,8 @@ use crate::book::ContractBook;
 use crate::contract::LedgerContract;
 use ledger_types::{Resolved, Tx, Verdict};
 
-/// What gives a verdict on each transaction with the states that its inputs and references name.
+/// Whoever gives a verdict on each transaction with the states that its inputs and references name. What stands above a
+/// `ContractBook` asks for no more than this.
 pub trait Judge {
     ghost use Rattle.ledger_types.specs.declared.tx.Tx.{Tx};
     ghost use Rattle.ledger_types.specs.declared.tx.Resolved.{Resolved};
@@ -25,7 +26,9 @@ pub trait Judge {
 impl Judge for ContractBook {
     ghost use Rattle.ledger_types.specs.Verdicts.{told_by, verdict_of};
 
-    ghost judges = { λ b. verdict_of (told_by (λ c. (LedgerContract-box c).number c.value) (λ c. (LedgerContract-box c).says c.value) b.contracts.items) };
+    // What `ContractBook::verify` answers. `LedgerContract-box` is what a boxed contract means.
+    ghost judges = { λ b. verdict_of (told_by (λ c. (LedgerContract-box c).number c.value)
+        (λ c. (LedgerContract-box c).says c.value) b.contracts.items) };
 
     fn judge(&self, tx: &Tx, resolved: &Resolved) -> Verdict {
         self.verify(tx, resolved)

@@ -13,5 +13,5 @@ mod judging;
 mod tests;
 
 pub use book::ContractBook;
-pub use judge::Judge;
 pub use contract::{BoxedContract, LedgerContract};
+pub use judge::Judge;

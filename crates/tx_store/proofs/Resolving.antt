@@ -133,8 +133,10 @@ not_resolved store tx e fault = by (states_of store tx.inputs) (states_of store 
   where
     none : (refs : List StateRef) (states : List TxState) → states_of store refs ≡ Some states → first_lost store refs ≡ None
     none refs states had = ap (first_lost store) (sym (append-nil refs)) ∙ lost_past store refs [] states had
+
     no : (o : Option StateRef) → o ≡ None → option_map (fault_at store) o ≡ Some e → ⊥
     no o is h = absurd (none-some e (sym (ap (option_map (fault_at store)) is) ∙ h))
+
     by : (a b : Option (List TxState)) → states_of store tx.inputs ≡ a → states_of store tx.references ≡ b → both a b ≡ None
     by None b i j = refl
     by (Some x) None i j = refl
@@ -184,10 +186,12 @@ cons_tail e = cc e
 
 -- a first state and the others are had exactly where they are had one by one
 pub joins : (store : List (Hash32 × SignedTx)) (r : StateRef) (refs : List StateRef) (s : TxState) (states : List TxState) (a b : Bool) → (IsTrue a ↔ (state_of store r ≡ Some s)) → (IsTrue b ↔ (states_of store refs ≡ Some states)) → IsTrue (a && b) ↔ (states_of store (r ∷ refs) ≡ Some (s ∷ states))
-joins store r refs s states a b f g =
-    (λ t. let p = and_parts a b t in (λ i. joined (f.0 p.0 i) (g.0 p.1 i)), λ e.
-    let p = joined_parts (state_of store r) (states_of store refs) (s ∷ states) e in
-    and_from _ _ (f.1 (p.1.1.0 ∙ ap (λ (x : TxState). Some x) (sym (cons_head p.1.1.1.1)))) (g.1 (p.1.1.1.0 ∙ ap (λ (x : List TxState). Some x) (sym (cons_tail p.1.1.1.1)))))
+joins store r refs s states a b f g = (
+  λ t. let p = and_parts a b t in (λ i. joined (f.0 p.0 i) (g.0 p.1 i)),
+  λ e.
+      let p = joined_parts (state_of store r) (states_of store refs) (s ∷ states) e in
+      and_from _ _ (f.1 (p.1.1.0 ∙ ap (λ (x : TxState). Some x) (sym (cons_head p.1.1.1.1)))) (g.1 (p.1.1.1.0 ∙ ap (λ (x : List TxState). Some x) (sym (cons_tail p.1.1.1.1)))),
+)
 
 pub some_states : (store : List (Hash32 × SignedTx)) (s : TxState) (states : List TxState) → states_of store [] ≡ Some (s ∷ states) → IsTrue false
 some_states store s states e = cc e
