@@ -9,9 +9,11 @@ mod book;
 mod contract;
 mod judge;
 mod judging;
+mod laws;
 #[cfg(test)]
 mod tests;
 
 pub use book::ContractBook;
 pub use contract::{BoxedContract, LedgerContract};
 pub use judge::Judge;
+pub use laws::accepted_names_a_notary;

@@ -8,6 +8,7 @@
 
 mod checking;
 mod encumbrances;
+mod laws;
 mod notaries;
 mod references;
 mod shape;
@@ -16,4 +17,5 @@ mod signers;
 mod tests;
 
 pub use checking::{Broken, check, first_true};
+pub use laws::signed_where_none_is_missing;
 pub use signers::{missing_tags, needed_signers};
