@@ -1,7 +1,9 @@
 use super::columns::columns;
 use super::digests::{digest_of, group_of, leaf_of, mark_of, root_of, tag_checks};
-use super::spellings::{frame_of, front_of, is_frame};
-use super::tears::{tear_off_of, transaction_of};
+use super::frames::{frame_of, is_frame, said_by};
+use super::numbers::{consumer_of, pick_of, window_of};
+use super::spellings::{front_of, whole_of};
+use super::tears::{id_of, tear_off_of, transaction_of};
 use anyhow::{Result, bail};
 use std::alloc::Global;
 
@@ -21,10 +23,16 @@ pub fn answer(alloc: Global, question: &str) -> Result<String> {
         "mark" => mark_of(alloc, values),
         "tag" => tag_checks(alloc, values),
         "front" => front_of(alloc, values),
+        "whole" => whole_of(alloc, values),
         "frame" => frame_of(alloc, values),
         "is-frame" => is_frame(alloc, values),
+        "frame-says" => said_by(alloc, values),
+        "id" => id_of(alloc, values),
         "transaction" => transaction_of(alloc, values),
         "tear-off" => tear_off_of(alloc, values),
+        "consumer" => consumer_of(alloc, values),
+        "window" => window_of(alloc, values),
+        "pick" => pick_of(alloc, values),
         _ => bail!("no such question"),
     }
 }

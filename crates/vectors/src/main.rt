@@ -9,6 +9,8 @@
 mod answers;
 mod columns;
 mod digests;
+mod frames;
+mod numbers;
 mod rows;
 mod spellings;
 mod tears;
