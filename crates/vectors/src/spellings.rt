@@ -2,25 +2,27 @@ ghost use Rattle.std.specs.Prelude.{◌≡◌, IfOk};
 
 use super::columns::bytes;
 use anyhow::{Result, bail};
+use flow_machine::{Act, Checkpoint, Counter};
 use ledger_types::{Entry, NotaryAnswer, SignedTx, TornTx, Tx, Value};
 use net_base::{
-    ByteList, DecodeFault, Reader, Spelt, TryCopy, Writer, decode, decode_whole, encode,
+    Boxed, ByteList, DecodeFault, Identity, Moment, PartySet, Reader, Spelt, StateRef, Token, TryCopy,
+    Writer, decode, decode_whole, encode,
 };
+use shipped_flows::ShippedFlow;
 use std::alloc::{AllocError, Global};
 
-/// The spelling of a copy of the value.
-fn spelling<T: Spelt + TryCopy>(alloc: Global, value: &T) -> Result<ByteList, AllocError>
+/// The spelling of a value.
+pub fn spelling<T: Spelt>(alloc: Global, value: &T) -> Result<ByteList, AllocError>
     requires { T.within value.now }
     ensures { IfOk result (λ bytes. bytes ≡ T.spelling value.now) }
 {
-    let copy = value.try_copy(alloc)?;
     let mut out = Writer::new(alloc);
-    encode(alloc, &copy, &mut out)?;
+    encode(alloc, value, &mut out)?;
     Ok(out.into_bytes())
 }
 
-/// How many of the bytes the value takes that begins there, and whether it is spelt as it was read: a number, `none` where none begins
-/// there, or `another spelling`.
+/// How many of the bytes the value takes that begins there, and whether its copy is spelt as it was read: a number, `none` where none
+/// begins there, or `another spelling`.
 fn taken<T: Spelt + TryCopy>(alloc: Global, bytes: &[u8]) -> Result<String> {
     let mut from = Reader::new(bytes);
     let value = match decode::<T>(alloc, &mut from) {
@@ -28,7 +30,7 @@ fn taken<T: Spelt + TryCopy>(alloc: Global, bytes: &[u8]) -> Result<String> {
         Err(DecodeFault::Malformed { .. }) => return Ok(String::from_str(alloc, "none")?),
         Err(DecodeFault::Memory) => bail!("out of memory"),
     };
-    let spelt = spelling(alloc, &value)?;
+    let spelt = spelling(alloc, &value.try_copy(alloc)?)?;
     let count = from.place();
     if spelt.len() != count || !bytes.starts_with(spelt.as_slice()) {
         return Ok(String::from_str(alloc, "another spelling")?);
@@ -54,7 +56,7 @@ pub fn front_of(alloc: Global, values: &[&str]) -> Result<String> {
 }
 
 /// Whether the bytes as a whole are a value that is spelt so: `spelt`, or `malformed AT`.
-fn judged<T: Spelt + TryCopy>(alloc: Global, bytes: &[u8]) -> Result<String>
+fn judged<T: Spelt>(alloc: Global, bytes: &[u8]) -> Result<String>
     requires sure { T.exact }
 {
     match decode_whole::<T>(alloc, bytes) {
@@ -80,6 +82,23 @@ pub fn whole_of(alloc: Global, values: &[&str]) -> Result<String> {
         "value" => judged::<Value>(alloc, bytes.as_slice()),
         "answer" => judged::<NotaryAnswer>(alloc, bytes.as_slice()),
         "entry" => judged::<Entry>(alloc, bytes.as_slice()),
+        name => judged_part(alloc, name, bytes.as_slice()),
+    }
+}
+
+/// The same of the small types, and of flows.
+fn judged_part(alloc: Global, name: &str, bytes: &[u8]) -> Result<String> {
+    match name {
+        "identity" => judged::<Identity>(alloc, bytes),
+        "parties" => judged::<PartySet>(alloc, bytes),
+        "token" => judged::<Token>(alloc, bytes),
+        "maybe-moment" => judged::<Option<Moment>>(alloc, bytes),
+        "reference" => judged::<StateRef>(alloc, bytes),
+        "number" => judged::<Boxed<u32>>(alloc, bytes),
+        "counter" => judged::<Counter>(alloc, bytes),
+        "shipped" => judged::<ShippedFlow>(alloc, bytes),
+        "act" => judged::<Act<ShippedFlow>>(alloc, bytes),
+        "checkpoint" => judged::<Checkpoint<ShippedFlow>>(alloc, bytes),
         _ => bail!("no type of that name"),
     }
 }
