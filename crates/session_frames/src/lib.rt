@@ -7,8 +7,6 @@ mod judged;
 mod judging;
 mod laws;
 mod sending;
-#[cfg(test)]
-mod tests;
 
 pub use judged::Judged;
 pub use judging::judge;

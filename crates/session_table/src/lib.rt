@@ -8,8 +8,6 @@ mod owned;
 mod resent;
 mod sessions;
 mod standing;
-#[cfg(test)]
-mod tests;
 mod waiting;
 
 pub use resent::{Item, ItemList};
