@@ -7,8 +7,6 @@
 mod amounts;
 mod cash;
 mod law;
-#[cfg(test)]
-mod tests;
 mod value;
 
 pub use cash::Cash;

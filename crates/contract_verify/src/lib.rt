@@ -9,9 +9,9 @@ mod book;
 mod contract;
 mod judge;
 mod judging;
-#[cfg(test)]
-mod tests;
+mod laws;
 
 pub use book::ContractBook;
-pub use judge::Judge;
 pub use contract::{BoxedContract, LedgerContract};
+pub use judge::Judge;
+pub use laws::accepted_names_a_notary;

@@ -1,5 +1,5 @@
 -- What contracts see of a node's ledger, and what one change makes of it.
-use Rattle.std.specs.Prelude.{ℕ, ◌+◌, ◌<◌, ◌≤◌, ◌^◌, ◌&&◌, not, is_some, find, Bool, true, List, [], ◌∷◌, ◌++◌, Option, Some, None, IfSome, length, map, if◌then◌else◌}
+use Rattle.std.specs.Prelude.{ℕ, ◌+◌, ◌<◌, ◌≤◌, ◌^◌, ◌&&◌, not, is_some, find, Bool, true, List, [], ◌∷◌, ◌++◌, ◌≡◌, Option, Some, None, IfSome, option_to_list, length, map, if◌then◌else◌}
 use Rattle.std.specs.List.{list_all}
 use Rattle.net_base.specs.declared.values.Hash32.{Hash32}
 use Rattle.net_base.specs.declared.names.StateRef.{StateRef}
@@ -12,7 +12,7 @@ use Rattle.ledger_types.specs.declared.change.LedgerChange.{LedgerChange}
 use Rattle.ledger_types.specs.Signatures.{tx_id}
 use Rattle.ledger_types.specs.Names.{party_eq, ref_eq, has_repeat}
 use Rattle.ledger_types.specs.Notary.{repeats}
-use Rattle.ledger_types.specs.Stores.{may_record}
+use Rattle.ledger_types.specs.Stores.{may_record, untagged}
 use Rattle.ledger_types.specs.Vaults.{Lock, has_coin, locks_of, released}
 use Rattle.tx_store.specs.Stored.{Stored}
 use Rattle.vault.specs.Holdings.{Holding, held_after, locked_in, freed_of, IsVault}
@@ -90,3 +90,19 @@ may_lock me recorded states locked = list_all (has_coin (held_with me recorded s
 -- whether a change may be applied: its transaction may be recorded, its states locked and its entry added
 unfoldable pub may_apply : Party → Party → List (Hash32 × SignedTx) → List Held → List Entry → LedgerChange → Bool
 may_apply me notary store states entries change = may_record store change.recorded && (may_lock me change.recorded states change.locked && may_book me notary entries change.booked)
+
+-- ---- what applying a change leaves
+
+-- the ledger behind a change: its transaction recorded, its states locked, its entry booked, and a flow that ends with no locks
+pub record IsChanged (change : LedgerChange) (old new : Ledger) : Type 0 where
+  pub store : new.store.list ≡ old.store.list ++ recorded_in change.recorded
+  pub party : new.vault.party ≡ old.vault.party
+  pub held : new.vault.held ≡ held_by old.vault.party change old.vault.held
+  pub book : new.book.entries ≡ old.book.entries ++ option_to_list change.booked
+  pub vault : (locks : List Lock) → IsVault old.vault.party (untagged old.store.list) locks old.vault.held → IsVault old.vault.party (untagged new.store.list) (locks_by change locks) new.vault.held
+
+-- a change takes no more room in each table than was made for it
+pub record TakesRoom (change : LedgerChange) (old new : Ledger) : Type 0 where
+  pub store : old.store.room ≤ new.store.room + length (recorded_in change.recorded)
+  pub vault : old.vault.room ≤ new.vault.room + outputs_in change.recorded
+  pub book : old.book.room ≤ new.book.room + length (option_to_list change.booked)

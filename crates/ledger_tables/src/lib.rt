@@ -4,7 +4,5 @@
 
 mod parts;
 mod tables;
-#[cfg(test)]
-mod tests;
 
 pub use tables::LedgerTables;

@@ -1,14 +1,13 @@
 //! The tables of a node's ledger.
 
-ghost use Rattle.std.specs.Prelude.{◌≡◌, ◌≤◌, ◌<◌, ◌+◌, ◌++◌, [], true, false, List, length, option_to_list, IfSome, OnOk};
-ghost use Rattle.std.specs.List.{list_all, AllByRecursion};
+ghost use Rattle.std.specs.Prelude.{◌≡◌, ◌≤◌, [], true, false, IfSome, OnOk};
+ghost use Rattle.std.specs.List.{AllByRecursion};
 ghost use Rattle.ledger_types.specs.Txs.{IsTx, IsSignedTx};
 ghost use Rattle.ledger_types.specs.Requests.{IsEntry};
 ghost use Rattle.ledger_types.specs.Names.{ref_eq, has_repeat};
 ghost use Rattle.ledger_types.specs.Stores.{untagged, may_record};
-ghost use Rattle.ledger_types.specs.Vaults.{Lock, has_coin};
 ghost use Rattle.vault.specs.Holdings.{references_of, IsVault};
-ghost use Rattle.ledger_tables.specs.Ledgers.{may_apply, HasVault, recorded_in, outputs_in, HasPlace, held_with, held_by, locks_by, HasRecordRoom, HasEntryRoom};
+ghost use Rattle.ledger_tables.specs.Ledgers.{may_apply, HasVault, HasPlace, HasRecordRoom, HasEntryRoom, IsChanged, TakesRoom};
 
 use crate::parts::{
     add_entry, is_new, make_entry_room, make_record_room, may_book, may_lock, record_next,
@@ -86,9 +85,8 @@ impl LedgerTables {
         &self.book
     }
 
-    /// Whether a transaction, where there is one, may be recorded next: its id is new, and all that it depends on is recorded. It
-    /// is a condition of `apply`.
-    pub fn may_record(&self, recorded: &Option<Boxed<SignedTx>>) -> bool
+    /// Whether a transaction, where there is one, may be recorded next: its id is new, and all that it depends on is recorded.
+    fn may_record(&self, recorded: &Option<Boxed<SignedTx>>) -> bool
         requires { IfSome recorded.now (λ stx. IsTx stx.tx) }
         ensures { result ≡ may_record self.now.store.list recorded.now }
     {
@@ -101,8 +99,9 @@ impl LedgerTables {
         }
     }
 
-    /// Whether a change may be applied, at a party whose network has this notary: its transaction may be recorded, its states are coins
-    /// behind that and none stands twice, and its entry is the notary's and answers a request that no entry answers. Takes no memory.
+    /// Whether a change may be applied at a party whose network has this notary: the id of its transaction is new and all that
+    /// this depends on is recorded, its states are coins behind the transaction and none stands twice, and its entry is the
+    /// notary's and answers a request that no entry answers. Takes no memory.
     #[tactic(auto, unfolding(crate::specs::Ledgers::may_apply))]
     pub fn may_apply(&self, notary: Party, change: &LedgerChange) -> bool
         requires { IfSome change.now.recorded IsSignedTx }
@@ -137,25 +136,16 @@ impl LedgerTables {
     /// vault, its states are locked for its flow, its entry is booked, and where the flow ends its locks are released, those of
     /// this change too. It takes no memory.
     ///
-    /// `may_record` tells whether its transaction may be recorded, and `Vault::is_coin` which states are coins: those that it locks
-    /// are coins behind its transaction.
-    pub fn apply(&mut self, change: LedgerChange)
+    /// `may_apply` tells whether the change may be applied at a party whose network has this notary.
+    pub fn apply(&mut self, notary: Party, change: LedgerChange)
         requires transaction { IfSome change.recorded IsSignedTx }
         requires entry { IfSome change.booked IsEntry }
-        requires next { may_record self.old.store.list change.recorded ≡ true }
+        requires fits { may_apply self.old.vault.party notary self.old.store.list self.old.vault.held self.old.book.entries change ≡ true }
         requires few { HasPlace change.recorded self.old.store.list }
-        requires coins { list_all (has_coin (held_with self.old.vault.party change.recorded self.old.vault.held)) change.locked ≡ true }
-        requires once { has_repeat ref_eq change.locked ≡ false }
         requires record_room { HasRecordRoom change.recorded self.old.store self.old.vault }
         requires entry_room { HasEntryRoom change.booked self.old.book }
-        ensures store { self.new.store.list ≡ self.old.store.list ++ recorded_in change.recorded }
-        ensures party { self.new.vault.party ≡ self.old.vault.party }
-        ensures held { self.new.vault.held ≡ held_by self.old.vault.party change self.old.vault.held }
-        ensures book { self.new.book.entries ≡ self.old.book.entries ++ option_to_list change.booked }
-        ensures store_room { self.old.store.room ≤ self.new.store.room + length (recorded_in change.recorded) }
-        ensures vault_room { self.old.vault.room ≤ self.new.vault.room + outputs_in change.recorded }
-        ensures book_room { self.old.book.room ≤ self.new.book.room + length (option_to_list change.booked) }
-        ensures vault { (locks : List Lock) → IsVault self.old.vault.party (untagged self.old.store.list) locks self.old.vault.held → IsVault self.old.vault.party (untagged self.new.store.list) (locks_by change locks) self.new.vault.held }
+        ensures changed { IsChanged change self.old self.new }
+        ensures room { TakesRoom change self.old self.new }
     {
         record_next(&mut self.store, &mut self.vault, change.recorded);
         self.vault.lock(change.owner, &change.locked);

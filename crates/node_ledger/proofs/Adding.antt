@@ -1,16 +1,14 @@
 -- What a change that fits makes of a node's ledger.
-use Rattle.std.proofs.Common.{◌≡◌, ℕ, Bool, true, false, List, ◌∷◌, ◌++◌, Option, Some, None, option_to_list, unwrap_or, refl, sym, ◌∙◌, ap, subst}
+use Rattle.std.proofs.Common.{◌≡◌, List, ◌++◌, option_to_list, unwrap_or, refl, sym, ◌∙◌, ap, subst}
 use Rattle.net_base.specs.declared.values.Hash32.{Hash32}
 use Rattle.net_base.specs.declared.values.Party.{Party}
-use Rattle.ledger_types.specs.declared.tx.Tx.{Tx}
 use Rattle.ledger_types.specs.declared.tx.SignedTx.{SignedTx}
-use Rattle.ledger_types.specs.declared.held.Held.{Held}
 use Rattle.ledger_types.specs.declared.notary.Entry.{Entry}
 use Rattle.ledger_types.specs.declared.change.LedgerChange.{LedgerChange}
 use Rattle.ledger_types.specs.Stores.{untagged}
 use Rattle.ledger_types.specs.Vaults.{Lock, locks_of}
 use Rattle.vault.specs.Holdings.{IsVault}
-use Rattle.ledger_tables.specs.Ledgers.{Ledger, recorded_in, held_by, locks_by, released_at_end}
+use Rattle.ledger_tables.specs.Ledgers.{Ledger, recorded_in, locks_by, released_at_end}
 use Rattle.net_model.specs.State.{FlowPart, no_flow, now_live, now_ended, now_failed, with_ids, flow_of}
 use Rattle.node_ledger.specs.Ledgered.{LedgerState, HoldsLedger, IsBy, is_ending, ledger_after, locks_after}
 use Rattle.node_ledger.proofs.Ruled.{ids_more}

@@ -1,11 +1,10 @@
 -- The test of a change and the machine's rules for records.
-use Rattle.std.proofs.Common.{◌≡◌, ℕ, Bool, true, false, not, is_some, ◌&&◌, List, [], ◌∷◌, ◌++◌, Option, Some, None, find, option_to_list, refl, sym, ◌∙◌, ap, subst}
+use Rattle.std.proofs.Common.{◌≡◌, ℕ, true, false, not, is_some, ◌&&◌, List, [], ◌∷◌, ◌++◌, Option, Some, None, find, option_to_list, refl, sym, ◌∙◌, ap, subst}
 use Rattle.std.specs.List.{list_all}
 use Rattle.std.proofs.lemmas.Bool.{and_parts, and_from, not-true, not_from_false}
 use Rattle.std.proofs.lemmas.List.{append-nil, map-append}
 use Rattle.net_base.specs.declared.values.Hash32.{Hash32}
 use Rattle.net_base.specs.declared.values.Party.{Party}
-use Rattle.net_base.specs.declared.names.StateRef.{StateRef}
 use Rattle.ledger_types.specs.declared.tx.Tx.{Tx}
 use Rattle.ledger_types.specs.declared.tx.SignedTx.{SignedTx}
 use Rattle.ledger_types.specs.declared.held.Held.{Held}
@@ -15,7 +14,7 @@ use Rattle.ledger_types.specs.Names.{party_eq, ref_eq, has_repeat}
 use Rattle.ledger_types.specs.Notary.{repeats}
 use Rattle.ledger_types.specs.Signatures.{tx_id}
 use Rattle.ledger_types.specs.Stores.{may_record, untagged}
-use Rattle.ledger_types.specs.Vaults.{Lock, vault_of, has_coin}
+use Rattle.ledger_types.specs.Vaults.{Lock, has_coin}
 use Rattle.vault.specs.Holdings.{IsVault, held_after}
 use Rattle.vault.proofs.Vaults.{note_keeps}
 use Rattle.ledger_tables.specs.Ledgers.{Ledger, held_with, may_apply, may_lock, may_book, recorded_in}
@@ -80,19 +79,3 @@ from w me s l change h f =
 
 pub change_fits_as_ruled : {F : Type 0} → ChangeFitsAsRuled F
 change_fits_as_ruled w me s l change h = (λ may. to w me s l change h may, λ f. from w me s l change h f)
-
--- ---- what the test says
-
--- what a change that passes the test keeps
-pub record MayParts (me : Party) (store : List (Hash32 × SignedTx)) (states : List Held) (change : LedgerChange) : Type 0 where
-  pub next : may_record store change.recorded ≡ true
-  pub coins : list_all (has_coin (held_with me change.recorded states)) change.locked ≡ true
-  pub once : has_repeat ref_eq change.locked ≡ false
-
-pub may_parts : (me notary : Party) (store : List (Hash32 × SignedTx)) (states : List Held) (entries : List Entry) (change : LedgerChange) → may_apply me notary store states entries change ≡ true → MayParts me store states change
-unfolding may_apply
-may_parts me notary store states entries change may =
-    let p = and_parts (may_record store change.recorded) (may_lock me change.recorded states change.locked && may_book me notary entries change.booked) may in
-    let q = and_parts (may_lock me change.recorded states change.locked) (may_book me notary entries change.booked) p.1 in
-    let r = and_parts (list_all (has_coin (held_with me change.recorded states)) change.locked) (not (has_repeat ref_eq change.locked)) q.0 in
-    record { next = p.0; coins = r.0; once = not-true _ r.1 }

@@ -1,8 +1,7 @@
 -- The ledger of a node in the words of the network machine: what its tables hold, which changes fit, and what a change makes.
-use Rattle.std.specs.Prelude.{◌≡◌, ◌↔◌, ℕ, Bool, true, false, List, [], ◌∷◌, ◌++◌, Option, Some, None, option_to_list, unwrap_or}
+use Rattle.std.specs.Prelude.{◌≡◌, ◌↔◌, ℕ, Bool, true, false, List, ◌++◌, option_to_list, unwrap_or}
 use Rattle.std.specs.List.{list_all}
 use Rattle.net_base.specs.declared.values.Party.{Party}
-use Rattle.net_base.specs.declared.names.StateRef.{StateRef}
 use Rattle.ledger_types.specs.declared.tx.SignedTx.{SignedTx}
 use Rattle.ledger_types.specs.declared.notary.Entry.{Entry}
 use Rattle.ledger_types.specs.declared.change.LedgerChange.{LedgerChange}

@@ -52,5 +52,5 @@ pub fn add_change<F>(ledger: &mut LedgerTables, notary: Party, change: LedgerCha
     requires entry_room { HasEntryRoom change.booked ledger.old.book }
     ensures holds { (flow : FlowPart F) (me : OfParty) (s : LedgerState) → IsBy flow change → HoldsLedger me s ledger.old → HoldsLedger me (ledger_after flow change s) ledger.new }
 {
-    ledger.apply(change);
+    ledger.apply(notary, change);
 }

@@ -6,8 +6,6 @@ mod book;
 mod deciding;
 mod index;
 mod laws;
-#[cfg(test)]
-mod tests;
 
 pub use book::Book;
 pub use deciding::Decision;

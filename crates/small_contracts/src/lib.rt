@@ -9,8 +9,6 @@ mod facts;
 mod ious;
 mod locks;
 mod sums;
-#[cfg(test)]
-mod tests;
 
 pub use facts::Facts;
 pub use ious::Ious;

@@ -8,12 +8,12 @@
 
 mod checking;
 mod encumbrances;
+mod laws;
 mod notaries;
 mod references;
 mod shape;
 mod signers;
-#[cfg(test)]
-mod tests;
 
 pub use checking::{Broken, check, first_true};
+pub use laws::signed_where_none_is_missing;
 pub use signers::{missing_tags, needed_signers};

@@ -1,17 +1,22 @@
 -- States had one after the other.
-use Rattle.std.proofs.Common.{◌≡◌, zero, suc, ◌+◌, ◌<◌, length, take, get_or, slice_get, Ok, Err, arith, ℕ, Bool, true, false, List, [], ◌∷◌, ◌++◌, Option, Some, None, refl, sym, ◌∙◌, ap, is_some, is_none, option_map}
+use Rattle.std.proofs.Common.{◌≡◌, zero, suc, ◌+◌, ◌<◌, length, take, get_or, slice_get, Ok, Err, arith, ℕ, ◌↔◌, Bool, true, false, ◌&&◌, IsTrue, List, [], ◌∷◌, ◌++◌, Option, Some, None, refl, sym, ◌∙◌, ap, is_some, is_none, option_map, option_and_then}
+use Rattle.std.specs.List.{list_all}
+use Rattle.std.proofs.lemmas.Bool.{and_parts, and_from}
 use Rattle.std.proofs.lemmas.Option.{none-some}
-use Rattle.std.proofs.lemmas.List.{take_more}
+use Rattle.std.proofs.lemmas.List.{take_more, append-nil}
+use Rattle.net_base.proofs.Options.{some_eq}
 use Rattle.net_base.specs.declared.values.Hash32.{Hash32}
 use Rattle.net_base.specs.declared.names.StateRef.{StateRef}
 use Rattle.ledger_types.specs.declared.state.TxState.{TxState}
+use Rattle.ledger_types.specs.declared.tx.Tx.{Tx}
 use Rattle.ledger_types.specs.declared.tx.SignedTx.{SignedTx}
+use Rattle.ledger_types.specs.declared.tx.Resolved.{Resolved}
 use Rattle.ledger_types.specs.Tears.{joined}
-use Rattle.ledger_types.specs.Stores.{stored_of, is_stored, state_of, states_of}
+use Rattle.ledger_types.specs.Stores.{stored_of, is_stored, refs_of, state_of, states_of, resolved_of}
 use Rattle.tx_store.specs.declared.fault.ResolveFault.{ResolveFault}
-use Rattle.tx_store.specs.Stored.{first_lost}
-use Rattle.tx_store.specs.declared.fault.ResolveFault.TheVariants.{Lacking, NoOutput}
-use Rattle.tx_store.specs.Faults.{fault_at, fault_of, value_or, state_or_fault}
+use Rattle.tx_store.specs.Stored.{HasEach, first_lost}
+use Rattle.tx_store.specs.declared.fault.ResolveFault.TheVariants.{Lacking, NoOutput, Memory}
+use Rattle.tx_store.specs.Faults.{fault_at, fault_of, value_or, state_or_fault, Misses, Lacks}
 use Rattle.tx_store.proofs.Ordered.{lookup_is, lookup_some}
 
 -- what joins a state to states, taken apart
@@ -91,3 +96,116 @@ fault_first store (q ∷ refs) more e is = by (is_none (state_of store q)) refl 
 -- where the first list has none, the fault of the second is that of both
 pub fault_second : (store : List (Hash32 × SignedTx)) (refs more : List StateRef) (states : List TxState) (e : ResolveFault) → states_of store refs ≡ Some states → fault_of store more ≡ Some e → fault_of store (refs ++ more) ≡ Some e
 fault_second store refs more states e had is = ap (option_map (fault_at store)) (lost_past store refs more states had) ∙ is
+
+-- ---- states had or not
+
+joined_had : (s : Option TxState) (rest : Option (List TxState)) → is_some (joined s rest) ≡ (is_some s && is_some rest)
+joined_had None rest = refl
+joined_had (Some s) None = refl
+joined_had (Some s) (Some states) = refl
+
+-- all states are had exactly where each is
+pub all_had : (store : List (Hash32 × SignedTx)) (refs : List StateRef) → list_all (λ r. is_some (state_of store r)) refs ≡ is_some (states_of store refs)
+all_had store [] = refl
+all_had store (r ∷ refs) = ap (λ b. is_some (state_of store r) && b) (all_had store refs) ∙ sym (joined_had (state_of store r) (states_of store refs))
+
+-- the states of both lists, where each can be had
+abbrev both : Option (List TxState) → Option (List TxState) → Option Resolved
+both a b = option_and_then (λ inputs. option_map (λ references. record { inputs = inputs; references = references }) b) a
+
+both_parts : (a b : Option (List TxState)) (states : Resolved) → both a b ≡ Some states → (a ≡ Some states.inputs) × (b ≡ Some states.references)
+both_parts None b states e = absurd (none-some states e)
+both_parts (Some x) None states e = absurd (none-some states e)
+both_parts (Some x) (Some y) states e = let same : record { inputs = x; references = y } ≡ states = some_eq e in (ap (λ (s : Resolved). Some s.inputs) same, ap (λ (s : Resolved). Some s.references) same)
+
+-- a transaction's states are had exactly where those of both lists are
+pub both_had : (store : List (Hash32 × SignedTx)) (tx : Tx) → (is_some (states_of store tx.inputs) && is_some (states_of store tx.references)) ≡ is_some (resolved_of store tx)
+both_had store tx = by (states_of store tx.inputs) (states_of store tx.references)
+  where
+    by : (a b : Option (List TxState)) → (is_some a && is_some b) ≡ is_some (both a b)
+    by None b = refl
+    by (Some x) None = refl
+    by (Some x) (Some y) = refl
+
+-- where a reference is at fault no states are had
+pub not_resolved : (store : List (Hash32 × SignedTx)) (tx : Tx) (e : ResolveFault) → fault_of store (refs_of tx) ≡ Some e → resolved_of store tx ≡ None
+not_resolved store tx e fault = by (states_of store tx.inputs) (states_of store tx.references) refl refl
+  where
+    none : (refs : List StateRef) (states : List TxState) → states_of store refs ≡ Some states → first_lost store refs ≡ None
+    none refs states had = ap (first_lost store) (sym (append-nil refs)) ∙ lost_past store refs [] states had
+
+    no : (o : Option StateRef) → o ≡ None → option_map (fault_at store) o ≡ Some e → ⊥
+    no o is h = absurd (none-some e (sym (ap (option_map (fault_at store)) is) ∙ h))
+
+    by : (a b : Option (List TxState)) → states_of store tx.inputs ≡ a → states_of store tx.references ≡ b → both a b ≡ None
+    by None b i j = refl
+    by (Some x) None i j = refl
+    by (Some x) (Some y) i j = absurd (no (first_lost store (refs_of tx)) (lost_past store tx.inputs tx.references x i ∙ none tx.references y j) fault)
+
+-- ---- by the fault
+
+pub misses_first : (store : List (Hash32 × SignedTx)) (tx : Tx) (e : ResolveFault) → Misses store tx.inputs e → Lacks store tx e
+misses_first store tx (Lacking id) is = let f = fault_first store tx.inputs tx.references (Lacking id) is in (f, not_resolved store tx (Lacking id) f)
+misses_first store tx (NoOutput r) is = let f = fault_first store tx.inputs tx.references (NoOutput r) is in (f, not_resolved store tx (NoOutput r) f)
+misses_first store tx Memory is = tt
+
+pub misses_second : (store : List (Hash32 × SignedTx)) (tx : Tx) (states : List TxState) (e : ResolveFault) → states_of store tx.inputs ≡ Some states → Misses store tx.references e → Lacks store tx e
+misses_second store tx states (Lacking id) had is = let f = fault_second store tx.inputs tx.references states (Lacking id) had is in (f, not_resolved store tx (Lacking id) f)
+misses_second store tx states (NoOutput r) had is = let f = fault_second store tx.inputs tx.references states (NoOutput r) had is in (f, not_resolved store tx (NoOutput r) f)
+misses_second store tx states Memory had is = tt
+
+pub fault_missed : (store : List (Hash32 × SignedTx)) (refs : List StateRef) (e : ResolveFault) → fault_of store refs ≡ Some e → Misses store refs e
+fault_missed store refs (Lacking id) is = is
+fault_missed store refs (NoOutput r) is = is
+fault_missed store refs Memory is = tt
+
+-- ---- lengths
+
+-- there are as many states as references
+pub states_long : (store : List (Hash32 × SignedTx)) (refs : List StateRef) (states : List TxState) → states_of store refs ≡ Some states → length states ≡ length refs
+states_long store [] states h = let none : [] ≡ states = cc h in ap length (sym none)
+states_long store (r ∷ refs) states h =
+    let p = joined_parts (state_of store r) (states_of store refs) states h in
+    ap length p.1.1.1.1 ∙ ap suc (states_long store refs p.1.0 p.1.1.1.0)
+
+-- what a transaction's states are made of
+pub resolved_parts : (store : List (Hash32 × SignedTx)) (tx : Tx) (states : Resolved) → resolved_of store tx ≡ Some states → (states_of store tx.inputs ≡ Some states.inputs) × (states_of store tx.references ≡ Some states.references)
+resolved_parts store tx states e = both_parts (states_of store tx.inputs) (states_of store tx.references) states e
+
+-- a transaction has a state for each input and each reference
+pub resolved_long : (store : List (Hash32 × SignedTx)) (tx : Tx) (states : Resolved) → resolved_of store tx ≡ Some states → HasEach tx states
+resolved_long store tx states e = let p = resolved_parts store tx states e in (states_long store tx.inputs states.inputs p.0, states_long store tx.references states.references p.1)
+
+-- ---- states compared one by one
+
+cons_head : {X : Type 0} {x y : X} {xs ys : List X} → x ∷ xs ≡ y ∷ ys → x ≡ y
+cons_head e = cc e
+
+cons_tail : {X : Type 0} {x y : X} {xs ys : List X} → x ∷ xs ≡ y ∷ ys → xs ≡ ys
+cons_tail e = cc e
+
+-- a first state and the others are had exactly where they are had one by one
+pub joins : (store : List (Hash32 × SignedTx)) (r : StateRef) (refs : List StateRef) (s : TxState) (states : List TxState) (a b : Bool) → (IsTrue a ↔ (state_of store r ≡ Some s)) → (IsTrue b ↔ (states_of store refs ≡ Some states)) → IsTrue (a && b) ↔ (states_of store (r ∷ refs) ≡ Some (s ∷ states))
+joins store r refs s states a b f g = (
+  λ t. let p = and_parts a b t in (λ i. joined (f.0 p.0 i) (g.0 p.1 i)),
+  λ e.
+      let p = joined_parts (state_of store r) (states_of store refs) (s ∷ states) e in
+      and_from _ _ (f.1 (p.1.1.0 ∙ ap (λ (x : TxState). Some x) (sym (cons_head p.1.1.1.1)))) (g.1 (p.1.1.1.0 ∙ ap (λ (x : List TxState). Some x) (sym (cons_tail p.1.1.1.1)))),
+)
+
+pub some_states : (store : List (Hash32 × SignedTx)) (s : TxState) (states : List TxState) → states_of store [] ≡ Some (s ∷ states) → IsTrue false
+some_states store s states e = cc e
+
+pub no_states : (store : List (Hash32 × SignedTx)) (r : StateRef) (refs : List StateRef) → states_of store (r ∷ refs) ≡ Some [] → IsTrue false
+no_states store r refs e = let p = joined_parts (state_of store r) (states_of store refs) [] e in not_empty p.1.1.1.1
+  where
+    not_empty : {X : Type 0} {x : X} {xs : List X} → [] ≡ x ∷ xs → IsTrue false
+    not_empty e = cc e
+
+-- both lists of states are had exactly where the transaction resolves to them
+pub resolves : (store : List (Hash32 × SignedTx)) (tx : Tx) (states : Resolved) (a b : Bool) → (IsTrue a ↔ (states_of store tx.inputs ≡ Some states.inputs)) → (IsTrue b ↔ (states_of store tx.references ≡ Some states.references)) → IsTrue (a && b) ↔ (resolved_of store tx ≡ Some states)
+resolves store tx states a b f g =
+    (λ t. let p = and_parts a b t in to (states_of store tx.inputs) (states_of store tx.references) (f.0 p.0) (g.0 p.1), λ e. let q = resolved_parts store tx states e in and_from _ _ (f.1 q.0) (g.1 q.1))
+  where
+    to : (i r : Option (List TxState)) → i ≡ Some states.inputs → r ≡ Some states.references → both i r ≡ Some states
+    to i r e h = (λ k. both (e k) (h k))

@@ -1,8 +1,9 @@
 -- What contracts see of a store of transactions, and what is always so of it.
-use Rattle.std.specs.Prelude.{ℕ, Bool, true, false, ◌&&◌, not, List, [], ◌∷◌, ◌++◌, Option, Some, None, map, find, is_none, fold, if◌then◌else◌}
+use Rattle.std.specs.Prelude.{◌≡◌, ℕ, length, Bool, true, false, ◌&&◌, not, List, [], ◌∷◌, ◌++◌, Option, Some, None, map, find, is_none, fold, if◌then◌else◌}
 use Rattle.std.specs.List.{AllByRecursion}
 use Rattle.net_base.specs.declared.values.Hash32.{Hash32}
 use Rattle.net_base.specs.declared.names.StateRef.{StateRef}
+use Rattle.ledger_types.specs.declared.tx.Tx.{Tx}
 use Rattle.ledger_types.specs.declared.tx.SignedTx.{SignedTx}
 use Rattle.ledger_types.specs.declared.tx.Resolved.{Resolved}
 use Rattle.ledger_types.specs.Names.{hash_eq, has_hash}
@@ -23,6 +24,10 @@ AreWithin list = AllByRecursion (λ p. IsSignedTx p.1) list
 -- the states that a transaction names are each within their limits
 abbrev pub IsResolved : Resolved → Type 0
 IsResolved states = AllByRecursion IsTxState states.inputs × AllByRecursion IsTxState states.references
+
+-- there is one state for each input of a transaction, and one for each reference
+abbrev pub HasEach : Tx → Resolved → Type 0
+HasEach tx states = (length states.inputs ≡ length tx.inputs) × (length states.references ≡ length tx.references)
 
 -- whether a transaction may be recorded behind these: under its own id, which isn't recorded yet, and after all that it depends on
 abbrev pub may_follow : List (Hash32 × SignedTx) → Hash32 × SignedTx → Bool

@@ -4,8 +4,6 @@
 
 mod fault;
 mod store;
-#[cfg(test)]
-mod tests;
 
 pub use fault::ResolveFault;
 pub use store::Store;

@@ -1,15 +1,14 @@
 //! The store.
 
-ghost use Rattle.std.specs.Prelude.{◌≡◌, ◌≢◌, ◌<◌, ◌≤◌, ◌+◌, ◌^◌, ◌++◌, ◌∷◌, [], List, length, OnOk, IfOk, IfErr, IfSome, Some, None, not, true, false, option_copied, option_map, slice_get, map, if◌then◌else◌};
+ghost use Rattle.std.specs.Prelude.{◌≡◌, ◌↔◌, ◌<◌, ◌≤◌, ◌+◌, ◌^◌, ◌++◌, ◌∷◌, [], List, length, OnOk, IfOk, IfErr, IfSome, IsTrue, is_some, Some, None, not, true, false, option_copied, option_map, slice_get, map, if◌then◌else◌};
 ghost use Rattle.std.specs.List.{list_all};
 ghost use Rattle.std.specs.Map.Iter.{deref_pair};
 ghost use Rattle.net_base.specs.declared.values.Hash32.{Hash32 as Id};
 ghost use Rattle.ledger_types.specs.Txs.{IsSignedTx};
 ghost use Rattle.ledger_types.specs.Signatures.{tx_id};
-ghost use Rattle.ledger_types.specs.Stores.{stored_of, is_stored, refs_of, all_stored, has_dependencies, states_of, resolved_of, missing_ids};
-ghost use Rattle.tx_store.specs.declared.fault.ResolveFault.TheVariants.{Memory};
-ghost use Rattle.tx_store.specs.Stored.{AreWithin, IsResolved, is_in_order, leads_back, found_with, found_in};
-ghost use Rattle.tx_store.specs.Faults.{fault_of, state_or_fault};
+ghost use Rattle.ledger_types.specs.Stores.{stored_of, is_stored, refs_of, all_stored, has_dependencies, state_of, states_of, resolved_of, missing_ids};
+ghost use Rattle.tx_store.specs.Stored.{AreWithin, IsResolved, HasEach, is_in_order, leads_back, found_with, found_in};
+ghost use Rattle.tx_store.specs.Faults.{fault_of, state_or_fault, Misses, Lacks};
 
 use crate::fault::ResolveFault;
 use indexmap::IndexMap;
@@ -133,8 +132,9 @@ impl Store {
     /// transaction isn't stored, and `NoOutput` where that has no such output. `Memory` may come at any time.
     pub fn resolve(&self, alloc: Global, tx: &Tx) -> Result<Resolved, ResolveFault>
         ensures resolved { IfOk result (λ states. resolved_of self.now.list tx.now ≡ Some states) }
-        ensures fault { IfErr result (λ e. e ≢ Memory → fault_of self.now.list (refs_of tx.now) ≡ Some e) }
+        ensures fault { IfErr result (Lacks self.now.list tx.now) }
         ensures limits { IfOk result IsResolved }
+        ensures lengths { IfOk result (HasEach tx.now) }
     {
         self.keeps_limits();
         Ok(Resolved {
@@ -145,13 +145,62 @@ impl Store {
 
     fn states(&self, alloc: Global, refs: &[StateRef]) -> Result<StateList, ResolveFault>
         ensures had { IfOk result (λ states. states_of self.now.list refs.now ≡ Some states) }
-        ensures fault { IfErr result (λ e. e ≢ Memory → fault_of self.now.list refs.now ≡ Some e) }
+        ensures fault { IfErr result (Misses self.now.list refs.now) }
     {
         let mut states = ListOf::new(alloc);
         for r in refs {
             states.push(self.state(r)?)?;
         }
         Ok(states)
+    }
+
+    /// Whether `resolve` can have every state that the inputs and the references of `tx` name. Takes no memory.
+    #[tactic(auto, using(crate::proofs::Resolving::both_had))]
+    pub fn has_states(&self, tx: &Tx) -> bool
+        ensures { result ≡ is_some (resolved_of self.now.list tx.now) }
+    {
+        self.has_all_states(tx.inputs.as_slice()) && self.has_all_states(tx.references.as_slice())
+    }
+
+    fn has_all_states(&self, refs: &[StateRef]) -> bool
+        ensures { result ≡ is_some (states_of self.now.list refs.now) }
+    {
+        self.has_each(refs)
+    }
+
+    fn has_each(&self, refs: &[StateRef]) -> bool
+        ensures { result ≡ list_all (λ r. is_some (state_of self.now.list r)) refs.now }
+    {
+        refs.iter().all(|r| self.state_at(r).is_some())
+    }
+
+    /// Whether the states that the inputs and the references of `tx` name are exactly these. Takes no memory.
+    #[tactic(auto, using(crate::proofs::Resolving::resolves))]
+    pub fn resolves_to(&self, tx: &Tx, resolved: &Resolved) -> bool
+        ensures { IsTrue result ↔ (resolved_of self.now.list tx.now ≡ Some resolved.now) }
+    {
+        self.are_states(tx.inputs.as_slice(), resolved.inputs.as_slice())
+            && self.are_states(tx.references.as_slice(), resolved.references.as_slice())
+    }
+
+    #[tactic(auto, using(crate::proofs::Resolving::joins, crate::proofs::Resolving::some_states, crate::proofs::Resolving::no_states))]
+    fn are_states(&self, refs: &[StateRef], states: &[TxState]) -> bool
+        ensures { IsTrue result ↔ (states_of self.now.list refs.now ≡ Some states.now) }
+    {
+        match refs {
+            [] => states.is_empty(),
+            [r, rs @ ..] => match states {
+                [] => false,
+                [s, ss @ ..] => is_there(self.state_at(r), s) && self.are_states(rs, ss),
+            },
+        }
+    }
+
+    fn state_at(&self, reference: &StateRef) -> Option<&TxState>
+        ensures { option_copied result ≡ state_of self.now.list reference.now }
+    {
+        let stx = self.get(&reference.id)?;
+        stx.tx.outputs.as_slice().get(reference.index as usize)
     }
 
     fn state(&self, reference: &StateRef) -> Result<TxState, ResolveFault>
@@ -218,4 +267,14 @@ fn output_at(outputs: &[TxState], index: u32) -> Option<TxState>
     ensures { result ≡ slice_get outputs.now index }
 {
     outputs.get(index as usize).copied()
+}
+
+/// Whether a state is the one there, if there is one.
+fn is_there(found: Option<&TxState>, state: &TxState) -> bool
+    ensures { IsTrue result ↔ (option_copied found.entry ≡ Some state.now) }
+{
+    match found {
+        Some(found) => *found == *state,
+        None => false,
+    }
 }

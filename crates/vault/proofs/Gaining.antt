@@ -47,15 +47,19 @@ kept_coin inputs r (h ∷ states) = by (kept_coin inputs r states)
   where
     left : List Held
     left = filter (λ h. not (has_ref h.reference inputs)) states
+
     split : (b : Bool) → has_coin (cond b (h ∷ left) left) r ≡ ((b && (ref_eq h.reference r && is_coin h)) || has_coin left r)
     split true = refl
     split false = refl
+
     both : (n c x : Bool) → ((n && c) || (n && x)) ≡ (n && (c || x))
     both true c x = refl
     both false c x = refl
+
     none : (n m x : Bool) → ((n && false) || (m && x)) ≡ (m && x)
     none true m x = refl
     none false m x = refl
+
     by : has_coin left r ≡ (not (has_ref r inputs) && has_coin states r) → has_coin (filter (λ h. not (has_ref h.reference inputs)) (h ∷ states)) r ≡ (not (has_ref r inputs) && has_coin (h ∷ states) r)
     by rest = true_or_false (ref_eq h.reference r) (λ e.
         let same : h.reference ≡ r = ref_exact h.reference r e in

@@ -1,14 +1,15 @@
 -- What contracts see of a vault, what each call makes of it, and how that goes with the list of recorded transactions.
-use Rattle.std.specs.Prelude.{◌≡◌, ℕ, Bool, true, false, not, ◌==◌, ◌&&◌, List, [], ◌++◌, Option, Some, None, map, filter, if◌then◌else◌}
+use Rattle.std.specs.Prelude.{◌≡◌, ℕ, Bool, true, false, not, ◌==◌, ◌&&◌, List, [], ◌++◌, Option, Some, None, map, filter, is_none, if◌then◌else◌}
 use Rattle.std.specs.List.{list_any, list_all, AllByRecursion}
 use Rattle.net_base.specs.declared.values.Hash32.{Hash32}
 use Rattle.net_base.specs.declared.values.Party.{Party}
 use Rattle.net_base.specs.declared.names.StateRef.{StateRef}
 use Rattle.net_base.specs.declared.names.Token.{Token}
+use Rattle.ledger_types.specs.declared.state.TxState.{TxState}
 use Rattle.ledger_types.specs.declared.tx.Tx.{Tx}
 use Rattle.ledger_types.specs.declared.held.Held.{Held}
 use Rattle.ledger_types.specs.Names.{hash_eq, ref_eq, has_ref, has_repeat}
-use Rattle.ledger_types.specs.Vaults.{IsHeld, Lock, is_coin, is_relevant, outputs_from, vault_of, is_coin_of}
+use Rattle.ledger_types.specs.Vaults.{IsHeld, Lock, is_cash, is_coin, is_relevant, outputs_from, vault_of, is_coin_of}
 
 -- what contracts see of a vault: whose it is, what it holds in order of recording, and for how many more states there is room
 pub record Holding : Type 0 where
@@ -41,6 +42,10 @@ gained me id tx = filter (λ h. is_relevant me h.state.body) (outputs_from [] id
 -- the states behind a transaction: without those that it consumes, and with its relevant outputs
 abbrev pub held_after : Party → Hash32 → Tx → List Held → List Held
 held_after me id tx states = filter (λ h. not (has_ref h.reference tx.inputs)) states ++ gained me id tx
+
+-- whether an output is a coin of the party once its transaction is noted: relevant Cash that nothing encumbers
+abbrev pub becomes_coin : Party → TxState → Bool
+becomes_coin me state = is_relevant me state.body && (is_cash state.body && is_none state.encumbrance)
 
 -- whether a state is one of the party's that the reference names, and a coin
 abbrev pub gains : Party → StateRef → Held → Bool

@@ -5,8 +5,6 @@
 mod fault;
 mod laws;
 mod states;
-#[cfg(test)]
-mod tests;
 mod vault;
 
 pub use fault::ReserveFault;

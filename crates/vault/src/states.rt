@@ -1,10 +1,10 @@
 //! Tests of single states, and what the calls of a vault do to its list of states.
 
-ghost use Rattle.std.specs.Prelude.{◌≡◌, ◌≤◌, ◌<◌, ◌+◌, ◌-◌, ◌^◌, ◌&&◌, ◌++◌, ◌∷◌, [], not, is_none, vec_len, vec_capacity, length, map, filter, take, IfOk, if◌then◌else◌};
+ghost use Rattle.std.specs.Prelude.{◌≡◌, ◌≤◌, ◌<◌, ◌+◌, ◌-◌, ◌^◌, ◌++◌, ◌∷◌, [], not, vec_len, vec_capacity, length, map, filter, take, IfOk, if◌then◌else◌};
 ghost use Rattle.std.specs.List.{list_any};
 ghost use Rattle.ledger_types.specs.Names.{has_ref};
 ghost use Rattle.ledger_types.specs.Vaults.{is_relevant, is_cash, is_cash_of, cash_amount, is_free, has_coin, coins_of, balance_of, outputs_from};
-ghost use Rattle.vault.specs.Holdings.{locked_in, freed_of, gains};
+ghost use Rattle.vault.specs.Holdings.{locked_in, freed_of, becomes_coin, gains};
 
 use coin_select::Coin;
 use ledger_types::{Held, StateData, TxState};
@@ -198,14 +198,14 @@ pub fn free_each(states: &mut [Held], flow: u32)
     }
 }
 
-/// Whether an output of a transaction would be a coin of the party: relevant Cash that nothing encumbers.
+/// Whether an output is a coin of the party once its transaction is noted: relevant Cash that nothing encumbers.
 fn is_new_coin(me: Party, state: &TxState) -> bool
-    ensures { result ≡ (is_relevant me state.now.body && (is_cash state.now.body && is_none state.now.encumbrance)) }
+    ensures { result ≡ becomes_coin me state.now }
 {
     is_relevant(me, &state.body) && (is_cash(&state.body) && state.encumbrance.is_none())
 }
 
-/// Whether the reference names an output, the first of these being output `n` of the transaction, that would be a coin of the party.
+/// Whether the reference names a coin of the party among these outputs of a transaction, the first of which stands at place `n`.
 #[tactic(auto, using(crate::proofs::Gaining::gains_one))]
 pub fn gains_coin(me: Party, id: &Hash32, n: u32, outputs: &[TxState], reference: &StateRef) -> bool
     requires { n + length outputs.now < 2 ^ 32 }

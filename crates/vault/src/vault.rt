@@ -55,7 +55,7 @@ impl Vault {
         }
     }
 
-    /// The party.
+    /// Whose vault it is.
     pub fn party(&self) -> Party
         ensures { result ≡ self.now.party }
     {
@@ -155,7 +155,8 @@ impl Vault {
         has_coin(self.states.as_slice(), reference)
     }
 
-    /// Whether the reference would name a coin once the transaction of the id was noted. It is what `is_coin` answers then.
+    /// Whether the reference names a coin once the transaction of this id is noted: what `is_coin` answers behind `note`. A
+    /// transaction within its limits has at most 64 outputs. It takes no memory.
     #[tactic(auto, using(crate::proofs::Gaining::coin_behind))]
     pub fn is_coin_behind(&self, id: &Hash32, tx: &Tx, reference: &StateRef) -> bool
         requires { length tx.now.outputs ≤ 64 }

@@ -12,10 +12,10 @@ use Rattle.ledger_tables.proofs.parts.record_next.Goals as goal
 pub returns-in-Some-clause-vault : goal.returns-in-Some-clause-vault
 returns-in-Some-clause-vault c = λ locks v.
     let store = c.args.store.now.list in
-    let stx = c.in-Some.stx in
+    let stx = c.into_inner-stx.result in
     let before = untagged store in
     let id : c.id.result ≡ tx_id stx.tx = (λ i. record { 0 = c.id.ensures i }) in
-    let next : may_record store (Some stx) ≡ true = subst (λ (o : Option SignedTx). may_record store o ≡ true) c.in-Some.is c.requires.next in
+    let next : may_record store (Some stx) ≡ true = subst (λ (o : Option SignedTx). may_record store o ≡ true) (c.in-Some.is ∙ ap (λ (x : SignedTx). Some x) (sym c.into_inner-stx.ensures)) c.requires.next in
     let may : may_note before c.id.result stx.tx ≡ true = subst (λ (x : Hash32). may_note before x stx.tx ≡ true) (sym id) (noted_next store stx next) in
     let put : c.put.result ≡ true = c.put.ensures.fresh ∙ (and_parts (not (is_stored store (tx_id stx.tx))) (has_dependencies store stx.tx) next).0 in
     let list : c.put.new.self.list ≡ store ++ (tx_id stx.tx, stx) ∷ [] = c.put.ensures.list ∙ ap (λ b. if b then store ++ (tx_id stx.tx, stx) ∷ [] else store) put in

@@ -1,12 +1,9 @@
-use Rattle.node_ledger.proofs.Ruled.{may_parts}
 use Rattle.node_ledger.proofs.Adding.{holds_after}
 use Rattle.node_ledger.proofs.tables.add_change.Goals as goal
 
-pub apply-requires-clause-next : goal.apply-requires-clause-next
-apply-requires-clause-next g c = (may_parts c.args.ledger.now.vault.party c.args.notary c.args.ledger.now.store.list c.args.ledger.now.vault.held c.args.ledger.now.book.entries c.args.change c.requires.fits).next
-
-pub apply-requires-clause-coins : goal.apply-requires-clause-coins
-apply-requires-clause-coins g c = (may_parts c.args.ledger.now.vault.party c.args.notary c.args.ledger.now.store.list c.args.ledger.now.vault.held c.args.ledger.now.book.entries c.args.change c.requires.fits).coins
-
-pub apply-requires-clause-once : goal.apply-requires-clause-once
-apply-requires-clause-once g c = (may_parts c.args.ledger.now.vault.party c.args.notary c.args.ledger.now.store.list c.args.ledger.now.vault.held c.args.ledger.now.book.entries c.args.change c.requires.fits).once
+pub returns : goal.returns
+returns g c = record {
+  holds = λ flow me s by h.
+      let changed = c.apply.ensures.changed in
+      holds_after flow me s c.args.change c.args.ledger.now c.apply.new.self by h changed.store changed.party changed.book changed.vault;
+}

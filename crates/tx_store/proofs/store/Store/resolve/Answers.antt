@@ -1,9 +1,9 @@
-use Rattle.std.proofs.Common.{sym, ◌∙◌, ap}
+use Rattle.std.proofs.Common.{sym, ◌∙◌, ap, subst}
 use Rattle.std.proofs.lemmas.Result.{err_from_is_err_and}
 use Rattle.ledger_types.specs.Stores.{states_of}
-use Rattle.tx_store.specs.Faults.{fault_of}
+use Rattle.tx_store.specs.Faults.{Misses}
 use Rattle.tx_store.proofs.Limits.{states_within}
-use Rattle.tx_store.proofs.Resolving.{fault_first, fault_second}
+use Rattle.tx_store.proofs.Resolving.{misses_first, misses_second, states_long}
 use Rattle.tx_store.proofs.store.Store.resolve.Goals as goal
 
 pub returns-in_err-states-clause-fault : goal.returns-in_err-states-clause-fault
@@ -12,7 +12,7 @@ returns-in_err-states-clause-fault c =
     let store = c.args.self.now.list in
     let tx = c.args.tx.now in
     let e = c.in_err-states.field-0.0 in
-    rw (p.1, p.2) (λ other. fault_first store tx.inputs tx.references e (ap (fault_of store) (sym c.as_slice.ensures) ∙ c.in_err-states.ensures.fault other))
+    rw (p.1, p.2) (misses_first store tx e (subst (λ refs. Misses store refs e) c.as_slice.ensures c.in_err-states.ensures.fault))
 
 pub returns-in_err-states-2-clause-fault : goal.returns-in_err-states-2-clause-fault
 returns-in_err-states-2-clause-fault c =
@@ -21,7 +21,7 @@ returns-in_err-states-2-clause-fault c =
     let tx = c.args.tx.now in
     let e = c.in_err-states-2.field-0.0 in
     let had = ap (states_of store) (sym c.as_slice.ensures) ∙ c.in_ok-states.ensures.had in
-    rw (p.1, p.2) (λ other. fault_second store tx.inputs tx.references c.in_ok-states.field-0 e had (ap (fault_of store) (sym c.as_slice-2.ensures) ∙ c.in_err-states-2.ensures.fault other))
+    rw (p.1, p.2) (misses_second store tx c.in_ok-states.field-0 e had (subst (λ refs. Misses store refs e) c.as_slice-2.ensures c.in_err-states-2.ensures.fault))
 
 pub returns-clause-limits : goal.returns-clause-limits
 returns-clause-limits c =
@@ -30,4 +30,12 @@ returns-clause-limits c =
     let within = c.keeps_limits.ensures in (
       states_within store tx.inputs c.in_ok-states.field-0 within (ap (states_of store) (sym c.as_slice.ensures) ∙ c.in_ok-states.ensures.had),
       states_within store tx.references c.in_ok-states-2.field-0 within (ap (states_of store) (sym c.as_slice-2.ensures) ∙ c.in_ok-states-2.ensures.had),
+    )
+
+pub returns-clause-lengths : goal.returns-clause-lengths
+returns-clause-lengths c =
+    let store = c.args.self.now.list in
+    let tx = c.args.tx.now in (
+      states_long store tx.inputs c.in_ok-states.field-0 (ap (states_of store) (sym c.as_slice.ensures) ∙ c.in_ok-states.ensures.had),
+      states_long store tx.references c.in_ok-states-2.field-0 (ap (states_of store) (sym c.as_slice-2.ensures) ∙ c.in_ok-states-2.ensures.had),
     )
