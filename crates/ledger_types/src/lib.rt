@@ -12,8 +12,6 @@ mod id;
 mod notary;
 pub mod parts;
 mod state;
-#[cfg(test)]
-mod tests;
 mod torn;
 mod tx;
 mod value;

@@ -5,7 +5,7 @@ ghost use Rattle.net_base.specs.Parts.{Gives};
 ghost use Rattle.session_wire.specs.Bodies.{IsBody, body_text, body_at, any_body_at, any_body_laws};
 
 use ledger_types::Value;
-use net_base::{PartFault, Reader, Spelt, Writer, read_kind};
+use net_base::{PartFault, Reader, Spelt, TryCopy, Writer, read_kind};
 use std::alloc::{AllocError, Global};
 
 /// An item of a session: what one side sends the other. The items of each direction are numbered from 0.
@@ -158,5 +158,11 @@ impl Body {
             Body::Error { code } => Ok(Body::Error { code: *code }),
             Body::End => Ok(Body::End),
         }
+    }
+}
+
+impl TryCopy for Body {
+    fn try_copy(&self, alloc: Global) -> Result<Body, AllocError> {
+        self.copy(alloc)
     }
 }

@@ -11,6 +11,3 @@ pub use body::Body;
 pub use change::{SentItem, SentList, SessionChange};
 pub use effect::{Effect, FlowPart};
 pub use frame::{FRAME_LIMIT, Frame};
-
-#[cfg(test)]
-mod tests;

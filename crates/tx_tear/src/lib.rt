@@ -5,8 +5,6 @@
 mod laws;
 mod making;
 mod reading;
-#[cfg(test)]
-mod tests;
 mod values;
 
 pub use laws::{
