@@ -110,12 +110,12 @@ module _ {F : Type 0} (e : Environment F) (p : ℕ) (n k : NodeSeen) (x : NodeWo
   same_kept y u same = sym u.kept ∙ same ∙ shows.kept
 
   -- where its records fit, an opening over images none of which it refuses gave up
-  module _ (fit : misfit e.frame_at e.nodes (party p) (placed 16 x.journal) ≡ None) where
+  module _ (fit : misfit e.frame_at e.notary e.nodes (party p) (placed 16 x.journal) ≡ None) where
     no_misfit : (at : ℕ) → Unfit e.frame_at n.identity n.disk (boot_fault.Damaged at) k.disk → ⊥
     no_misfit at (list, opens, bad) =
         let told : list ≡ placed 16 x.journal = opens.told shows.tells ∙ ap (placed 16) shows.kept in
-        let same : misfit e.frame_at n.identity.nodes n.identity.party list ≡ misfit e.frame_at e.nodes (party p) (placed 16 x.journal) =
-        ap (λ (l : List (ℕ × List ℕ)). misfit e.frame_at n.identity.nodes n.identity.party l) told ∙ ap (λ (i : Identity). misfit e.frame_at i.nodes i.party (placed 16 x.journal)) shows.identity_is in
+        let same : misfit e.frame_at n.identity.notary n.identity.nodes n.identity.party list ≡ misfit e.frame_at e.notary e.nodes (party p) (placed 16 x.journal) =
+        ap (λ (l : List (ℕ × List ℕ)). misfit e.frame_at n.identity.notary n.identity.nodes n.identity.party l) told ∙ ap (λ (i : Identity). misfit e.frame_at i.notary i.nodes i.party (placed 16 x.journal)) shows.identity_is in
         none-some at (sym fit ∙ sym same ∙ bad)
 
     unfit_up : (why : BootFault) → Unfit e.frame_at n.identity n.disk why k.disk → GaveUp why
@@ -153,7 +153,7 @@ module _ {F : Type 0} (e : Environment F) (p : ℕ) (n k : NodeSeen) (x : NodeWo
         (refl, rw shows.counts o.moves.later, refl),
       )
 
-module _ {F : Type 0} (e : Environment F) (p : ℕ) (n mid k : NodeSeen) (x : NodeWorld) (shows : NodeShows e p n x) (fit : misfit e.frame_at e.nodes (party p) (placed 16 x.journal) ≡ None) (down : n.journal ≡ None) (restored : Restored n mid) where
+module _ {F : Type 0} (e : Environment F) (p : ℕ) (n mid k : NodeSeen) (x : NodeWorld) (shows : NodeShows e p n x) (fit : misfit e.frame_at e.notary e.nodes (party p) (placed 16 x.journal) ≡ None) (down : n.journal ≡ None) (restored : Restored n mid) where
   abbrev z : NodeWorld
   z = record x { calm = mid.disk.calm; acked = mid.acked }
 
@@ -225,13 +225,13 @@ module _ {F : Type 0} (e : Environment F) (p : ℕ) (n mid k : NodeSeen) (x : No
   boots (Err (boot_fault.Damaged at)) s = foreign (boot_fault.Damaged at) (λ g. g) (λ is. cc) s.0 s.1 s.2 s.3
 
 -- a boot of any node
-boot_any : {F E : Type 0} (e : Environment F) (p : ℕ) (n k : NodeSeen) (x : NodeWorld) (result : Result Outcome E) → NodeShows e p n x → misfit e.frame_at e.nodes (party p) (placed 16 x.journal) ≡ None → BootServes e.frame_at n result k → Goes e p x k (λ y. WorldBoots e x (said result) y)
+boot_any : {F E : Type 0} (e : Environment F) (p : ℕ) (n k : NodeSeen) (x : NodeWorld) (result : Result Outcome E) → NodeShows e p n x → misfit e.frame_at e.notary e.nodes (party p) (placed 16 x.journal) ≡ None → BootServes e.frame_at n result k → Goes e p x k (λ y. WorldBoots e x (said result) y)
 boot_any e p n k x result shows fit (inl (up, is, same)) = rw is (x, subst (λ (z : NodeSeen). NodeShows e p z x) (sym same) shows, refl, inl (refl, up_of n.journal x up shows.journal, refl))
 boot_any e p n k x result shows fit (inr (down, (mid, answer, restored, s, so))) = rw so (boots e p n mid k x shows fit down restored answer s)
 
 -- the records of a node's journal fit in a coherent world
-pub coherent_fits : {F : Type 0} (m : Machine F) (f : Reads F) (id : Identity) (p now : ℕ) (x : NodeWorld) → NodeCoherent (environment m f id) p now x → misfit f id.nodes (party p) (placed 16 x.journal) ≡ None
-coherent_fits m f id p now x coherent = let sound = coherent.every x.journal (inl refl) in local_fits (environment m f id) p refl 16 x.journal sound.local sound.whole
+pub coherent_fits : {F : Type 0} (m : Machine F) (f : Reads F) (id : Identity) (p now : ℕ) (x : NodeWorld) → NodeCoherent (environment m f id) p now x → misfit f id.notary id.nodes (party p) (placed 16 x.journal) ≡ None
+coherent_fits m f id p now x coherent = let sound = coherent.every x.journal (inl refl) in local_fits (environment m f id) p 16 x.journal sound.local sound.whole
 
 -- no journal of a coherent world is later than its moment
 by_of : {F : Type 0} (e : Environment F) (p now : ℕ) (n : NodeSeen) (x : NodeWorld) (bodies : List (List ℕ)) → NodeShows e p n x → NodeCoherent e p now x → n.journal ≡ Some bodies → (state_of e.frame_at bodies).moment ≤ now

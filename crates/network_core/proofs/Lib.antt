@@ -35,8 +35,14 @@ pub mod Places
 pub mod Booting
 pub mod Delivering
 pub mod Turning
-pub mod Linking
 pub mod Pairing
 pub mod Beginning
 pub mod Loops
 pub mod NewDisks
+pub mod KeepingNodes
+pub mod KeepingLinks
+pub mod KeepingSteps
+pub mod KeepingWays
+pub mod KeepingCalls
+pub mod KeepingMoments
+pub mod KeepingCauses

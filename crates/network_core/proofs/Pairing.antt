@@ -1,5 +1,6 @@
 -- What a step makes of a network and of its world, as one.
-use Rattle.std.proofs.Common.{◌≡◌, ◌⊎◌, inl, inr, ⊎_elim, ℕ, ◌≤◌, length, take, List, [], ◌∷◌, ◌++◌, Option, Some, None, Result, Ok, Err, Bool, true, false, refl, sym, ◌∙◌, ap, subst}
+use Rattle.std.proofs.Common.{◌≡◌, ◌⊎◌, inl, inr, ⊎_elim, ℕ, zero, suc, ◌≤◌, length, take, drop, List, [], ◌∷◌, ◌++◌, Option, Some, None, Result, Ok, Err, Bool, true, false, refl, sym, ◌∙◌, ap, subst}
+use Rattle.std.specs.List.{slice_get}
 use Rattle.std.proofs.lemmas.List.{take_all}
 use Rattle.net_base.specs.declared.names.Identity.{Identity}
 use Rattle.flow_machine.specs.Machine.{Machine}
@@ -13,7 +14,7 @@ use Rattle.network_core.specs.Worlds.{World, NetSeen, KeepsWorld}
 use Rattle.network_core.specs.Answers.{said, answer_of, AtPlace, StartServes, TurnServes, CutServes, BootServes, LoseServes, Posting, PostServes, Handing, HandServes, Answered, net_steps}
 use Rattle.network_core.specs.Rounds.{DrainsTo}
 use Rattle.network_core.specs.Drains.{Pair, with_world, pair_steps, KeepsPair, PairDrains, world_steps}
-use Rattle.network_core.specs.Served.{Serve, PairServes, PairLinks, begin, go_on, PairFollows}
+use Rattle.network_core.specs.Served.{Serve, Links, none, more, Follows, PairServes, PairLinks, begin, go_on, PairFollows, FollowPairs}
 use Rattle.network_core.proofs.Mapping.{drains_map}
 use Rattle.network_core.proofs.Driving.{to_world, to_net}
 
@@ -106,3 +107,24 @@ module _ {F : Type 0} (m : Machine F) (f : Reads F) where
 
   pub pairs_all : (old new : NetSeen) (steps : List Step) (i : ℕ) (outcomes : List Outcome) → length steps ≤ i → KeepsPair m f old new (λ id a b. PairLinks m f id (take i steps) outcomes a b) → KeepsPair m f old new (λ id a b. PairFollows m f id steps outcomes true a b)
   pairs_all old new steps i outcomes le keeps = subst (λ (l : List Step). KeepsPair m f old new (λ id a b. PairLinks m f id l outcomes a b)) (take_all i steps le) keeps
+
+pub split_there : {X : Type 0} (xs : List X) (i : ℕ) (x : X) → slice_get xs i ≡ Some x → (xs ≡ take i xs ++ x ∷ drop (suc i) xs) × (take (suc i) xs ≡ take i xs ++ x ∷ [])
+split_there [] i x e = cc
+split_there (y ∷ ys) zero x e = let same : y ≡ x = cc in rw same (refl, refl)
+split_there (y ∷ ys) (suc i) x e = let t = split_there ys i x e in (ap (λ l. y ∷ l) t.0, ap (λ l. y ∷ l) t.1)
+
+-- ---- the worlds alone
+
+module _ {F : Type 0} (m : Machine F) (f : Reads F) (id : Identity) where
+  links_worlds : (a b : Pair (environment m f id)) (steps : List Step) (outcomes : List Outcome) → PairLinks m f id steps outcomes a b → Links (environment m f id) steps outcomes a.world b.world
+  links_worlds a b steps outcomes (begin no_step nothing is) = none no_step nothing (ap (λ (z : Pair (environment m f id)). z.world) is)
+  links_worlds a b all longer (go_on {steps = steps} {outcomes = outcomes} {c = c} s o before serves all_is longer_is) = more s o (links_worlds a c steps outcomes before) serves.1 all_is longer_is
+
+  pub follows_worlds : (a b : Pair (environment m f id)) (steps : List Step) (outcomes : List Outcome) (all : Bool) → PairFollows m f id steps outcomes all a b → Follows (environment m f id) steps outcomes all a.world b.world
+  follows_worlds a b steps outcomes true h = links_worlds a b steps outcomes h
+  follows_worlds a b steps outcomes false (first, s, rest, c, is, before, serves) = (first, s, rest, c.world, is, links_worlds a c first outcomes before, serves.1)
+
+pub pairs_worlds : {F : Type 0} (m : Machine F) (f : Reads F) (old new : NetSeen) (steps : List Step) (outcomes : List Outcome) (all : Bool) → FollowPairs m f steps outcomes all old new → KeepsWorld m f old new (λ e w v. Follows e steps outcomes all w v)
+pairs_worlds m f old new steps outcomes all pairs id w shows coherent =
+    let b = pairs id w shows coherent in
+    (b.0, b.1, b.2, follows_worlds m f id (with_world old w shows coherent) (with_world new b.0 b.1 b.2) steps outcomes all b.3)

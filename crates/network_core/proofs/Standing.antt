@@ -3,14 +3,13 @@ use Rattle.std.proofs.Common.{◌≡◌, ℕ, zero, suc, ◌<◌, ◌≤◌, ◌
 use Rattle.std.specs.List.{AllByRecursion}
 use Rattle.std.proofs.lemmas.Bool.{eqb-true, eqb-false}
 use Rattle.std.proofs.lemmas.List.{map-append}
-use Rattle.std.proofs.lemmas.Option.{slice_get-map}
 use Rattle.net_base.specs.declared.causes.Cause.{Cause}
-use Rattle.net_base.proofs.Lists.{get_beside}
+use Rattle.net_base.proofs.Lists.{get_beside, get_map}
 use Rattle.net_base.proofs.Options.{some_eq}
 use Rattle.flow_records.specs.Records.{record_of}
 use Rattle.net_model.specs.Environment.{Environment}
 use Rattle.net_model.specs.State.{NodeState, Record, fresh}
-use Rattle.net_model.specs.Runs.{merged, stamp_of, stamped, IsLocalFrom, AreRising}
+use Rattle.net_model.specs.Runs.{merged, stamp_of, stamped, IsLocal, IsLocalFrom, AreRising}
 use Rattle.net_model.proofs.Basics.{get_before}
 use Rattle.net_model.proofs.Local.{of_node}
 use Rattle.net_model.proofs.Merging.{merge_keeps}
@@ -60,7 +59,7 @@ module _ {X : Type 0} (stamp : X → ℕ) (p : ℕ) (x : X) where
   at_next : (y : ℕ × X) (ys : List (ℕ × X)) → Other y → StandsOnce (p, x) ys → StandsOnce (p, x) (y ∷ ys)
   at_next y ys other o = record { before = y ∷ o.before; behind = o.behind; all = ap (λ (l : List (ℕ × X)). y ∷ l) o.all; first = (other, o.first); last = o.last }
 
-  stands_once : (n i : ℕ) (ys : List (ℕ × X)) → AreRising stamp n (of_node p ys) → slice_get (of_node p ys) i ≡ Some x → StandsOnce (p, x) ys
+  pub stands_once : (n i : ℕ) (ys : List (ℕ × X)) → AreRising stamp n (of_node p ys) → slice_get (of_node p ys) i ≡ Some x → StandsOnce (p, x) ys
   stands_once n i [] rise at = cc
   stands_once n zero (y ∷ ys) rise at =
       (elim (p == y.0) as (λ b. (p == y.0) ≡ b → AreRising stamp n (cond b (y.1 ∷ of_node p ys) (of_node p ys)) → slice_get (cond b (y.1 ∷ of_node p ys) (of_node p ys)) zero ≡ Some x → StandsOnce (p, x) (y ∷ ys)) [
@@ -75,7 +74,7 @@ module _ {X : Type 0} (stamp : X → ℕ) (p : ℕ) (x : X) where
 
 -- ---- the causes of a journal
 
-records_append : {F : Type 0} (f : Reads F) (bs cs : List (List ℕ)) → records_of f (bs ++ cs) ≡ records_of f bs ++ records_of f cs
+pub records_append : {F : Type 0} (f : Reads F) (bs cs : List (List ℕ)) → records_of f (bs ++ cs) ≡ records_of f bs ++ records_of f cs
 records_append f [] cs = refl
 records_append f (b ∷ bs) cs = ap (λ l. option_to_list (record_of f b) ++ l) (records_append f bs cs) ∙ sym (append_assoc (option_to_list (record_of f b)) (records_of f bs) (records_of f cs))
 
@@ -83,11 +82,12 @@ abbrev cause_in : {F : Type 0} → Record F → Cause
 cause_in r = r.cause
 
 -- those of a longer journal begin with them
-cause_stays : {F : Type 0} (f : Reads F) (bodies rest : List (List ℕ)) (place : ℕ) (cause : Cause) → slice_get (causes_of f bodies) place ≡ Some cause → slice_get (causes_of f (bodies ++ rest)) place ≡ Some cause
+pub causes_append : {F : Type 0} (f : Reads F) (bs cs : List (List ℕ)) → causes_of f (bs ++ cs) ≡ causes_of f bs ++ causes_of f cs
 unfolding causes_of
-cause_stays f bodies rest place cause at =
-    let longer = ap (map cause_in) (records_append f bodies rest) ∙ map-append cause_in (records_of f bodies) (records_of f rest) in
-    ap (λ l. slice_get l place) longer ∙ get_before (map cause_in (records_of f bodies)) (map cause_in (records_of f rest)) place cause at
+causes_append f bs cs = ap (map cause_in) (records_append f bs cs) ∙ map-append cause_in (records_of f bs) (records_of f cs)
+
+cause_stays : {F : Type 0} (f : Reads F) (bodies rest : List (List ℕ)) (place : ℕ) (cause : Cause) → slice_get (causes_of f bodies) place ≡ Some cause → slice_get (causes_of f (bodies ++ rest)) place ≡ Some cause
+cause_stays f bodies rest place cause at = ap (λ l. slice_get l place) (causes_append f bodies rest) ∙ get_before (causes_of f bodies) (causes_of f rest) place cause at
 
 -- the stamps of a node's own steps rise
 own_rise : {F : Type 0} (e : Environment F) (p : ℕ) (s : NodeState F) (rs : List (Record F)) → IsLocalFrom e p s rs → AreRising stamp_of s.stamp (map cause_in rs)
@@ -96,9 +96,19 @@ own_rise e p s (r ∷ rs) (stamp, next, step, rest) =
     let k = step_stamp e p s r.cause (stamped stamp r.effect.change.came) (next, r.effect) step in
     (k.1, subst (λ (n : ℕ). AreRising stamp_of n (map cause_in rs)) k.0 (own_rise e p next rs rest))
 
-causes_rise : {F : Type 0} (e : Environment F) (p now : ℕ) (bodies : List (List ℕ)) → Sound e p now bodies → AreRising stamp_of 0 (causes_of e.frame_at bodies)
+pub causes_rise : {F : Type 0} (e : Environment F) (p : ℕ) (bodies : List (List ℕ)) → IsLocal e p (records_of e.frame_at bodies) → AreRising stamp_of 0 (causes_of e.frame_at bodies)
 unfolding causes_of
-causes_rise e p now bodies sound = own_rise e p fresh (records_of e.frame_at bodies) sound.local
+causes_rise e p bodies local = own_rise e p fresh (records_of e.frame_at bodies) local
+
+-- a cause that stands in the journal chosen for a node stands once in the merged journals
+pub stands_chosen : {F : Type 0} (e : Environment F) (p : ℕ) (lists : List (List (List ℕ))) (journal : List (List ℕ)) → slice_get lists p ≡ Some journal → IsLocal e p (records_of e.frame_at journal)
+    → (place : ℕ) (cause : Cause) → slice_get (causes_of e.frame_at journal) place ≡ Some cause → StandsOnce (p, cause) (merged (map (causes_of e.frame_at) lists))
+stands_chosen e p lists journal there local place cause at =
+    let journals = map (causes_of e.frame_at) lists in
+    let chosen : slice_get journals p ≡ Some (causes_of e.frame_at journal) = get_map (causes_of e.frame_at) lists p journal there in
+    let mine : of_node p (merged journals) ≡ causes_of e.frame_at journal = merge_keeps stamp_of journals p (causes_of e.frame_at journal) chosen in
+    let rise : AreRising stamp_of 0 (of_node p (merged journals)) = subst (AreRising stamp_of 0) (sym mine) (causes_rise e p journal local) in
+    stands_once stamp_of p cause 0 place (merged journals) rise (ap (λ (l : List Cause). slice_get l place) mine ∙ at)
 
 -- ---- later journals
 
@@ -136,17 +146,13 @@ module _ {F : Type 0} (e : Environment F) where
   -- a cause of before stands once in the merged journals
   pub stands_later : (x : NodeWorld) (p now : ℕ) (lists : List (List (List ℕ))) (k : Later e x p now lists) (place : ℕ) (cause : Cause) → slice_get (causes_of e.frame_at k.old) place ≡ Some cause → StandsOnce (p, cause) (merged (map (causes_of e.frame_at) lists))
   stands_later x p now lists k place cause at =
-      let journals = map (causes_of e.frame_at) lists in
       let stays : slice_get (causes_of e.frame_at k.journal) place ≡ Some cause = ap (λ (l : List (List ℕ)). slice_get (causes_of e.frame_at l) place) k.begins ∙ cause_stays e.frame_at k.old k.rest place cause at in
-      let chosen : slice_get journals p ≡ Some (causes_of e.frame_at k.journal) = slice_get-map (causes_of e.frame_at) lists p ∙ ap (option_map (causes_of e.frame_at)) k.there in
-      let mine : of_node p (merged journals) ≡ causes_of e.frame_at k.journal = merge_keeps stamp_of journals p (causes_of e.frame_at k.journal) chosen in
-      let rise : AreRising stamp_of 0 (of_node p (merged journals)) = subst (AreRising stamp_of 0) (sym mine) (causes_rise e p now k.journal k.sound) in
-      stands_once stamp_of p cause 0 place (merged journals) rise (ap (λ (l : List Cause). slice_get l place) mine ∙ stays)
+      stands_chosen e p lists k.journal k.there k.sound.local place cause stays
 
 -- ---- what is acknowledged
 
 -- the one journal of a node that is up
-only_journal : (x : NodeWorld) (l : List (List ℕ)) → x.other ≡ None → MaySpell x l → l ≡ x.journal
+pub only_journal : (x : NodeWorld) (l : List (List ℕ)) → x.other ≡ None → MaySpell x l → l ≡ x.journal
 only_journal x l none may = ⊎_elim (λ is. is) (λ is. absurd (let no : Some l ≡ None = sym is ∙ none in cc)) may
 
 pub acknowledged_stands_once : {F : Type 0} → AcknowledgedStandsOnce F

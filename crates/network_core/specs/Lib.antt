@@ -6,3 +6,5 @@ pub mod Drains
 pub mod Served
 pub mod Begins
 pub mod Acknowledged
+pub mod Moments
+pub mod Ways

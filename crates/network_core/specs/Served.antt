@@ -9,9 +9,9 @@ use Rattle.network_core.specs.declared.steps.Outcome.{Outcome}
 use Rattle.network_core.specs.declared.steps.Outcome.TheVariants as outcome
 use Rattle.network_core.specs.declared.steps.Step.{Step}
 use Rattle.network_core.specs.declared.steps.Step.TheVariants as step
-use Rattle.network_core.specs.Worlds.{World}
+use Rattle.network_core.specs.Worlds.{World, NetSeen}
 use Rattle.network_core.specs.Serves.{WorldClock, WorldPlace, WorldStarts, WorldTurns, WorldPosts, WorldHands, LosesAt, WorldCuts, WorldBoots}
-use Rattle.network_core.specs.Drains.{Pair, PairDrains, WorldDrains}
+use Rattle.network_core.specs.Drains.{Pair, KeepsPair, PairDrains, WorldDrains}
 
 -- what each step makes of a world, and its outcome, none at want of memory
 abbrev pub Serve : {F : Type 0} → Environment F → Step → World → Option Outcome → World → Type 0
@@ -51,3 +51,10 @@ pub data PairLinks {F : Type 0} (m : Machine F) (frame_at : Reads F) (id : Ident
 abbrev pub PairFollows : {F : Type 0} (m : Machine F) (frame_at : Reads F) (id : Identity) → List Step → List Outcome → Bool → Pair (environment m frame_at id) → Pair (environment m frame_at id) → Type 0
 PairFollows m frame_at id steps outcomes true a b = PairLinks m frame_at id steps outcomes a b
 PairFollows m frame_at id steps outcomes false a b = (first : List Step) × (s : Step) × (rest : List Step) × (c : Pair (environment m frame_at id)) × (steps ≡ first ++ s ∷ rest) × PairLinks m frame_at id first outcomes a c × PairServes m frame_at id s None c b
+
+-- so from each coherent world that the network shows
+abbrev pub ServesPairs : {F : Type 0} → Machine F → Reads F → Step → Option Outcome → NetSeen → NetSeen → Type 0
+ServesPairs m frame_at s o old new = KeepsPair m frame_at old new (λ id a b. PairServes m frame_at id s o a b)
+
+abbrev pub FollowPairs : {F : Type 0} → Machine F → Reads F → List Step → List Outcome → Bool → NetSeen → NetSeen → Type 0
+FollowPairs m frame_at steps outcomes all old new = KeepsPair m frame_at old new (λ id a b. PairFollows m frame_at id steps outcomes all a b)

@@ -1,6 +1,7 @@
 ghost use Rattle.network_core.specs.Acknowledged.{AcknowledgedStandsOnce};
 ghost use Rattle.network_core.specs.Begins.{NewDisksAreCoherent};
 ghost use Rattle.network_core.specs.Drains.{DrainsByTurns, RoundsAreBounded};
+ghost use Rattle.network_core.specs.Ways.{AcknowledgedAtAllMoments, CallsAreWays, KeptOnWays, PairsAreBoth, WaysHaveAllMoments, WaysMoveOneByOne};
 ghost use Rattle.network_core.specs.Worlds.{CoherentIsFaithful};
 
 use flow_machine::FlowSet;
@@ -34,4 +35,40 @@ pub fn rounds_are_bounded<F: FlowSet>()
 /// is lost, and none of it is there twice.
 pub fn acknowledged_stands_once<F>()
     ensures { AcknowledgedStandsOnce F }
+{}
+
+/// The law that what `apply`, `apply_all` and `drain` say of networks with their worlds is a way: steps one after another, each over what
+/// the one before it left. So what holds of ways holds inside each of these calls too, and not only once it is over.
+pub fn calls_are_ways<F>()
+    ensures { CallsAreWays F }
+{}
+
+/// The law that what these calls say of networks with their worlds, they say of the worlds alone, and of the networks alone: one chain of
+/// steps goes through both.
+pub fn pairs_are_both<F>()
+    ensures { PairsAreBoth F }
+{}
+
+/// The law of every moment since a way began, whichever image power cuts leave of each disk: the journals are those of one run of the
+/// network; the causes of each begin with those of an image that its disk had as the way began, so nothing that was on a disk is lost;
+/// and a node all of whose images were sound then has sound images, also while it is down.
+pub fn kept_on_ways<F>()
+    ensures { KeptOnWays F }
+{}
+
+/// The law of every moment since a way began, whichever image power cuts leave of each disk: each cause that a node that was up had in its
+/// journal as the way began stands once in the merged journals.
+pub fn acknowledged_at_all_moments<F>()
+    ensures { AcknowledgedAtAllMoments F }
+{}
+
+/// The law that no moment is left out: each moment of each disk since a way began is its moment at an instant on the way.
+pub fn ways_have_all_moments<F>()
+    ensures { WaysHaveAllMoments F }
+{}
+
+/// The law that between one network on a way and the next one disk went on at most. So what the others could leave is the same at each
+/// moment between these two, and the instants on the way are the moments of the network, in their order.
+pub fn ways_move_one_by_one<F>()
+    ensures { WaysMoveOneByOne F }
 {}

@@ -7,9 +7,9 @@ ghost use Rattle.network_core.specs.Worlds.{KeepsWorld};
 ghost use Rattle.std.specs.List.{AllByRecursion};
 ghost use Rattle.network_core.specs.Answers.{Answered, AtPlace, StartServes, TurnServes, PostServes, HandServes, LoseServes, CutServes, BootServes, ClockServes, BootClock, said};
 ghost use Rattle.network_core.specs.Begins.{BeginsWorld, IsRefused, BootsUpTo, nodes_over as over_disks};
-ghost use Rattle.network_core.specs.Drains.{Drains, Drives, KeepsPair, room};
+ghost use Rattle.network_core.specs.Drains.{Drains, Drives, room};
 ghost use Rattle.network_core.specs.Rounds.{DeliversAt, HandStops, HandsStop, InOrder, Posts, Round, RoundStops, StopsAt, Turns, TurnsAt, TurnsStop, drain_outcome, heard, joined, turned};
-ghost use Rattle.network_core.specs.Served.{Serve, Follows, PairServes, PairFollows};
+ghost use Rattle.network_core.specs.Served.{Serve, Follows, ServesPairs, FollowPairs};
 ghost use Rattle.network_core.specs.declared.net.Turning.TheVariants as turning;
 
 use super::begin::{BeginRefused, boot_all, disks_of, nodes_over};
@@ -122,7 +122,9 @@ impl<D: Bay, F: FlowSet> Net<D, F> {
         disks_of(self.nodes, self.spare)
     }
 
-    /// Makes one step. Each answer has its cause, over any disks; over a coherent world it is also said what becomes of that world.
+    /// Makes one step. Each answer has its cause, over any disks; over a coherent world it is also said what becomes of that world, and of
+    /// a drain what becomes of both by each of its turns, posts and deliveries. So the laws of this crate say what power cuts may leave at
+    /// every moment of the call (`calls_are_ways`, `kept_on_ways`).
     ///
     /// # Errors
     ///
@@ -130,7 +132,7 @@ impl<D: Bay, F: FlowSet> Net<D, F> {
     /// booted has its power back.
     pub fn apply(&mut self, alloc: Global, step: &Step) -> Result<Outcome, AllocError>
         ensures serves { KeepsWorld F.machine F.reading self.old self.new (λ e w v. Serve e step.now w (said result) v) }
-        ensures pairs { KeepsPair F.machine F.reading self.old self.new (λ id a b. PairServes F.machine F.reading id step.now (said result) a b) }
+        ensures pairs { ServesPairs F.machine F.reading step.now (said result) self.old self.new }
 
         // Over any disks, also such as tell nothing, and whatever their journals hold.
         ensures answers { Answered F.machine F.reading step.now self.old result self.new }
@@ -163,11 +165,11 @@ impl<D: Bay, F: FlowSet> Net<D, F> {
     }
 
     /// Makes these steps, as long as memory lasts, and adds their outcomes to the list, which has room for them. True exactly where
-    /// each step has its outcome.
+    /// each step has its outcome. What is said of the worlds is also said of the networks with them, step by step.
     pub fn apply_all(&mut self, alloc: Global, steps: &[Step], outcomes: &mut Vec<Outcome>) -> bool
         requires { (outcomes.old.items ≡ []) × (length steps.now ≤ vec_capacity outcomes.old) }
         ensures worlds { KeepsWorld F.machine F.reading self.old self.new (λ e w v. Follows e steps.now outcomes.new.items result w v) }
-        ensures pairs { KeepsPair F.machine F.reading self.old self.new (λ id a b. PairFollows F.machine F.reading id steps.now outcomes.new.items result a b) }
+        ensures pairs { FollowPairs F.machine F.reading steps.now outcomes.new.items result self.old self.new }
     {
         'steps: for step in steps {
             let Ok(outcome) = self.apply(alloc, step) else {

@@ -2,6 +2,7 @@
 
 ghost use Rattle.std.specs.Prelude.{◌≡◌, ◌↔◌, ◌<◌, ◌≤◌, true, false, IsTrue, IsSome, MatchOption, List, [], ℕ, Some, None};
 ghost use Rattle.net_model.specs.Environment.{environment};
+ghost use Rattle.node_ledger.specs.Ledgered.{HoldsLedger, ledger_in};
 ghost use Rattle.node_tables.specs.Journals.{state_of, causes_of};
 ghost use Rattle.node_core.specs.Disks.{roomless, CutsNow};
 ghost use Rattle.node_core.specs.Seen.{StartAnswers, TurnAnswers, CutAnswers, BootsAs, IsBy, IsMember};
@@ -14,6 +15,7 @@ use super::{BootFault, CutFault, StartFault, TakeFault, Taken, TurnFault, Turned
 use checkpoints::Flows;
 use flow_machine::FlowSet;
 use flow_steps::flow_in;
+use ledger_tables::LedgerTables;
 use net_base::{ByteList, Cause, Event, Identity, Moment, Spelt};
 use outside::{Bay, Disk};
 use session_frames::OutgoingList;
@@ -90,6 +92,16 @@ impl<D: Disk, F: Spelt + Drop> Node<D, F> {
     {
         match &self.state {
             State::Up { up } => Some(up.flows()),
+            _ => None,
+        }
+    }
+
+    /// What the journal's records made of transactions, soft locks and entries; `None` exactly where the node is down.
+    pub fn ledger(&self) -> Option<&LedgerTables>
+        ensures { MatchOption result (self.now.journal ≡ None) (λ ledger. (bodies : List (List ℕ)) × (self.now.journal ≡ Some bodies) × HoldsLedger self.now.identity.party (ledger_in (state_of F.reading bodies)) ledger.now) }
+    {
+        match &self.state {
+            State::Up { up } => Some(up.ledger()),
             _ => None,
         }
     }

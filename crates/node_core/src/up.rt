@@ -15,6 +15,7 @@ ghost use Rattle.flow_records.specs.Steps.{step_record, IsStep};
 ghost use Rattle.net_model.specs.Environment.{environment};
 ghost use Rattle.net_model.specs.Steps.{next_cause};
 ghost use Rattle.flow_steps.specs.Ready.{IsBegun, IsReady};
+ghost use Rattle.node_ledger.specs.Ledgered.{HoldsLedger, ledger_in};
 ghost use Rattle.node_tables.specs.Journals.{state_of, causes_of};
 ghost use Rattle.node_tables.specs.Seen.{padded, HasRooms};
 ghost use Rattle.node_core.specs.Journals.{is_full};
@@ -31,8 +32,9 @@ use disk_journal::{AppendFault, Journal, OpenFault};
 use flow_machine::{FlowSet, MakeFault};
 use flow_records::{Step, spell_step};
 use flow_steps::{advance, answer_init, arrive_item, begin, flow_in, pick_event};
+use ledger_tables::LedgerTables;
 use net_base::{ByteList, Cause, Event, Identity, Key, Moment, Spelt, Unlimited};
-use node_tables::{RebuildFault, NodeTables, rebuild};
+use node_tables::{NodeTables, RebuildFault, rebuild};
 use outside::{Bay, Disk, NoFuse};
 use session_frames::{Judged, OutgoingList, frames_to_send, judge};
 use session_table::Item;
@@ -189,6 +191,13 @@ impl<D: Disk, F: Spelt + Drop> Up<D, F> {
         ensures { result.now.flows ≡ (state_of F.reading self.now.bodies).flows }
     {
         self.tables.flows()
+    }
+
+    /// What its records made of transactions, soft locks and entries.
+    pub fn ledger(&self) -> &LedgerTables
+        ensures { HoldsLedger self.now.journal.of.party (ledger_in (state_of F.reading self.now.bodies)) result.now }
+    {
+        self.tables.ledger()
     }
 
     /// The causes, in order.

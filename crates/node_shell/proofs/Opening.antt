@@ -47,17 +47,17 @@ refused_begun id x why is = by (cases_Bool (is_unformatted x))
     by (inl young) = let none = refusal_unformatted id x young in cc
     by (inr begun) = begun
 
-none_misfits : {F : Type 0} (f : Reads F) (id : Identity) → misfit f id.nodes id.party [] ≡ None
+none_misfits : {F : Type 0} (f : Reads F) (id : Identity) → misfit f id.notary id.nodes id.party [] ≡ None
 unfolding misfit
 none_misfits f id = refl
 
 -- and so are those with a record that does not fit
-misfit_begun : {F : Type 0} (f : Reads F) (id : Identity) (x : List ℕ) (at : ℕ) → misfit f id.nodes id.party (placed 16 (journal_of x)) ≡ Some at → is_unformatted x ≡ false
+misfit_begun : {F : Type 0} (f : Reads F) (id : Identity) (x : List ℕ) (at : ℕ) → misfit f id.notary id.nodes id.party (placed 16 (journal_of x)) ≡ Some at → is_unformatted x ≡ false
 misfit_begun f id x at is = by (cases_Bool (is_unformatted x))
   where
     by : (is_unformatted x ≡ true) ⊎ (is_unformatted x ≡ false) → is_unformatted x ≡ false
     by (inl young) =
-        let none : misfit f id.nodes id.party (placed 16 (journal_of x)) ≡ None = ap (λ l. misfit f id.nodes id.party (placed 16 l)) (short_spells x (unformatted_short x young)) ∙ none_misfits f id in
+        let none : misfit f id.notary id.nodes id.party (placed 16 (journal_of x)) ≡ None = ap (λ l. misfit f id.notary id.nodes id.party (placed 16 l)) (short_spells x (unformatted_short x young)) ∙ none_misfits f id in
         cc
     by (inr begun) = begun
 
@@ -85,7 +85,7 @@ refuses_cause f id (open_fault.Damaged at) d b keeps r = λ tells. (inl (r tells
 -- and so have records that do not fit
 unfit_cause : {F : Type 0} (f : Reads F) (id : Identity) (why : BootFault) (d b : DiskView) → KeepsBytes why d b → Unfit f id (roomless d) why (roomless b) → HasCause f id d why b
 unfit_cause f id (boot.Damaged at) d b keeps u = λ tells.
-    let is : misfit f id.nodes id.party (placed 16 (journal_of d.state.kept)) ≡ Some at = subst (λ l. misfit f id.nodes id.party l ≡ Some at) (u.1.told tells) u.2 in
+    let is : misfit f id.notary id.nodes id.party (placed 16 (journal_of d.state.kept)) ≡ Some at = subst (λ l. misfit f id.notary id.nodes id.party l ≡ Some at) (u.1.told tells) u.2 in
     (inr (u.1.format tells, is), keeps (not_damaged at) tells (misfit_begun f id d.state.kept at is))
 unfit_cause f id boot.Memory d b keeps u = tt
 unfit_cause f id boot.Fault d b keeps u = absurd u
@@ -103,7 +103,7 @@ boot_cause f id why d b u =
 -- a making ready before changes nothing of what is kept
 pub own_since : {F : Type 0} (f : Reads F) (id : Identity) (d k : DiskView) → k ≡ record d { faults = k.faults } → KeepsOwn f id k → KeepsOwn f id d
 own_since f id d k same own = λ tells.
-    subst (λ (x : DiskView). (refusal id x.state.kept ≡ None) × (misfit f id.nodes id.party (placed 16 (journal_of x.state.kept)) ≡ None)) same (own (ap (λ (x : DiskView). x.tells) same ∙ tells))
+    subst (λ (x : DiskView). (refusal id x.state.kept ≡ None) × (misfit f id.notary id.nodes id.party (placed 16 (journal_of x.state.kept)) ≡ None)) same (own (ap (λ (x : DiskView). x.tells) same ∙ tells))
 
 -- nodes that came up over disks opened their own journals
 pub boots_own : {F : Type 0} (f : Reads F) (nodes : ℕ) (notary : Party) (ds : List DiskView) (now : ℕ) (new : List NodeSeen) → length ds ≡ nodes → BootsUpTo f nodes now (nodes_over nodes notary 0 ds) new → KeepOwn f nodes notary ds
@@ -113,7 +113,7 @@ boots_own f nodes notary ds now new count r p d at =
     let within = slice_get_within ds p d at in
     let b = r.done p (node_over nodes notary p d) k.0 (omega (arith, within, count)) n k.1 in
     let id = member nodes notary p in
-    λ tells. (b.4.opens.format tells, subst (λ l. misfit f id.nodes id.party l ≡ None) (b.4.opens.told tells) b.4.fits)
+    λ tells. (b.4.opens.format tells, subst (λ l. misfit f id.notary id.nodes id.party l ≡ None) (b.4.opens.told tells) b.4.fits)
 
 pub all_own_since : {F : Type 0} (f : Reads F) (nodes : ℕ) (notary : Party) (ds ks : List DiskView) → AllStay ds ks → KeepOwn f nodes notary ks → KeepOwn f nodes notary ds
 all_own_since f nodes notary ds ks stay own p d at =
@@ -278,7 +278,7 @@ module _ {F : Type 0} (m : Machine F) (f : Reads F) (nodes : ℕ) (notary : Part
         let b = get_beside ds bs p d (sym r.count) at in
         let up = r.earlier p d b.0 before at b.1 in
         let id = member nodes notary p in
-        λ tells. (up.1.4.opens.format tells, subst (λ l. misfit f id.nodes id.party l ≡ None) (up.1.4.opens.told tells) up.1.4.fits);
+        λ tells. (up.1.4.opens.format tells, subst (λ l. misfit f id.notary id.nodes id.party l ≡ None) (up.1.4.opens.told tells) up.1.4.fits);
     opened = λ p d b before at there.
         let up = r.earlier p d b before at there in
         λ tells. ap (λ (x : DiskView). x.state.kept) up.2 ∙ up.1.4.opens.left tells;

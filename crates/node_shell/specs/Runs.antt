@@ -64,7 +64,7 @@ pub record Rests {F : Type 0} (e : Environment F) (disks : List DiskView) (w : W
 
 -- where a disk tells its content, no opening of this node refuses it: it keeps no begun journal, or a sound one of the node's own whose records fit
 abbrev pub KeepsOwn : {F : Type 0} → Reads F → Identity → DiskView → Type 0
-KeepsOwn frame_at id disk = disk.tells ≡ true → (refusal id disk.state.kept ≡ None) × (misfit frame_at id.nodes id.party (placed 16 (journal_of disk.state.kept)) ≡ None)
+KeepsOwn frame_at id disk = disk.tells ≡ true → (refusal id disk.state.kept ≡ None) × (misfit frame_at id.notary id.nodes id.party (placed 16 (journal_of disk.state.kept)) ≡ None)
 
 -- no opening of one of these nodes refuses its disk
 abbrev pub KeepOwn : {F : Type 0} → Reads F → ℕ → Party → List DiskView → Type 0
@@ -139,7 +139,7 @@ pub record OneFails (count : ℕ) (old new : List DiskView) : Type 0 where
 
 -- these bytes are those of a journal of this node whose records do not fit, the first of them at that place
 abbrev pub MisfitsAt : {F : Type 0} → Reads F → Identity → List ℕ → ℕ → Type 0
-MisfitsAt frame_at id bytes at = (refusal id bytes ≡ None) × (misfit frame_at id.nodes id.party (placed 16 (journal_of bytes)) ≡ Some at)
+MisfitsAt frame_at id bytes at = (refusal id bytes ≡ None) × (misfit frame_at id.notary id.nodes id.party (placed 16 (journal_of bytes)) ≡ Some at)
 
 -- why the first opening of a node over a disk was refused: the disk failed; or memory ran out; or it keeps no sound journal of the node's, or
 -- one whose records do not fit, and then it keeps the same bytes as before

@@ -15,6 +15,3 @@ pub use enabling::{enabling_event, is_waiting};
 pub use ends::end_sessions;
 pub use items::unchanged;
 pub use laws::{accepted_as_meant, sessions_are_sound};
-
-#[cfg(test)]
-mod tests;

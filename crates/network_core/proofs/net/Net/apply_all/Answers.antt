@@ -1,23 +1,19 @@
-use Rattle.std.proofs.Common.{◌≡◌, ◌+◌, refl, arith, ap, length, rules, add-one, take, ◌++◌, ◌∷◌, [], length-append}
+use Rattle.std.proofs.Common.{◌≡◌, ◌+◌, refl, arith, ap, length, rules, add-one, take, ◌++◌, ◌∷◌, [], length-append, true, false}
 use Rattle.std.proofs.lemmas.Option.{slice_get_read}
-use Rattle.network_core.proofs.Pairing.{pairs_none, pairs_more, pairs_end, pairs_all}
-use Rattle.network_core.proofs.Linking.{links_none, links_more, links_end, links_all, split_there}
+use Rattle.network_core.proofs.Pairing.{pairs_none, pairs_more, pairs_end, pairs_all, pairs_worlds, split_there}
 use Rattle.network_core.proofs.net.Net.apply_all.Goals as goal
 
 pub steps-init : goal.steps-init
-steps-init g c = record { links = links_none g.F.FlowSet.machine g.F.Spelt.reading _ _ c.requires.0; pairs = pairs_none g.F.FlowSet.machine g.F.Spelt.reading _ _ c.requires.0; count = omega (arith, c.args.outcomes.now.ok.0, ap length c.requires.0); spare = c.requires.1 }
-
-pub returns-in_default-clause-worlds : goal.returns-in_default-clause-worlds
-returns-in_default-clause-worlds g c =
-    let steps = c.args.steps.now in
-    let at = slice_get_read steps (length steps) c.steps.step-index c.step-item.result refl (omega arith) c.step-item.is in
-    links_end g.F.FlowSet.machine g.F.Spelt.reading _ _ _ steps _ _ _ c.step-item.result c.steps.invariant.links (rw c.in_default.is at c.apply.ensures.serves) (split_there steps c.steps.step-index c.step-item.result at).0
+steps-init g c = record { pairs = pairs_none g.F.FlowSet.machine g.F.Spelt.reading _ _ c.requires.0; count = omega (arith, c.args.outcomes.now.ok.0, ap length c.requires.0); spare = c.requires.1 }
 
 pub returns-in_default-clause-pairs : goal.returns-in_default-clause-pairs
 returns-in_default-clause-pairs g c =
     let steps = c.args.steps.now in
     let at = slice_get_read steps (length steps) c.steps.step-index c.step-item.result refl (omega arith) c.step-item.is in
     pairs_end g.F.FlowSet.machine g.F.Spelt.reading _ _ _ steps _ _ _ c.step-item.result c.steps.invariant.pairs (rw c.in_default.is at c.apply.ensures.pairs) (split_there steps c.steps.step-index c.step-item.result at).0
+
+pub returns-in_default-clause-worlds : goal.returns-in_default-clause-worlds
+returns-in_default-clause-worlds g c = pairs_worlds g.F.FlowSet.machine g.F.Spelt.reading _ _ c.args.steps.now _ false (returns-in_default-clause-pairs g c)
 
 pub steps-preserved : goal.steps-preserved
 steps-preserved g c =
@@ -28,14 +24,13 @@ steps-preserved g c =
     let pushed : c.push.new.self.items ≡ c.steps.outcomes.items ++ c.in-Ok.outcome ∷ [] = rw c.unwrap.ensures at c.push.ensures.items in
     let longer : take (i + 1) steps ≡ take i steps ++ c.step-item.result ∷ [] = rw add-one two.1 in
     record {
-      links = links_more g.F.FlowSet.machine g.F.Spelt.reading _ _ _ _ _ _ _ c.step-item.result c.in-Ok.outcome c.steps.invariant.links (rw c.in-Ok.is at c.apply.ensures.serves) longer pushed;
       pairs = pairs_more g.F.FlowSet.machine g.F.Spelt.reading _ _ _ _ _ _ _ c.step-item.result c.in-Ok.outcome c.steps.invariant.pairs (rw c.in-Ok.is at c.apply.ensures.pairs) longer pushed;
       count = omega (arith, c.steps.invariant.count, c.push.new.self.ok.0, c.steps.outcomes.ok.0, length-append c.steps.outcomes.items (c.in-Ok.outcome ∷ []), ap length pushed);
       spare = search rules;
     }
 
-pub returns-clause-worlds : goal.returns-clause-worlds
-returns-clause-worlds g c = links_all g.F.FlowSet.machine g.F.Spelt.reading _ _ c.args.steps.now c.steps.step-index _ c.steps-test.false c.steps.invariant.links
-
 pub returns-clause-pairs : goal.returns-clause-pairs
 returns-clause-pairs g c = pairs_all g.F.FlowSet.machine g.F.Spelt.reading _ _ c.args.steps.now c.steps.step-index _ c.steps-test.false c.steps.invariant.pairs
+
+pub returns-clause-worlds : goal.returns-clause-worlds
+returns-clause-worlds g c = pairs_worlds g.F.FlowSet.machine g.F.Spelt.reading _ _ c.args.steps.now _ true (returns-clause-pairs g c)

@@ -1,12 +1,10 @@
 use Rattle.std.proofs.Common.{◌≡◌, ◌≤◌, length, take, vec_capacity, vec_len}
-use Rattle.network_core.specs.Worlds.{KeepsWorld}
-use Rattle.network_core.specs.Served.{Links, PairLinks}
+use Rattle.network_core.specs.Served.{PairLinks}
 use Rattle.network_core.specs.Drains.{KeepsPair}
 use Rattle.network_core.proofs.net.Net.apply_all.Given as goal
 
 abbrev pub invariant-steps : goal.invariant-steps
 invariant-steps g l = record {
-  links : KeepsWorld g.F.FlowSet.machine g.F.Spelt.reading l.fn.self l.self (λ e w v. Links e (take l.step-index l.steps) l.outcomes.items w v);
   pairs : KeepsPair g.F.FlowSet.machine g.F.Spelt.reading l.fn.self l.self (λ id a b. PairLinks g.F.FlowSet.machine g.F.Spelt.reading id (take l.step-index l.steps) l.outcomes.items a b);
   count : vec_len l.outcomes ≡ l.step-index;
   spare : length l.steps ≤ vec_capacity l.outcomes;
