@@ -2,6 +2,7 @@ use super::books::replies_of;
 use super::columns::columns;
 use super::digests::{digest_of, group_of, leaf_of, mark_of, root_of, tag_checks};
 use super::frames::{frame_of, is_frame, said_by};
+use super::ledgers::ledger_of;
 use super::numbers::{consumer_of, pick_of, window_of};
 use super::records::{record_of, stack_of, told_by};
 use super::spellings::{front_of, whole_of};
@@ -51,6 +52,7 @@ pub fn answer(alloc: Global, question: &str) -> Result<String> {
         "missing" => missing_of(alloc, values),
         "clause" => clause_of(alloc, values),
         "verdict" => verdict_of(alloc, values),
+        "ledger" => ledger_of(alloc, values),
         "book" => replies_of(alloc, values),
         _ => answer_format(alloc, kind, values),
     }

@@ -46,7 +46,10 @@ fn reply(alloc: Global, book: &mut Book, me: &Identity, asked: &str) -> Result<S
     let now = Moment(now.parse::<u64>()?);
     let known = book.has_answered(&request);
     let (inputs, Decision { answer, fresh }) = decide(alloc, book, &request, me, now)?;
-    ensure!(!(known && fresh), "a fresh answer to a request that was answered");
+    ensure!(
+        !(known && fresh),
+        "a fresh answer to a request that was answered"
+    );
     let text = hex::encode(alloc, spelling(alloc, &answer)?.as_slice())?;
     if fresh {
         book.make_room(alloc)?;

@@ -11,6 +11,7 @@ mod books;
 mod columns;
 mod digests;
 mod frames;
+mod ledgers;
 mod numbers;
 mod records;
 mod rows;

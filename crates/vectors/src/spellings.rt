@@ -5,8 +5,8 @@ use anyhow::{Result, bail};
 use flow_machine::{Act, Checkpoint, Counter};
 use ledger_types::{Entry, NotaryAnswer, SignedTx, TornTx, Tx, Value};
 use net_base::{
-    Boxed, ByteList, DecodeFault, Identity, Moment, PartySet, Reader, Spelt, StateRef, Token, TryCopy,
-    Writer, decode, decode_whole, encode,
+    Boxed, ByteList, DecodeFault, Identity, Moment, PartySet, Reader, Spelt, StateRef, Token,
+    TryCopy, Writer, decode, decode_whole, encode,
 };
 use shipped_flows::ShippedFlow;
 use std::alloc::{AllocError, Global};
