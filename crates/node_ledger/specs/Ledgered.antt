@@ -32,6 +32,14 @@ pub record HoldsLedger (me : Party) (s : LedgerState) (l : Ledger) : Type 0 wher
   pub vault : IsVault me (untagged (with_ids s.stored)) s.locked l.vault.held
   pub book : l.book.entries ≡ s.entries
 
+-- whether the tables take a change, at a node whose network has this notary
+abbrev pub takes_change : Party → Ledger → LedgerChange → Bool
+takes_change notary l change = may_apply l.vault.party notary l.store.list l.vault.held l.book.entries change
+
+-- whatever state of a party the tables held, they hold it still
+abbrev pub KeepsLedger : Ledger → Ledger → Type 0
+KeepsLedger old new = (me : Party) (s : LedgerState) → HoldsLedger me s old → HoldsLedger me s new
+
 -- the ledger's part of a change fits, by the machine's rules for records
 pub record FitsLedger {F : Type 0} (w : Environment F) (me : ℕ) (s : LedgerState) (change : LedgerChange) : Type 0 where
   pub recorded : may_record (with_ids s.stored) change.recorded ≡ true
@@ -39,11 +47,11 @@ pub record FitsLedger {F : Type 0} (w : Environment F) (me : ℕ) (s : LedgerSta
   pub once : has_repeat ref_eq change.locked ≡ false
   pub booked : FitsBooked w me s.entries change.booked
 
--- whether a part of an effect ends a flow, as its locks go then
+-- the soft locks behind a change by the flow of this part: those of a flow that ends are gone, also those of this change
 abbrev pub locks_after : {F : Type 0} → FlowPart F → LedgerChange → List Lock → List Lock
 locks_after flow change locked = locks_on flow (locked ++ locks_of (unwrap_or (flow_of flow) 0) change.locked)
 
--- the ledger's part of a state behind a change, which this becomes of a flow
+-- the ledger's part of a state behind a change by the flow of this part
 abbrev pub ledger_after : {F : Type 0} → FlowPart F → LedgerChange → LedgerState → LedgerState
 ledger_after flow change s = record { stored = s.stored ++ option_to_list change.recorded; locked = locks_after flow change s.locked; entries = s.entries ++ option_to_list change.booked }
 
@@ -58,6 +66,10 @@ is_ending (now_failed flow step class code) = true
 pub record IsBy {F : Type 0} (flow : FlowPart F) (change : LedgerChange) : Type 0 where
   pub owner : change.owner ≡ unwrap_or (flow_of flow) 0
   pub ended : change.ended ≡ is_ending flow
+
+-- whatever state of a party the tables held, they hold what the machine's effect makes of it
+abbrev pub MakesLedger : (F : Type 0) → LedgerChange → Ledger → Ledger → Type 0
+MakesLedger F change old new = (flow : FlowPart F) (me : Party) (s : LedgerState) → IsBy flow change → HoldsLedger me s old → HoldsLedger me (ledger_after flow change s) new
 
 -- ---- the law
 

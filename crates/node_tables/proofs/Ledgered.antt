@@ -1,5 +1,5 @@
 -- The ledger of a node's tables, and the state that its records make.
-use Rattle.std.proofs.Common.{◌≡◌, ◌+◌, ◌<◌, ◌≤◌, ◌^◌, ℕ, Bool, true, false, not, ◌&&◌, List, [], ◌++◌, length, map, Option, Some, None, option_to_list, unwrap_or, refl, sym, ◌∙◌, ap, subst, arith}
+use Rattle.std.proofs.Common.{◌≡◌, ◌+◌, ◌<◌, ◌≤◌, ◌^◌, ℕ, Bool, true, false, not, ◌&&◌, List, [], ◌++◌, length, Option, Some, None, option_to_list, unwrap_or, refl, sym, ◌∙◌, ap, arith}
 use Rattle.std.specs.List.{list_all}
 use Rattle.std.specs.Prelude.{IfSome}
 use Rattle.std.proofs.lemmas.List.{length-map}
@@ -13,21 +13,20 @@ use Rattle.ledger_types.specs.Names.{ref_eq, has_repeat}
 use Rattle.ledger_types.specs.Signatures.{tx_id}
 use Rattle.ledger_types.specs.Stores.{may_record, untagged}
 use Rattle.ledger_types.specs.Vaults.{vault_of, has_coin}
-use Rattle.ledger_tables.specs.Ledgers.{Ledger, held_with, may_apply, may_lock, may_book}
+use Rattle.ledger_tables.specs.Ledgers.{Ledger, may_apply, may_lock, may_book}
 use Rattle.session_wire.specs.declared.change.SessionChange.{SessionChange}
-use Rattle.session_wire.specs.Sessions.{Session}
 use Rattle.flow_machine.specs.declared.flows.FlowState.{FlowState}
 use Rattle.flow_machine.specs.declared.flows.FlowState.TheVariants.{Live, Ended, Failed}
 use Rattle.transition_record.specs.Changes.{IsLedger}
 use Rattle.net_model.specs.Enabled.{part_of}
 use Rattle.net_model.specs.Sound.{IsNumbered}
-use Rattle.net_model.specs.State.{NodeState, FlowPart, with_ids, flow_of, replay}
+use Rattle.net_model.specs.State.{NodeState, with_ids, flow_of, replay}
 use Rattle.flow_records.specs.declared.step.FlowAfter.{FlowAfter}
 use Rattle.flow_records.specs.Spelling.{is_over}
 use Rattle.flow_records.specs.Steps.{part_after, whole_part, owner_of, ends_with}
-use Rattle.node_ledger.specs.Ledgered.{LedgerState, ledger_in, HoldsLedger, IsBy, is_ending}
+use Rattle.node_ledger.specs.Ledgered.{ledger_in, HoldsLedger, IsBy, is_ending}
 use Rattle.node_ledger.proofs.Ruled.{held_is}
-use Rattle.node_tables.specs.Journals.{Reads, state_of, state_with}
+use Rattle.node_tables.specs.Journals.{Reads, state_of}
 use Rattle.node_tables.specs.Fits.{fits_ledger}
 use Rattle.node_tables.proofs.Linking.{IsOwn}
 

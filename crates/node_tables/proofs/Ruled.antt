@@ -13,7 +13,7 @@ use Rattle.net_base.proofs.Options.{none_of}
 use Rattle.session_wire.specs.declared.body.Body.{Body}
 use Rattle.session_wire.specs.declared.body.Body.TheVariants as body_of
 use Rattle.session_wire.specs.declared.change.SentItem.{SentItem}
-use Rattle.session_wire.specs.Sessions.{Session, key_eq, session_of, changed_at, with_sent, opened_on}
+use Rattle.session_wire.specs.Sessions.{Session, key_eq, session_of, changed_at, with_sent}
 use Rattle.session_wire.specs.Rules.{direction_in, direction_out, next_key, is_new_key, is_lawful, is_init_of, sessions_of, OpensNext, Continues, FitsSent, TakesUpTo, FitsTaken}
 use Rattle.session_wire.proofs.Keys.{key_exact, key_same}
 use Rattle.ledger_types.specs.declared.notary.Entry.{Entry}
@@ -24,9 +24,9 @@ use Rattle.ledger_types.specs.Vaults.{vault_of, has_coin}
 use Rattle.ledger_tables.specs.Ledgers.{may_book}
 use Rattle.flow_machine.specs.declared.flows.Checkpoint.{Checkpoint}
 use Rattle.net_model.specs.Environment.{Environment, party}
-use Rattle.net_model.specs.State.{NodeState, FlowPart, no_flow, now_live, now_ended, now_failed, Change, Effect, nothing, with_ids, flow_of, came_on}
+use Rattle.net_model.specs.State.{NodeState, FlowPart, no_flow, now_live, now_ended, now_failed, Change, Effect, nothing, with_ids, flow_of}
 use Rattle.net_model.specs.Steps.{live_at}
-use Rattle.net_model.specs.Fits.{Fits, FitsEvent, FitsChange, FitsOpened, FitsBooked, IsNewFlow, IsNextOf, GoesOn, AnswersBy, AnswersFirst, AcceptsInit, ArrivesAt}
+use Rattle.net_model.specs.Fits.{Fits, FitsEvent, FitsOpened, FitsBooked, IsNewFlow, IsNextOf, GoesOn, AnswersBy, AnswersFirst, AcceptsInit, ArrivesAt}
 use Rattle.flow_records.specs.Alone.{leaves_ledger}
 use Rattle.node_tables.specs.Fits.{rises, is_no_flow, is_new_flow, is_next_of, goes_on, answers_by, answers_first, accepts_init, is_lawful_item, only_accepts, arrives_in, fits_event, opens_next, owns_few, fits_opened, continues_in, fits_sent, takes_up_to, fits_taken, fits_sessions, fits_ledger, begun_by, fits, FitsAsRuled}
 use Rattle.node_tables.proofs.Keys.{none_from}

@@ -29,7 +29,7 @@ use Rattle.flow_machine.specs.declared.flows.FlowState.TheVariants.{Live, Ended,
 use Rattle.checkpoints.specs.Tables.{with_flow, IsNumbered as IsTabled}
 use Rattle.checkpoints.proofs.Items.{set_parts, push_parts, length_parts}
 use Rattle.net_model.specs.Environment.{Environment, environment, party}
-use Rattle.net_model.specs.State.{NodeState, FlowPart, no_flow, now_live, now_ended, now_failed, Record, Effect, flow_of, flows_on, sessions_on, apply_effect, fresh, replay, replay_from}
+use Rattle.net_model.specs.State.{NodeState, no_flow, Record, Effect, flow_of, flows_on, sessions_on, apply_effect, fresh, replay, replay_from}
 use Rattle.net_model.specs.Steps.{checkpoint_of}
 use Rattle.net_model.specs.Enabled.{part_of}
 use Rattle.net_model.specs.Fits.{Fits, FitsEvent, AcceptsInit, AnswersFirst, AnswersBy, IsNewFlow, IsNextOf, GoesOn, IsSound}
@@ -48,7 +48,7 @@ use Rattle.node_tables.specs.Fits.{fits, fits_ledger, apply_read, begun_by}
 use Rattle.node_tables.specs.Seen.{Keeps, IsSmall, AreOwned, flows_after, padded}
 use Rattle.node_tables.proofs.Small.{begun_small, record_small, record_count, few_numbers, few_arrived}
 use Rattle.node_tables.proofs.Linking.{IsOwn, owner_is, sessions_same, change_fits}
-use Rattle.node_tables.proofs.Ruled.{Parts, parts_of, fits_to}
+use Rattle.node_tables.proofs.Ruled.{parts_of, fits_to}
 use Rattle.node_tables.proofs.Acked.{acks_padded}
 use Rattle.node_tables.proofs.Held.{record_held}
 use Rattle.node_tables.proofs.Owned.{record_owned}

@@ -15,9 +15,8 @@ ghost use Rattle.net_model.specs.Sound.{AreNumbered, steps_of};
 ghost use Rattle.flow_records.specs.declared.step.FlowAfter.{FlowAfter as After};
 ghost use Rattle.flow_records.specs.Records.{record_of, IsFlow};
 ghost use Rattle.flow_records.specs.Steps.{part_after, whole_part, effect_by, step_record, IsStep};
-ghost use Rattle.net_base.specs.declared.values.Party.{Party as OfParty};
 ghost use Rattle.ledger_tables.specs.Ledgers.{HasRecordRoom, HasEntryRoom};
-ghost use Rattle.node_ledger.specs.Ledgered.{LedgerState, ledger_in, HoldsLedger};
+ghost use Rattle.node_ledger.specs.Ledgered.{ledger_in, HoldsLedger, KeepsLedger};
 ghost use Rattle.node_tables.specs.Journals.{state_of, causes_of};
 ghost use Rattle.node_tables.specs.Fits.{rises, is_no_flow, only_accepts, arrives_in, fits_event, may_open, made_by, begun_by, fits_ledger, fits};
 ghost use Rattle.node_tables.specs.Seen.{flows_after, padded, HasRooms, IsRead};
@@ -398,7 +397,7 @@ fn make_all_room<F: Drop>(
     ensures party { sessions.new.party ≡ sessions.old.party }
     ensures list { sessions.new.list ≡ sessions.old.list }
     ensures acked { sessions.new.acked ≡ sessions.old.acked }
-    ensures holds { (me : OfParty) (s : LedgerState) → HoldsLedger me s ledger.old → HoldsLedger me s ledger.new }
+    ensures holds { KeepsLedger ledger.old ledger.new }
     ensures bodies_room { OnOk result (0 < bodies.new.room) }
     ensures causes_room { OnOk result (0 < causes.new.room) }
     ensures flows_room { OnOk result (0 < flows.new.room) }
