@@ -15,14 +15,15 @@ use Rattle.ledger_types.specs.Txs.{IsTx, IsSignedTx, IsTagList}
 use Rattle.tx_store.proofs.Resolving.{resolved_long}
 use Rattle.flow_machine.specs.declared.acts.Act.{Act}
 use Rattle.flow_machine.specs.declared.acts.Act.TheVariants as act
+use Rattle.flow_machine.specs.declared.acts.Resumed.TheVariants as resumed
 use Rattle.flow_machine.specs.Limits.{IsAct}
 use Rattle.net_model.specs.Environment.{Environment, identity}
-use Rattle.net_model.specs.State.{NodeState, with_ids}
+use Rattle.net_model.specs.State.{NodeState, nothing, with_ids}
 use Rattle.net_model.specs.Steps.{Done, goes_on, performed, verifies, records, records_in}
 use Rattle.net_model.proofs.Basics.{from_map}
 use Rattle.net_model.proofs.Recorded.{resolved_more}
 use Rattle.ledger_acts.specs.declared.job.Job.{Job}
-use Rattle.ledger_acts.specs.Jobs.{job_of, tx_job, is_open, record_job, job_for, done_by, IsJob, JobIsTheAct, JobStays, JobsAreWithin}
+use Rattle.ledger_acts.specs.Jobs.{job_of, tx_job, is_open, record_job, job_for, done_by, unjudged, IsJob, UnjudgedAsMeant, JobIsTheAct, JobStays, JobsAreWithin}
 
 -- ---- what a job of recording tells
 
@@ -80,6 +81,29 @@ job_is_the_act {F} w me s now at j h = by at.waiting h
     by (act.Notarise request) k = cc
     by (act.Return value) k = cc
     by (act.Fail code) k = cc
+
+-- ---- no job
+
+unresolved : {F : Type 0} (w : Environment F) (me flow step : ℕ) (tx : Tx) (tags : Option (List Tag)) (o : Option Resolved) → option_map (job_of (identity w me).party flow step tx tags) o ≡ None → o ≡ None
+unresolved w me flow step tx tags None k = refl
+unresolved w me flow step tx tags (Some states) k = cc
+
+verify_unjudged : {F : Type 0} (w : Environment F) (me flow step : ℕ) (store : List (Hash32 × SignedTx)) (tx : Tx) → tx_job (identity w me) store flow step tx None ≡ None → verifies w tx (resolved_of store tx) ≡ (resumed.Refused 35, nothing)
+verify_unjudged w me flow step store tx h = ap (verifies w tx) (unresolved w me flow step tx None (resolved_of store tx) h)
+
+record_unjudged : {F : Type 0} (w : Environment F) (me flow step : ℕ) (s : NodeState F) (stx : SignedTx) → record_job (identity w me) (with_ids s.stored) flow step stx ≡ None → records w s stx ≡ (unjudged (identity w me) (with_ids s.stored) stx, nothing)
+record_unjudged {F} w me flow step s stx h = by (is_stored (with_ids s.stored) (tx_id stx.tx)) (is_other_notary stx.tx.notary w.notary) h
+  where
+    by : (b c : Bool) → cond (not b && not c) (tx_job (identity w me) (with_ids s.stored) flow step stx.tx (Some stx.tags)) None ≡ None → cond {A = Done} b (resumed.Recorded, nothing) (cond {A = Done} c (resumed.Refused 41, nothing) (records_in w stx (resolved_of (with_ids s.stored) stx.tx))) ≡ (cond b resumed.Recorded (cond c (resumed.Refused 41) (resumed.Refused 35)), nothing)
+    by true c k = refl
+    by false true k = refl
+    by false false k = ap (records_in w stx) (unresolved w me flow step stx.tx (Some stx.tags) (resolved_of (with_ids s.stored) stx.tx) k)
+
+pub unjudged_as_meant : {F : Type 0} → UnjudgedAsMeant F
+unjudged_as_meant w me s now at = record {
+  verify = λ tx h. ap (λ (d : Done). Some (goes_on w me now at d)) (verify_unjudged w me at.flow at.step (with_ids s.stored) tx h);
+  record_tx = λ stx h. ap (λ (d : Done). Some (goes_on w me now at d)) (record_unjudged w me at.flow at.step s stx h);
+}
 
 -- ---- while more is recorded
 

@@ -17,6 +17,7 @@ use Rattle.ledger_types.specs.Txs.{IsTx, IsTagList}
 use Rattle.tx_store.specs.Stored.{HasEach}
 use Rattle.flow_machine.specs.declared.acts.Act.{Act}
 use Rattle.flow_machine.specs.declared.acts.Act.TheVariants as act
+use Rattle.flow_machine.specs.declared.acts.Resumed.{Resumed}
 use Rattle.flow_machine.specs.declared.acts.Resumed.TheVariants as resumed
 use Rattle.flow_machine.specs.declared.flows.Checkpoint.{Checkpoint}
 use Rattle.flow_machine.specs.Limits.{IsAct}
@@ -64,6 +65,13 @@ pub record IsJob (j : Job) : Type 0 where
   pub tags : IfSome j.tags IsTagList
   pub states : HasEach j.tx j.resolved
 
+-- what the frame is resumed with whose transaction is not recorded by a job: its id is recorded already, it names another notary, or a state that it names can't be had
+abbrev pub unjudged : Identity → List (Hash32 × SignedTx) → SignedTx → Resumed
+unjudged me store stx =
+    if is_stored store (tx_id stx.tx) then resumed.Recorded
+    else if is_other_notary stx.tx.notary me.notary then resumed.Refused 41
+    else resumed.Refused 35
+
 -- ---- what a job that was run comes to
 
 -- what is done for a flow, by the verdict on its job's transaction
@@ -108,6 +116,15 @@ abbrev pub conclusion : DoneJob → Done
 conclusion d = concluded d.job.tx d.job.tags d.verdict (members d.missing)
 
 -- ---- laws
+
+-- how a live flow of a node goes on by an act that waits for no job here: one that judges, and one that records
+pub record GoesUnjudged {F : Type 0} (w : Environment F) (me : ℕ) (s : NodeState F) (now : ℕ) (at : Checkpoint F) : Type 0 where
+  pub verify : (tx : Tx) → job_for {F = F} (identity w me) (with_ids s.stored) at.flow at.step (act.Verify tx) ≡ None → performed w me s now at (act.Verify tx) ≡ Some (goes_on w me now at (resumed.Refused 35, nothing))
+  pub record_tx : (stx : SignedTx) → job_for {F = F} (identity w me) (with_ids s.stored) at.flow at.step (act.Record stx) ≡ None → performed w me s now at (act.Record stx) ≡ Some (goes_on w me now at (unjudged (identity w me) (with_ids s.stored) stx, nothing))
+
+-- where an act that judges or records waits for no job, the flow goes on by a refusal, or since the id is recorded already
+abbrev pub UnjudgedAsMeant : (F : Type 0) → Type 0
+UnjudgedAsMeant F = (w : Environment F) (me : ℕ) (s : NodeState F) (now : ℕ) (at : Checkpoint F) → GoesUnjudged w me s now at
 
 -- a flow that waits for a job goes on by what is done once it was run, at whichever moment
 abbrev pub JobIsTheAct : (F : Type 0) → Type 0

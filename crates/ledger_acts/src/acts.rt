@@ -20,24 +20,16 @@ use std::alloc::{AllocError, Global};
 use tx_tear::{TearFault, visible};
 use vault::ReserveFault;
 
-/// The references of states.
-fn references(alloc: Global, states: &[Held]) -> Result<RefList, AllocError>
-    ensures { IfOk result (λ list. list ≡ map (λ h. h.reference) states.now) }
-{
-    let mut list = ListOf::new(alloc);
-    for held in states {
-        list.push(held.reference)?;
-    }
-    Ok(list)
-}
-
-/// The references of coins, of which a reservation names 64 at most.
-fn references_within(alloc: Global, coins: &[Held]) -> Result<RefList, AllocError>
+/// The references of coins, of which a reservation names 64 at most. The only error is want of memory.
+fn references(alloc: Global, coins: &[Held]) -> Result<RefList, AllocError>
     requires { length coins.now ≤ 64 }
     ensures list { IfOk result (λ list. list ≡ map (λ h. h.reference) coins.now) }
     ensures limits { IfOk result (ListWithin 255 IsStateRef) }
 {
-    let list = references(alloc, coins)?;
+    let mut list = ListOf::new(alloc);
+    for coin in coins {
+        list.push(coin.reference)?;
+    }
     known_items(list.as_slice());
     Ok(list)
 }
@@ -57,7 +49,7 @@ pub fn reserve(
 {
     match ledger.vault().reserve(alloc, token, amount) {
         Ok(list) => {
-            let locked = references_within(alloc, list.as_slice())?;
+            let locked = references(alloc, list.as_slice())?;
             Ok(LedgerOutcome {
                 with: Resumed::Coins { list },
                 change: LedgerChange {

@@ -6,11 +6,15 @@ ghost use Rattle.ledger_types.specs.Rules.{is_other_notary};
 ghost use Rattle.ledger_types.specs.Stores.{is_stored, resolved_of};
 ghost use Rattle.ledger_types.specs.Txs.{IsTx, IsSignedTx, IsTagList};
 ghost use Rattle.tx_store.specs.Stored.{HasEach};
-ghost use Rattle.flow_machine.specs.Limits.{IsAct};
-ghost use Rattle.ledger_acts.specs.Jobs.{tx_job, is_open, record_job, awaited, IsJob};
+ghost use Rattle.flow_machine.specs.declared.acts.Resumed.TheVariants.{Refused};
+ghost use Rattle.flow_machine.specs.Limits.{IsAct, IsResumed};
+ghost use Rattle.net_model.specs.State.{nothing};
+ghost use Rattle.ledger_acts.specs.Acts.{done_of, IsOutcome};
+ghost use Rattle.ledger_acts.specs.Jobs.{tx_job, is_open, record_job, unjudged, awaited, IsJob};
 
 use crate::job::Job;
-use flow_machine::{Act, Checkpoint};
+use crate::outcome::{LedgerOutcome, resumed};
+use flow_machine::{Act, Checkpoint, Resumed};
 use ledger_types::{Resolved, SignedTx, TagList, Tx, same_tags};
 use net_base::{Hash32, Identity, Party, Spelt};
 use std::alloc::{AllocError, Global};
@@ -60,6 +64,47 @@ pub fn needs_job<F: Spelt>(identity: &Identity, store: &Store, at: &Checkpoint<F
         Act::Record { stx } => records_by_job(identity, store, &stx.get().tx),
         _ => false,
     }
+}
+
+/// Refuses the frame with 35: a state that its transaction names can't be had. It is what becomes of a flow that has a transaction judged
+/// and waits for no job. Takes no memory.
+pub fn verify_unjudged(alloc: Global, flow: u32) -> LedgerOutcome
+    ensures done { done_of result ≡ (Refused 35, nothing) }
+    ensures limits { IsOutcome flow result }
+{
+    resumed(alloc, flow, Resumed::Refused { code: 35 })
+}
+
+/// What the frame is resumed with whose transaction is not recorded by a job.
+fn unjudged(identity: &Identity, store: &Store, stx: &SignedTx) -> Resumed
+    requires { IsTx stx.now.tx }
+    ensures with { result ≡ unjudged identity.now store.now.list stx.now }
+    ensures limits { IsResumed result }
+{
+    if !is_new(store, &stx.tx.id()) {
+        Resumed::Recorded
+    } else if is_other_notary(stx.tx.notary, identity.notary) {
+        Resumed::Refused { code: 41 }
+    } else {
+        Resumed::Refused { code: 35 }
+    }
+}
+
+/// What becomes of a flow that has a transaction recorded and waits for no job: the frame is resumed with `Recorded` where the id is
+/// recorded already, and refused with 41 where the transaction names another notary, and else with 35, since a state that it names
+/// can't be had. Nothing changes. Takes no memory.
+pub fn record_unjudged(
+    alloc: Global,
+    identity: &Identity,
+    store: &Store,
+    flow: u32,
+    stx: &SignedTx,
+) -> LedgerOutcome
+    requires { IsTx stx.now.tx }
+    ensures done { done_of result ≡ (unjudged identity.now store.now.list stx.now, nothing) }
+    ensures limits { IsOutcome flow result }
+{
+    resumed(alloc, flow, unjudged(identity, store, stx))
 }
 
 /// The states that a transaction names, `None` where one can't be had. The only error is want of memory.

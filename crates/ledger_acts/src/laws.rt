@@ -1,7 +1,7 @@
 //! Laws of acts on the ledger and of jobs. The functions do nothing when they run; their contracts are the laws.
 
 ghost use Rattle.ledger_acts.specs.Acts.{ActsAsMeant};
-ghost use Rattle.ledger_acts.specs.Jobs.{JobIsTheAct, ConcludesAsMeant, SettlesAsMeant, JobStays, JobsAreWithin};
+ghost use Rattle.ledger_acts.specs.Jobs.{UnjudgedAsMeant, JobIsTheAct, ConcludesAsMeant, SettlesAsMeant, JobStays, JobsAreWithin};
 ghost use Rattle.ledger_acts.specs.Picking.{UnclaimedIsPicked};
 
 use net_base::Spelt;
@@ -9,6 +9,11 @@ use net_base::Spelt;
 /// The law that each act on the ledger which waits for no job is performed as its call is meant.
 pub fn acts_as_meant<F>()
     ensures { ActsAsMeant F }
+{}
+
+/// The law that where an act which judges or records waits for no job, the flow goes on as its call is meant.
+pub fn unjudged_as_meant<F>()
+    ensures { UnjudgedAsMeant F }
 {}
 
 /// The law that a flow which waits for a job goes on by what is done once it was run.

@@ -9,13 +9,15 @@ mod concluding;
 mod job;
 mod laws;
 mod outcome;
+#[cfg(test)]
+mod tests;
 
 pub use acts::{look_up, missing, notarise, reserve, sign};
-pub use awaiting::{is_awaited, needs_job, take_job};
+pub use awaiting::{is_awaited, needs_job, record_unjudged, take_job, verify_unjudged};
 pub use concluding::conclude;
 pub use job::{Done, Job};
 pub use laws::{
     acts_as_meant, concludes_as_meant, job_is_the_act, job_stays, jobs_are_within,
-    settles_as_meant, unclaimed_is_picked,
+    settles_as_meant, unclaimed_is_picked, unjudged_as_meant,
 };
 pub use outcome::LedgerOutcome;
