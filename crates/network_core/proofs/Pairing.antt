@@ -89,7 +89,7 @@ pair_drain m f old new o clock pairs id w shows coherent =
 
 module _ {F : Type 0} (m : Machine F) (f : Reads F) where
   pub pairs_none : (net : NetSeen) (outcomes : List Outcome) → outcomes ≡ [] → KeepsPair m f net net (λ id a b. PairLinks m f id [] outcomes a b)
-  pairs_none net outcomes none id w shows coherent = (w, shows, coherent, begin refl none refl)
+  pairs_none net outcomes empty id w shows coherent = (w, shows, coherent, begin refl empty refl)
 
   pub pairs_more : (old mid new : NetSeen) (steps all : List Step) (outcomes longer : List Outcome) (s : Step) (o : Outcome) → KeepsPair m f old mid (λ id a b. PairLinks m f id steps outcomes a b) → KeepsPair m f mid new (λ id a b. PairServes m f id s (Some o) a b)
       → all ≡ steps ++ s ∷ [] → longer ≡ outcomes ++ o ∷ [] → KeepsPair m f old new (λ id a b. PairLinks m f id all longer a b)
