@@ -1,5 +1,7 @@
 ghost use Rattle.std.specs.Prelude.{IfOk, IfSome};
-ghost use Rattle.ledger_types.specs.Txs.{IsSignedTx};
+ghost use Rattle.net_base.specs.Forms.{ListWithin};
+ghost use Rattle.ledger_types.specs.States.{IsTxState};
+ghost use Rattle.ledger_types.specs.Txs.{IsTx, IsSignedTx};
 ghost use Rattle.ledger_types.specs.Requests.{IsEntry};
 
 use super::columns::{bytes, value};
@@ -128,7 +130,10 @@ fn missing_text(alloc: Global, store: &Store, tx: &Tx) -> Result<String> {
 }
 
 /// The bytes of states, first of the inputs.
-fn states_text(alloc: Global, states: &Resolved) -> Result<String> {
+fn states_text(alloc: Global, states: &Resolved) -> Result<String>
+    requires inputs { ListWithin 255 IsTxState states.now.inputs }
+    requires references { ListWithin 255 IsTxState states.now.references }
+{
     let mut out = Writer::new(alloc);
     write_list(alloc, &states.inputs, &mut out)?;
     write_list(alloc, &states.references, &mut out)?;
@@ -137,7 +142,9 @@ fn states_text(alloc: Global, states: &Resolved) -> Result<String> {
 }
 
 /// The states that a transaction names, or which it lacks. The calls that take no memory have to say the same.
-fn resolved_text(alloc: Global, store: &Store, tx: &Tx) -> Result<String> {
+fn resolved_text(alloc: Global, store: &Store, tx: &Tx) -> Result<String>
+    requires { IsTx tx.now }
+{
     let had = store.has_states(tx);
     match store.resolve(alloc, tx) {
         Ok(states) if had && store.resolves_to(tx, &states) => states_text(alloc, &states),
