@@ -120,7 +120,9 @@ impl<'a> Stage<'a> {
             .disks
             .get_mut(*place as usize)
             .context("no disk at that place")?;
-        disk.cut_power(*calls, *outcome as u8).ok().context("no cut")
+        disk.cut_power(*calls, *outcome as u8)
+            .ok()
+            .context("no cut")
     }
 
     /// Plays a script over the disks that stand there.
@@ -157,9 +159,7 @@ impl<'a> Stage<'a> {
         let got = str::from_utf8(played.answers.bytes())?;
         let line = first_difference(alloc, got, wanted)?;
         let got = played.status;
-        Ok(Some(
-            format!(in alloc; "status {got}, wanted {status}{line}")?,
-        ))
+        Ok(Some(format!(in alloc; "status {got}, wanted {status}{line}")?))
     }
 
     /// Compares what a disk holds with what is wanted.
