@@ -6,6 +6,7 @@
 #![tactic(auto)]
 
 mod checks;
+mod laws;
 mod sections;
 mod stage;
 
@@ -24,6 +25,8 @@ fn passes(rt: &impl Print, name: &str, check: &Check) -> Result<bool> {
 }
 
 fn main(rt: HostRuntime) -> Result<()> {
+    laws::of_the_model();
+    laws::of_the_network();
     let alloc = rt.alloc();
     let text = io::read_to_string(alloc, rt.reader())?;
     let mut stage = Stage::new(alloc);

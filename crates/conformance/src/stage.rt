@@ -109,6 +109,22 @@ impl<'a> Stage<'a> {
         self.disks.get_mut(place).context("no disk at that place")
     }
 
+    /// Cuts the power of a disk, now or at one of its next writes and syncs.
+    fn cut(&mut self, alloc: Global, values: &str) -> Result<()> {
+        let numbers = numbers_of(alloc, values)?;
+        let [place, calls, outcome] = numbers.as_slice() else {
+            bail!("a cut has a place, a number of calls and an outcome")
+        };
+        ensure!(*outcome <= 3, "no outcome of that number");
+        let disk = self
+            .disks
+            .get_mut(*place as usize)
+            .context("no disk at that place")?;
+        disk.cut_power(*calls, *outcome as u8)
+            .ok()
+            .context("no cut")
+    }
+
     /// Plays a script over the disks that stand there.
     fn run(&mut self, alloc: Global, values: &str, script: &str) -> Result<()> {
         let words = words_of(alloc, values)?;
@@ -143,9 +159,7 @@ impl<'a> Stage<'a> {
         let got = str::from_utf8(played.answers.bytes())?;
         let line = first_difference(alloc, got, wanted)?;
         let got = played.status;
-        Ok(Some(
-            format!(in alloc; "status {got}, wanted {status}{line}")?,
-        ))
+        Ok(Some(format!(in alloc; "status {got}, wanted {status}{line}")?))
     }
 
     /// Compares what a disk holds with what is wanted.
@@ -176,7 +190,7 @@ impl<'a> Stage<'a> {
                 let bytes = bytes_of(alloc, lines)?;
                 *self.disk(values)? = disk_of(alloc, bytes.as_slice())?;
             }
-            "dark" => self.disk(values)?.cut_power(0, 0).ok().context("no cut")?,
+            "cut" => self.cut(alloc, values)?,
             "power" => self.disk(values)?.restore_power(),
             "failing-reads" => self.failing_reads = numbers_of(alloc, values)?,
             "failing-writes" => self.failing_writes = numbers_of(alloc, values)?,

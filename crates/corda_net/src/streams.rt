@@ -77,32 +77,3 @@ impl<W: Write> Sink for StdSink<W> {
         }
     }
 }
-
-#[cfg(test)]
-mod tests {
-    use super::*;
-    use std::test::Fail;
-
-    #[test]
-    fn a_source_reads_on_to_the_end(rt: HostRuntime) -> Result<(), Fail> {
-        let mut source = StdSource::new(b"drain".as_slice());
-        let mut into = [0u8; 4];
-        assert_eq!(rt; source.read(&mut into), Ok(4));
-        assert_eq!(rt; into.as_slice(), b"drai".as_slice());
-        assert_eq!(rt; source.read(&mut into), Ok(1));
-        assert_eq!(rt; source.read(&mut into), Ok(0));
-        assert_eq!(rt; source.failed_reads, 0);
-        Ok(())
-    }
-
-    #[test]
-    fn a_sink_that_takes_nothing_fails(rt: HostRuntime) -> Result<(), Fail> {
-        let mut room = [0u8; 3];
-        let mut sink = StdSink::new(room.as_mut_slice());
-        assert_eq!(rt; sink.write(b"dra"), Ok(3));
-        assert_eq!(rt; sink.write(b""), Ok(0));
-        assert_eq!(rt; sink.write(b"in"), Err(Failed));
-        assert_eq!(rt; sink.failed_writes, 1);
-        Ok(())
-    }
-}

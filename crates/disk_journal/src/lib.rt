@@ -10,6 +10,3 @@ mod scan;
 
 pub use fault::{AppendFault, OpenFault};
 pub use journal::{Journal, OpenRefused};
-
-#[cfg(test)]
-mod tests;

@@ -3,7 +3,5 @@
 
 mod lay;
 mod mem;
-#[cfg(test)]
-mod tests;
 
 pub use mem::MemDisk;

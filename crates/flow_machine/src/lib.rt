@@ -11,8 +11,6 @@ mod counter;
 mod fields;
 mod flow_set;
 mod flows;
-#[cfg(test)]
-mod spelling_tests;
 mod stack;
 
 pub use act_spelling::FrameBytes;

@@ -1,5 +1,5 @@
 -- What the bytes of a record mean over a flow set.
-use Rattle.std.proofs.Common.{◌≡◌, ◌≤◌, ℕ, Bool, true, false, List, length, Option, Some, None, Result, Ok, Err, refl, sym, ap, subst, ◌∙◌, arith, nat_le, option_and_then, if◌then◌else◌, option_map}
+use Rattle.std.proofs.Common.{◌≡◌, ◌≤◌, ℕ, Bool, true, false, List, length, Option, Some, None, Result, Ok, Err, refl, sym, ap, subst, ◌∙◌, nat_le, option_and_then, if◌then◌else◌, option_map}
 use Rattle.std.specs.Prelude.{IfOk}
 use Rattle.std.proofs.lemmas.Bool.{leb-true, le-leb}
 use Rattle.net_base.specs.declared.causes.Cause.{Cause}

@@ -1,5 +1,5 @@
 -- How many bytes the record of a flow has at most.
-use Rattle.std.proofs.Common.{◌≡◌, ◌+◌, ◌≤◌, ℕ, suc, Bool, List, ◌∷◌, ◌++◌, length, Option, Some, None, ap, arith}
+use Rattle.std.proofs.Common.{◌≡◌, ◌≤◌, ℕ, suc, List, ◌∷◌, ◌++◌, length, Option, Some, None, ap, arith}
 use Rattle.std.specs.Prelude.{IfSome}
 use Rattle.net_base.specs.declared.names.StateRef.{StateRef}
 use Rattle.net_base.specs.Names.{IsStateRef, state_ref}
@@ -118,7 +118,7 @@ failed_fits flow step class code =
 
 -- ---- records
 
--- what changes of the ledger
+-- what changes of the ledger: at most 6,060 bytes of what is recorded, 9,181 of what is locked, 17,574 of what is booked
 recorded_fits : (o : Option SignedTx) → IfSome o IsSignedTx → length (option_of signed_tx o) ≤ 6060
 recorded_fits None h = omega arith
 recorded_fits (Some x) h = let n = signed_fits x h in omega (arith, n)
@@ -139,7 +139,7 @@ ledger_fits l h =
     let all = joined (option_of signed_tx l.recorded) (list8 state_ref l.locked ++ option_of entry l.booked) 6060 26755 (recorded_fits l.recorded h.0) rest in
     omega (arith, all)
 
--- a record is short where what is spelt of the flow and of the sessions is
+-- a record is short where what is spelt of the flow and of the sessions is: 65,560 + 300,000 + 50,000 + 32,815 = 448,375
 pub spoken_fits : (c : Cause) (p : SpokenPart) (s : SessionChange) (l : LedgerChange) → IsCause c → IsLedgerPart l → length (part_text p) ≤ 300000 → length (session_text s) ≤ 50000 → length (record_text c (spoken_by p s l)) ≤ 524288
 spoken_fits c p s l h hl short few =
     let e = spoken_by p s l in

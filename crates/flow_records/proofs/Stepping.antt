@@ -8,7 +8,7 @@ use Rattle.transition_record.specs.Changes.{part_flow, part_over, IsSession, IsL
 use Rattle.net_model.specs.State.{FlowPart, Change, Record}
 use Rattle.flow_records.specs.declared.step.FlowAfter.{FlowAfter}
 use Rattle.flow_records.specs.Records.{flow_part, change_of, record_over}
-use Rattle.flow_records.specs.Steps.{part_after, owner_of, ends_with, step_with, TellsAfter, TellsStep}
+use Rattle.flow_records.specs.Steps.{owner_of, ends_with, step_with, TellsAfter, TellsStep}
 
 -- a part of a record over this change
 abbrev with_part : {F : Type 0} → Cause → Change → FlowPart F → Record F

@@ -120,9 +120,10 @@ fn part_after<F: FlowSet>(
     }
 }
 
-/// The bytes of the record of a step. They are at most 524,288: the cause takes at most 65,560 bytes, what becomes of the flow 300,000 (a
-/// checkpoint 294,942), what changes in the ledger 32,815, and what changes in the sessions is asked to take at most 50,000: an act opens
-/// one session at most, and sends one item of its own or one to each of the 64 sessions at most that its flow owns.
+/// The bytes of the record of a step. They are at most 524,288, by these bounds: the cause 65,560 bytes, what becomes of the flow
+/// 300,000 (a checkpoint has at most 294,942), what changes in the sessions 50,000, what changes in the ledger 32,815; together
+/// 448,375. That the sessions' part is so short is asked of the caller: an act opens one session at most, and sends one item of its
+/// own or one to each of the 64 sessions at most that its flow owns.
 ///
 /// # Errors
 ///

@@ -1,2 +1,5 @@
+pub mod Choosing
+pub mod Concluded
 pub mod Judging
-pub mod Comings
+pub mod Meant
+pub mod Waiting

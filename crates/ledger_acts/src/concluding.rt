@@ -1,22 +1,18 @@
 //! What a job that was run comes to.
 
-ghost use Rattle.std.specs.Prelude.{◌≡◌, true, false, Some, None};
-ghost use Rattle.ledger_types.specs.declared.verdict.Verdict.TheVariants.{Accepted};
+ghost use Rattle.std.specs.Prelude.{◌≡◌, true, false, Some, None, IfOk};
 ghost use Rattle.net_base.specs.Parties.{members};
-ghost use Rattle.net_model.specs.State.{nothing};
-ghost use Rattle.ledger_acts.specs.Jobs.{refusal_of, recorded_by, conclusion};
+ghost use Rattle.ledger_types.specs.declared.verdict.Verdict.TheVariants.{Accepted};
+ghost use Rattle.ledger_types.specs.Txs.{IsTx, IsTagList};
+ghost use Rattle.ledger_acts.specs.Acts.{done_of, IsOutcome};
+ghost use Rattle.ledger_acts.specs.Jobs.{refusal_of, recorded_by, conclusion, IsJob};
 
 use crate::job::{Done, Job};
+use crate::outcome::{LedgerOutcome, resumed};
 use flow_machine::Resumed;
-use ledger_types::{SignedTx, TagList, Tx, Verdict};
-use net_base::PartySet;
-
-/// What a flow is resumed with once its job was run, and the transaction that is recorded, if one is.
-#[derive(Debug, Drop)]
-pub struct Concluded {
-    pub with: Resumed,
-    pub recorded: Option<SignedTx>,
-}
+use ledger_types::{LedgerChange, SignedTx, TagList, Tx, Verdict};
+use net_base::{Boxed, ListOf, PartySet};
+use std::alloc::{AllocError, Global};
 
 /// Whether a party is in the set.
 fn is_any(missing: PartySet) -> bool
@@ -39,28 +35,40 @@ fn refusal(verdict: Verdict, missing: PartySet) -> Option<u16>
 }
 
 /// What recording comes to, by that code.
-fn recorded(tx: Tx, tags: TagList, refusal: Option<u16>) -> Concluded
-    ensures { (result.with, record nothing { recorded = result.recorded }) ≡ recorded_by (record { tx = tx; tags = tags }) refusal }
+fn recorded(
+    alloc: Global,
+    flow: u32,
+    tx: Tx,
+    tags: TagList,
+    refusal: Option<u16>,
+) -> Result<LedgerOutcome, AllocError>
+    ensures done { IfOk result (λ p. done_of p ≡ recorded_by (record { tx = tx; tags = tags }) refusal) }
+    ensures limits { IsTx tx → IsTagList tags → IfOk result (IsOutcome flow) }
 {
     match refusal {
-        None => Concluded {
+        None => Ok(LedgerOutcome {
             with: Resumed::Recorded,
-            recorded: Some(SignedTx { tx, tags }),
-        },
+            change: LedgerChange {
+                recorded: Some(Boxed::new(alloc, SignedTx { tx, tags })?),
+                locked: ListOf::new(alloc),
+                owner: flow,
+                ended: false,
+                booked: None,
+            },
+        }),
         Some(code) => {
             drop(tx);
             drop(tags);
-            Concluded {
-                with: Resumed::Refused { code },
-                recorded: None,
-            }
+            Ok(resumed(alloc, flow, Resumed::Refused { code }))
         }
     }
 }
 
-/// What a job that was run comes to. It takes no memory.
-pub fn conclude(done: Done) -> Concluded
-    ensures { (result.with, record nothing { recorded = result.recorded }) ≡ conclusion done }
+/// What a job that was run comes to: the frame is resumed with the verdict; but where tags were asked for the transaction is recorded if
+/// it was accepted and nobody is missing, and else the frame is refused with 31 to 34. The only error is want of memory.
+pub fn conclude(alloc: Global, done: Done) -> Result<LedgerOutcome, AllocError>
+    ensures done { IfOk result (λ p. done_of p ≡ conclusion done) }
+    ensures limits { IsJob done.job → IfOk result (IsOutcome done.job.flow) }
 {
     let Done {
         job,
@@ -68,6 +76,7 @@ pub fn conclude(done: Done) -> Concluded
         missing,
     } = done;
     let Job {
+        flow,
         tx,
         tags,
         resolved,
@@ -77,11 +86,8 @@ pub fn conclude(done: Done) -> Concluded
     match tags {
         None => {
             drop(tx);
-            Concluded {
-                with: Resumed::Verdict { verdict },
-                recorded: None,
-            }
+            Ok(resumed(alloc, flow, Resumed::Verdict { verdict }))
         }
-        Some(tags) => recorded(tx, tags, refusal(verdict, missing)),
+        Some(tags) => recorded(alloc, flow, tx, tags, refusal(verdict, missing)),
     }
 }

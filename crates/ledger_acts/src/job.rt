@@ -1,10 +1,11 @@
 //! Jobs.
 
-ghost use Rattle.std.specs.Prelude.{◌≡◌, [], length};
+ghost use Rattle.std.specs.Prelude.{◌≡◌, []};
+ghost use Rattle.net_base.specs.Parties.{members};
 ghost use Rattle.signing.specs.Marks.{keyed_mark};
 ghost use Rattle.ledger_types.specs.Txs.{IsTx};
+ghost use Rattle.tx_store.specs.Stored.{HasEach};
 ghost use Rattle.ledger_acts.specs.Jobs.{missing_in, IsRun};
-ghost use Rattle.net_base.specs.Parties.{members};
 
 use contract_verify::Judge;
 use ledger_types::{Resolved, SignedTx, TagList, Tx, Verdict};
@@ -12,16 +13,17 @@ use net_base::{Party, PartySet};
 use signing::KeyedDigest;
 use tx_rules::missing_tags;
 
-/// What a flow waits for that wants its transaction judged, or recorded. It is run without the node, which may go on meanwhile.
+/// What a flow waits for that wants a transaction judged, or recorded. It is run without the node, which may go on meanwhile.
 #[derive(Debug, Drop)]
 pub struct Job {
     pub node: Party,
     pub flow: u32,
+    /// The step at which the flow waits.
     pub step: u32,
     pub tx: Tx,
-    /// Those of a transaction that is to be recorded.
+    /// Those of a transaction that is to be recorded; `None` of one that is only to be judged.
     pub tags: Option<TagList>,
-    /// The states that it names.
+    /// The states that the transaction names.
     pub resolved: Resolved,
 }
 
@@ -30,7 +32,7 @@ pub struct Job {
 pub struct Done {
     pub job: Job,
     pub verdict: Verdict,
-    /// Who has to sign the transaction of a job with tags, and has not.
+    /// Who has to sign the transaction and has not; nobody of a job without tags.
     pub missing: PartySet,
 }
 
@@ -63,8 +65,7 @@ impl Job {
     /// Runs the job: the verdict on its transaction over these contracts, and who has to sign it and has not. It takes no memory.
     pub fn run<J: Judge>(self, contracts: &J) -> Done
         requires limits { IsTx self.tx }
-        requires inputs { length self.resolved.inputs ≡ length self.tx.inputs }
-        requires references { length self.resolved.references ≡ length self.tx.references }
+        requires states { HasEach self.tx self.resolved }
         ensures job { result.job ≡ self }
         ensures run { IsRun (J.judges contracts.now) keyed_mark result }
     {

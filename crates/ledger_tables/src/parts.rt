@@ -42,16 +42,13 @@ fn are_coins(vault: &Vault, recorded: &Option<Boxed<SignedTx>>, refs: &[StateRef
 }
 
 /// Whether a reference stands twice.
-#[tactic(auto, using(crate::proofs::Repeats::repeat_at))]
 fn has_repeated(refs: &[StateRef]) -> bool
     ensures { result ≡ has_repeat ref_eq refs.now }
 {
-    for i in 0..refs.len() {
-        if refs[i + 1..].contains(&refs[i]) {
-            return true;
-        }
+    match refs {
+        [] => false,
+        [first, rest @ ..] => rest.contains(first) || has_repeated(rest),
     }
-    false
 }
 
 /// Whether these states may be locked once a transaction, where there is one, is recorded.

@@ -1,4 +1,4 @@
--- What == says of transactions, of the states that they name, and of tags: that they are the same.
+-- What == says of transactions, of the states that they name, and of tags: that they are the same, part by part.
 use Rattle.std.specs.Prelude.{◌≡◌, Bool, ◌&&◌, List, Option}
 use Rattle.std.specs.Bool.{Decides}
 use Rattle.std.specs.Cmp.{IsPartialEquivalence, both_ways}

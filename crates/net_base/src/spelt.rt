@@ -14,9 +14,8 @@ pub trait Spelt: Sized + Drop {
     ghost use Rattle.std.specs.Prelude.{◌≡◌, ℕ, List, Result};
     ghost use Rattle.net_base.specs.Laws.{LawsIf};
 
-    /// Whether faults are exact: where it holds, the place of a refusal is the first one at which no value's spelling can go on. Of a
-    /// type that says otherwise no more is known of a refused place than where the reader stood. It holds unless a type says
-    /// otherwise.
+    /// The premise under which a refusal's place is the first one where no value's spelling goes on. It holds unless a type says
+    /// otherwise; of a type at which it doesn't hold, a refusal says that no value's spelling begins there, and its place says nothing.
     ghost exact: { Type 0 } = { Unit {0} };
 
     /// The value's bytes.
@@ -26,10 +25,10 @@ pub trait Spelt: Sized + Drop {
     ghost within: { Self → Type 0 };
 
     /// What reading from the left gives, as a function on lists: the value and the bytes behind it, or
-    /// how many bytes are left where no spelling goes on.
+    /// how many bytes are left where it stops. Where `exact` holds, no spelling goes on there.
     ghost reading: { List ℕ → Result (Self × List ℕ) ℕ };
 
-    /// Reads a value, or tells how many bytes are left where no spelling goes on. After a fault the
+    /// Reads a value, or tells how many bytes are left where reading stops. After a fault the
     /// reader's place is not stated.
     fn read_part(alloc: Global, from: &mut Reader) -> Result<Self, PartFault>
         ensures { Gives (λ x. x) result from.old from.new (reading from.old.left) };
@@ -110,8 +109,8 @@ pub fn decode_whole<T: Spelt>(alloc: Global, bytes: &[u8]) -> Result<T, DecodeFa
     }
 }
 
-/// The value whose spelling all of the bytes are, `None` exactly where they are no value's spelling. Its type need not have exact
-/// faults: where the bytes stop being a spelling is not told, as it is by `decode_whole`.
+/// The value whose spelling all of the bytes are, `None` exactly where they are no value's spelling. It tells no place, as
+/// `decode_whole` does, and so asks for no exact faults.
 ///
 /// # Errors
 ///

@@ -17,6 +17,3 @@ pub use laws::{
     stamps_rise, step_is_its_effect, steps_fit, stored_is_signed, stores_hold,
 };
 pub use ordering::{copy_cause, merge};
-
-#[cfg(test)]
-mod tests;

@@ -1,15 +1,13 @@
 -- A drain of networks and worlds is one of networks and one of worlds, and a way.
-use Rattle.std.proofs.Common.{◌≡◌, ◌⊎◌, inl, inr, ⊎_elim, ℕ, List, Bool, true, length, Option, Some, None, false, refl, sym, ap, subst}
+use Rattle.std.proofs.Common.{inl, inr, ℕ, List, Bool, true, Option, Some, None, false, refl, sym, subst}
 use Rattle.net_base.specs.declared.names.Identity.{Identity}
 use Rattle.flow_machine.specs.Machine.{Machine}
 use Rattle.net_model.specs.Environment.{Environment, environment}
 use Rattle.node_tables.specs.Journals.{Reads}
 use Rattle.network_core.specs.declared.steps.Outcome.{Outcome}
-use Rattle.network_core.specs.declared.steps.Outcome.TheVariants as outcome
-use Rattle.network_core.specs.Worlds.{World, NetSeen, Shows, Coherent, KeepsWorld}
-use Rattle.network_core.specs.Answers.{NetEnds, net_steps}
-use Rattle.network_core.specs.Drains.{WorldEnds, WorldDrains, world_steps}
-use Rattle.network_core.specs.Rounds.{DrainSteps, DrainsTo, DoesAt}
+use Rattle.network_core.specs.Answers.{net_steps}
+use Rattle.network_core.specs.Drains.{world_steps}
+use Rattle.network_core.specs.Rounds.{DrainsTo, DoesAt}
 use Rattle.network_core.specs.Drains.{Pair, pair_steps}
 use Rattle.network_core.specs.Ways.{Way, stay, by_part, by_step, CallsAreWays, PairsAreBoth}
 use Rattle.network_core.specs.declared.steps.Step.{Step}

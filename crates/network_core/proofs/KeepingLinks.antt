@@ -1,30 +1,27 @@
 -- From one network to the next, of which one disk moved: what is said of each moment between them.
-use Rattle.std.proofs.Common.{◌≡◌, ◌⊎◌, inl, inr, ⊎_elim, ℕ, zero, suc, ◌==◌, Bool, true, false, List, [], ◌∷◌, ◌++◌, length, map, drop, option_to_list, Option, Some, None, Result, Ok, Err, IsSome, slice_set, refl, sym, ◌∙◌, ap, subst, arith, append-nil, append_assoc}
+use Rattle.std.proofs.Common.{◌≡◌, inl, inr, ⊎_elim, ℕ, false, List, [], ◌∷◌, ◌++◌, length, map, drop, Option, Some, None, slice_set, refl, sym, ◌∙◌, ap, subst, append-nil, append_assoc}
 use Rattle.std.specs.List.{slice_get, Contains}
 use Rattle.std.proofs.lemmas.Bool.{cases_eq}
 use Rattle.std.proofs.lemmas.Option.{same_Some, none-some}
-use Rattle.std.proofs.lemmas.List.{length-map, map-append}
+use Rattle.std.proofs.lemmas.List.{length-map}
 use Rattle.std.proofs.lemmas.List.Elements.{Contains-push}
 use Rattle.std.proofs.lemmas.List.{drop_at}
 use Rattle.std.proofs.lemmas.Bool.{true≢false}
-use Rattle.outside.specs.Disk.{DiskState, Durable, IsImage, EachImage, moment}
+use Rattle.outside.specs.Disk.{DiskState, Durable, IsImage, moment}
 use Rattle.outside.proofs.Moments.{only}
-use Rattle.net_base.specs.declared.causes.Cause.{Cause}
 use Rattle.net_base.proofs.Lists.{get_beside, get_map, of_map, set_length}
-use Rattle.disk_journal.specs.Journal.{IsSound, journal_of}
-use Rattle.flow_records.specs.Records.{record_of}
+use Rattle.disk_journal.specs.Journal.{journal_of}
 use Rattle.net_model.specs.Environment.{Environment}
-use Rattle.net_model.specs.State.{Record}
 use Rattle.net_model.specs.Runs.{IsFaithful}
-use Rattle.node_tables.specs.Journals.{Reads, records_of, causes_of}
+use Rattle.node_tables.specs.Journals.{records_of, causes_of}
 use Rattle.node_core.specs.Seen.{NodeSeen}
-use Rattle.network_core.specs.Worlds.{NodeWorld, World, NetSeen, MaySpell, NodeShows, Shows, Choice, Coherent}
+use Rattle.network_core.specs.Worlds.{NodeWorld, World, NetSeen, MaySpell, Shows, Choice, Coherent}
 use Rattle.network_core.proofs.AgreeingPlace.{Adds}
 use Rattle.network_core.proofs.AgreeingOnce.{goes_coherent}
 use Rattle.network_core.proofs.Faithful.{coherent_is_faithful}
 use Rattle.network_core.proofs.Placing.{set_apart, set_here}
 use Rattle.network_core.proofs.Standing.{causes_append}
-use Rattle.network_core.specs.Moments.{Instant, IsSince, now_of, IsBetween, IsChoice, Begins, AreSound, IsKept}
+use Rattle.network_core.specs.Moments.{Instant, IsSince, now_of, IsBetween, IsChoice, IsKept}
 use Rattle.network_core.proofs.KeepingNodes.{Fine, DiskGoes, unchanged}
 
 -- ---- moments of a disk

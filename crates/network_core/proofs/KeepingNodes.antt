@@ -1,6 +1,5 @@
 -- What a call of a node makes of its disk, at every moment.
-use Rattle.std.proofs.Common.{◌≡◌, ◌⊎◌, inl, inr, ⊎_elim, ℕ, zero, suc, ◌+◌, ◌<◌, ◌≤◌, true, false, List, [], ◌∷◌, ◌++◌, length, Option, Some, None, Result, Ok, Err, IsSome, refl, sym, ◌∙◌, ap, subst, arith}
-use Rattle.std.specs.Prelude.{max}
+use Rattle.std.proofs.Common.{◌≡◌, ◌⊎◌, inl, inr, ⊎_elim, ℕ, ◌≤◌, true, List, [], ◌∷◌, ◌++◌, length, Option, Some, None, Result, Ok, Err, refl, sym, ◌∙◌, ap, subst, arith}
 use Rattle.std.specs.List.{slice_get}
 use Rattle.std.proofs.lemmas.Option.{MatchOption-at_none, MatchOption-at_some, none-some}
 use Rattle.outside.specs.Disk.{DiskState, DiskView, Durable, IsImage, EachImage, written_end}
@@ -17,7 +16,7 @@ use Rattle.session_frames.specs.Items.{GoesFurther}
 use Rattle.session_frames.specs.Judging.{IsJudged}
 use Rattle.flow_machine.specs.Machine.{Machine}
 use Rattle.disk_journal.specs.Journal.{IsSound, WasSpelt, journal_of}
-use Rattle.net_model.specs.Environment.{Environment, environment, identity, party}
+use Rattle.net_model.specs.Environment.{Environment, environment, identity}
 use Rattle.net_model.specs.Runs.{accepts}
 use Rattle.node_core.specs.declared.faults.StartFault.{StartFault}
 use Rattle.node_core.specs.declared.faults.StartFault.TheVariants as start_fault
@@ -37,7 +36,7 @@ use Rattle.node_core.specs.Disks.{Moves, KeepsForm, OldOrMore, OneOf}
 use Rattle.node_core.specs.Seen.{NodeSeen, Pends, Commits, Faults, StartsAs, StartAnswers, flow_count, TurnsAs, TurnAnswers, CutsAs, CutAnswers, BootsAs}
 use Rattle.node_core.specs.Takes.{AcceptsAs, Responds, TakesAs, TakeAnswers, accepting}
 use Rattle.network_core.specs.Worlds.{NodeWorld, World, ShowsJournal, NodeShows, Coherent}
-use Rattle.network_core.specs.Answers.{Restored, DownBoots}
+use Rattle.network_core.specs.Answers.{Restored}
 use Rattle.network_core.proofs.AgreeingPlace.{Adds}
 use Rattle.network_core.proofs.AgreeingSteps.{IsSenders, none_senders}
 use Rattle.network_core.proofs.AgreeingHeard.{senders, fits}

@@ -1,5 +1,5 @@
 -- Each step of a network but a drain, and each part of one, is a link: of one node at most the disk goes on.
-use Rattle.std.proofs.Common.{◌≡◌, ◌⊎◌, inl, inr, ⊎_elim, ℕ, Bool, true, false, List, length, Option, Some, None, Result, IsSome, slice_set, refl, sym, ◌∙◌, ap, subst}
+use Rattle.std.proofs.Common.{◌≡◌, inl, inr, ⊎_elim, ℕ, Bool, true, false, List, length, Option, Some, None, Result, slice_set, refl, sym, ◌∙◌, ap, subst}
 use Rattle.std.specs.List.{slice_get}
 use Rattle.std.specs.Option.{option_map}
 use Rattle.std.proofs.lemmas.Option.{same_Some, slice_get-map}
@@ -14,7 +14,7 @@ use Rattle.network_core.specs.declared.steps.Outcome.{Outcome}
 use Rattle.network_core.specs.declared.steps.Step.{Step}
 use Rattle.network_core.specs.declared.steps.Step.TheVariants as step
 use Rattle.network_core.specs.Worlds.{NodeWorld, World, NetSeen, NodeShows, Shows, Coherent}
-use Rattle.network_core.specs.Answers.{AtPlace, StartServes, TurnServes, CutServes, BootServes, ClockServes, LoseServes, PostServes, Handing, HandServes, Answered, said, answer_of, NetTurn, NetPost, NetHand}
+use Rattle.network_core.specs.Answers.{AtPlace, StartServes, TurnServes, CutServes, BootServes, ClockServes, LoseServes, PostServes, Handing, HandServes, Answered, said, answer_of}
 use Rattle.network_core.specs.Rounds.{DoesAt}
 use Rattle.network_core.proofs.Placing.{set_apart, set_here}
 use Rattle.network_core.proofs.Mailing.{waits_in}

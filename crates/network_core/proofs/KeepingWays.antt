@@ -1,8 +1,7 @@
 -- Whatever power cuts leave at any moment on a way.
-use Rattle.std.proofs.Common.{◌≡◌, ◌⊎◌, inl, inr, ⊎_elim, ℕ, List, ◌++◌, length, map, Option, Some, refl, sym, ◌∙◌, ap, subst, append_assoc}
+use Rattle.std.proofs.Common.{◌≡◌, ⊎_elim, ℕ, List, ◌++◌, length, Some, refl, sym, ◌∙◌, ap, subst, append_assoc}
 use Rattle.std.specs.List.{slice_get}
 use Rattle.std.proofs.lemmas.Option.{same_Some}
-use Rattle.outside.specs.Disk.{Durable, IsImage}
 use Rattle.net_base.specs.declared.names.Identity.{Identity}
 use Rattle.net_base.specs.declared.causes.Cause.{Cause}
 use Rattle.net_base.proofs.Lists.{get_beside, get_map}
@@ -13,7 +12,7 @@ use Rattle.node_tables.specs.Journals.{Reads, causes_of}
 use Rattle.node_core.specs.Seen.{NodeSeen}
 use Rattle.network_core.specs.Worlds.{World, NetSeen, Shows, Coherent}
 use Rattle.network_core.specs.Answers.{answer_of}
-use Rattle.network_core.specs.Moments.{Instant, now_of, OneMoves, AreSound, Begins, IsKept}
+use Rattle.network_core.specs.Moments.{Instant, now_of, OneMoves, AreSound, IsKept}
 use Rattle.network_core.specs.Drains.{Pair}
 use Rattle.network_core.specs.Ways.{Way, stay, by_part, by_step, IsOn, KeptOnWays, WaysMoveOneByOne}
 use Rattle.network_core.proofs.KeepingLinks.{Link, each_goes, now_between, kept_between}

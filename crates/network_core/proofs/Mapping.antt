@@ -1,8 +1,8 @@
 -- A drain over states of one kind is one over states of another kind, of which each step is one.
-use Rattle.std.proofs.Common.{◌≡◌, ◌⊎◌, inl, inr, ⊎_elim, ℕ, zero, suc, ◌+◌, ◌<◌, true, false, Option, Some, None, refl, sym, ap, subst}
+use Rattle.std.proofs.Common.{◌≡◌, inl, inr, ℕ, zero, suc, ◌<◌, true, false, Option, Some, None, sym, ap, subst}
 use Rattle.network_core.specs.declared.steps.Outcome.{Outcome}
 use Rattle.network_core.specs.declared.steps.Outcome.TheVariants as outcome
-use Rattle.network_core.specs.Rounds.{DrainSteps, Moves, IsLastTurn, TurnsAt, StopsAt, InOrder, PostsAt, Hands, IsTaken, committed, DeliversAt, HandStops, Round, TurnsStop, PostsStop, HandsStop, RoundStops, Rounds, IsDrained, DrainStops, DrainsTo, DoesAt}
+use Rattle.network_core.specs.Rounds.{DrainSteps, Moves, TurnsAt, StopsAt, InOrder, PostsAt, Hands, DeliversAt, HandStops, Round, TurnsStop, PostsStop, HandsStop, RoundStops, Rounds, DrainStops, DrainsTo, DoesAt}
 
 -- each step of states of one kind is one of the other's
 pub record Maps {W V : Type 0} (s : DrainSteps W) (t : DrainSteps V) (g : W → V) : Type 0 where

@@ -1,16 +1,15 @@
 -- What a step makes of a network and of its world, as one.
-use Rattle.std.proofs.Common.{◌≡◌, ◌⊎◌, inl, inr, ⊎_elim, ℕ, zero, suc, ◌≤◌, length, take, drop, List, [], ◌∷◌, ◌++◌, Option, Some, None, Result, Ok, Err, Bool, true, false, refl, sym, ◌∙◌, ap, subst}
+use Rattle.std.proofs.Common.{◌≡◌, inl, inr, ⊎_elim, ℕ, zero, suc, ◌≤◌, length, take, drop, List, [], ◌∷◌, ◌++◌, Option, Some, None, Result, Bool, true, false, refl, sym, ◌∙◌, ap, subst}
 use Rattle.std.specs.List.{slice_get}
 use Rattle.std.proofs.lemmas.List.{take_all}
 use Rattle.net_base.specs.declared.names.Identity.{Identity}
 use Rattle.flow_machine.specs.Machine.{Machine}
-use Rattle.net_model.specs.Environment.{Environment, environment}
+use Rattle.net_model.specs.Environment.{environment}
 use Rattle.node_tables.specs.Journals.{Reads}
-use Rattle.node_core.specs.Seen.{NodeSeen}
 use Rattle.network_core.specs.declared.steps.Outcome.{Outcome}
 use Rattle.network_core.specs.declared.steps.Step.{Step}
 use Rattle.network_core.specs.declared.steps.Step.TheVariants as step
-use Rattle.network_core.specs.Worlds.{World, NetSeen, KeepsWorld}
+use Rattle.network_core.specs.Worlds.{NetSeen, KeepsWorld}
 use Rattle.network_core.specs.Answers.{said, answer_of, AtPlace, StartServes, TurnServes, CutServes, BootServes, LoseServes, Posting, PostServes, Handing, HandServes, Answered, net_steps}
 use Rattle.network_core.specs.Rounds.{DrainsTo}
 use Rattle.network_core.specs.Drains.{Pair, with_world, pair_steps, KeepsPair, PairDrains, world_steps}
@@ -89,7 +88,7 @@ pair_drain m f old new o clock pairs id w shows coherent =
 
 module _ {F : Type 0} (m : Machine F) (f : Reads F) where
   pub pairs_none : (net : NetSeen) (outcomes : List Outcome) → outcomes ≡ [] → KeepsPair m f net net (λ id a b. PairLinks m f id [] outcomes a b)
-  pairs_none net outcomes none id w shows coherent = (w, shows, coherent, begin refl none refl)
+  pairs_none net outcomes empty id w shows coherent = (w, shows, coherent, begin refl empty refl)
 
   pub pairs_more : (old mid new : NetSeen) (steps all : List Step) (outcomes longer : List Outcome) (s : Step) (o : Outcome) → KeepsPair m f old mid (λ id a b. PairLinks m f id steps outcomes a b) → KeepsPair m f mid new (λ id a b. PairServes m f id s (Some o) a b)
       → all ≡ steps ++ s ∷ [] → longer ≡ outcomes ++ o ∷ [] → KeepsPair m f old new (λ id a b. PairLinks m f id all longer a b)

@@ -11,8 +11,6 @@ mod serving;
 mod session;
 mod statuses;
 mod streams;
-#[cfg(test)]
-mod tests;
 mod top;
 
 pub use top::{Ended, run};

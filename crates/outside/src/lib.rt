@@ -12,8 +12,6 @@ mod fault;
 mod gate;
 mod sink;
 mod source;
-#[cfg(test)]
-mod stream_tests;
 
 pub use bay::{AttachFault, Bay, NoFuse};
 pub use disk::{Disk, write_synced};

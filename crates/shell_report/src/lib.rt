@@ -6,8 +6,6 @@
 mod copies;
 mod flows;
 mod history;
-#[cfg(test)]
-mod tests;
 
 pub use copies::copy_causes;
 pub use flows::{flow_text, flows_text};

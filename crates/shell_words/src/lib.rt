@@ -5,8 +5,6 @@
 mod commands;
 mod lines;
 mod program;
-#[cfg(test)]
-mod tests;
 mod words;
 
 pub use commands::{Command, command_of};

@@ -1,15 +1,14 @@
 -- Which coins there are once a transaction is noted.
-use Rattle.std.proofs.Common.{◌≡◌, ◌+◌, ℕ, Bool, true, false, cond, not, is_none, ◌&&◌, ◌||◌, List, [], ◌∷◌, ◌++◌, None, filter, refl, sym, ◌∙◌, ap, subst}
+use Rattle.std.proofs.Common.{◌≡◌, Bool, true, false, cond, not, is_none, ◌&&◌, ◌||◌, List, [], ◌∷◌, None, filter, refl, sym, ◌∙◌, ap}
 use Rattle.std.specs.List.{list_any}
 use Rattle.std.proofs.lemmas.List.Folds.{list_any-append}
 use Rattle.net_base.specs.declared.values.Hash32.{Hash32}
 use Rattle.net_base.specs.declared.values.Party.{Party}
 use Rattle.net_base.specs.declared.names.StateRef.{StateRef}
-use Rattle.ledger_types.specs.declared.state.TxState.{TxState}
 use Rattle.ledger_types.specs.declared.tx.Tx.{Tx}
 use Rattle.ledger_types.specs.declared.held.Held.{Held}
 use Rattle.ledger_types.specs.Names.{ref_eq, has_ref}
-use Rattle.ledger_types.specs.Vaults.{is_relevant, is_cash, is_free, is_coin, has_coin, held, outputs_from}
+use Rattle.ledger_types.specs.Vaults.{is_relevant, is_cash, is_coin, has_coin, outputs_from}
 use Rattle.ledger_types.proofs.Names.{ref_exact}
 use Rattle.vault.specs.Holdings.{held_after, gained, gains}
 use Rattle.vault.proofs.Passing.{true_or_false}

@@ -1,6 +1,8 @@
-use anyhow::{Context, Result};
+ghost use Rattle.std.specs.Prelude.{IfOk};
+
+use anyhow::{Context, Result, bail};
 use hex::FromHex;
-use net_base::Hash32;
+use net_base::{Hash32, Spelt, decode_if_spelt};
 use std::alloc::Global;
 
 /// The bytes that a column spells in hexadecimal; `-` is none.
@@ -11,6 +13,17 @@ pub fn bytes(alloc: Global, column: &str) -> Result<Vec<u8>> {
 /// The 32 bytes that a column spells in hexadecimal.
 pub fn hash(column: &str) -> Result<Hash32> {
     Ok(Hash32(<[u8; 32] as FromHex>::from_hex(column)?))
+}
+
+/// The value whose spelling all bytes of a column are.
+pub fn value<T: Spelt>(alloc: Global, column: &str) -> Result<T>
+    ensures { IfOk result T.within }
+{
+    let bytes = bytes(alloc, column)?;
+    match decode_if_spelt::<T>(alloc, bytes.as_slice())? {
+        Some(value) => Ok(value),
+        None => bail!("no spelling of such a value"),
+    }
 }
 
 /// The columns of a question, parted by single spaces.

@@ -7,21 +7,39 @@
 #![tactic(auto)]
 
 mod answers;
+mod books;
 mod columns;
 mod digests;
+mod frames;
+mod ledgers;
+mod numbers;
+mod records;
 mod rows;
 mod spellings;
 mod tears;
+mod verdicts;
 
 use answers::answer;
-use anyhow::{Context, Result};
+use anyhow::Result;
 use rows::Row;
+use std::alloc::{AllocError, Global};
 use std::io;
+
+/// What is answered to a question, or why it can't be.
+fn answered(alloc: Global, question: &str) -> Result<String, AllocError> {
+    match answer(alloc, question) {
+        Ok(answer) => Ok(answer),
+        Err(fault) => fault.to_string(alloc),
+    }
+}
 
 /// Asks what a line asks, prints the answer where it is not the one that stands there, and tells whether that is as it is wanted.
 fn passes(rt: &(impl Print + AllocGlobal), line: &str) -> Result<bool> {
-    let row = Row::parse(line).context("a line with no answer")?;
-    let answer = answer(rt.alloc(), row.question)?;
+    let Some(row) = Row::parse(line) else {
+        println!(rt; "{line}: no answer stands there")?;
+        return Ok(false);
+    };
+    let answer = answered(rt.alloc(), row.question)?;
     let same = row.is_answered_by(answer.as_str());
     if !same {
         println!(rt; "{line}")?;

@@ -1,22 +1,36 @@
+ghost use Rattle.std.specs.Prelude.{◌≡◌, IfOk};
+
 use super::columns::bytes;
 use anyhow::{Result, bail};
+use flow_machine::{Act, Checkpoint, Counter};
 use ledger_types::{Entry, NotaryAnswer, SignedTx, TornTx, Tx, Value};
-use net_base::{DecodeFault, Reader, Spelt, Writer, decode, encode};
-use session_wire::Frame;
-use std::alloc::Global;
+use net_base::{
+    Boxed, ByteList, DecodeFault, Identity, Moment, PartySet, Reader, Spelt, StateRef, Token,
+    TryCopy, Writer, decode, decode_whole, encode,
+};
+use shipped_flows::ShippedFlow;
+use std::alloc::{AllocError, Global};
 
-/// How many of the bytes the value takes that begins there, and whether it is spelt as it was read: a number, `none` where none begins
-/// there, or `another spelling`.
-fn taken<T: Spelt>(alloc: Global, bytes: &[u8]) -> Result<String> {
+/// The spelling of a value.
+pub fn spelling<T: Spelt>(alloc: Global, value: &T) -> Result<ByteList, AllocError>
+    requires { T.within value.now }
+    ensures { IfOk result (λ bytes. bytes ≡ T.spelling value.now) }
+{
+    let mut out = Writer::new(alloc);
+    encode(alloc, value, &mut out)?;
+    Ok(out.into_bytes())
+}
+
+/// How many of the bytes the value takes that begins there, and whether its copy is spelt as it was read: a number, `none` where none
+/// begins there, or `another spelling`.
+fn taken<T: Spelt + TryCopy>(alloc: Global, bytes: &[u8]) -> Result<String> {
     let mut from = Reader::new(bytes);
     let value = match decode::<T>(alloc, &mut from) {
         Ok(value) => value,
         Err(DecodeFault::Malformed { .. }) => return Ok(String::from_str(alloc, "none")?),
         Err(DecodeFault::Memory) => bail!("out of memory"),
     };
-    let mut out = Writer::new(alloc);
-    encode(alloc, &value, &mut out)?;
-    let spelt = out.into_bytes();
+    let spelt = spelling(alloc, &value.try_copy(alloc)?)?;
     let count = from.place();
     if spelt.len() != count || !bytes.starts_with(spelt.as_slice()) {
         return Ok(String::from_str(alloc, "another spelling")?);
@@ -37,19 +51,16 @@ pub fn front_of(alloc: Global, values: &[&str]) -> Result<String> {
         "value" => taken::<Value>(alloc, bytes.as_slice()),
         "answer" => taken::<NotaryAnswer>(alloc, bytes.as_slice()),
         "entry" => taken::<Entry>(alloc, bytes.as_slice()),
-        "frame" => taken::<Frame>(alloc, bytes.as_slice()),
         _ => bail!("no type of that name"),
     }
 }
 
-/// `frame BYTES`: `spelt` where the bytes are a frame that is spelt as it was read, and else `malformed AT`.
-pub fn frame_of(alloc: Global, values: &[&str]) -> Result<String> {
-    let [column] = values else {
-        bail!("a frame has one value")
-    };
-    let bytes = bytes(alloc, column)?;
-    match Frame::decode(alloc, bytes.as_slice()) {
-        Ok(frame) if frame.encode(alloc)?.as_slice() == bytes.as_slice() => {
+/// Whether the bytes as a whole are a value that is spelt so: `spelt`, or `malformed AT`.
+fn judged<T: Spelt>(alloc: Global, bytes: &[u8]) -> Result<String>
+    requires sure { T.exact }
+{
+    match decode_whole::<T>(alloc, bytes) {
+        Ok(value) if spelling(alloc, &value)?.as_slice() == bytes => {
             Ok(String::from_str(alloc, "spelt")?)
         }
         Ok(_) => Ok(String::from_str(alloc, "another spelling")?),
@@ -58,15 +69,36 @@ pub fn frame_of(alloc: Global, values: &[&str]) -> Result<String> {
     }
 }
 
-/// `is-frame BYTES`: `frame` where the bytes are one, and else `garbled`.
-pub fn is_frame(alloc: Global, values: &[&str]) -> Result<String> {
-    let [column] = values else {
-        bail!("a frame has one value")
+/// `whole TYPE BYTES`: whether the bytes as a whole are a value of that type that is spelt so.
+pub fn whole_of(alloc: Global, values: &[&str]) -> Result<String> {
+    let [name, column] = values else {
+        bail!("a whole has two values")
     };
     let bytes = bytes(alloc, column)?;
-    match Frame::decode(alloc, bytes.as_slice()) {
-        Ok(_) => Ok(String::from_str(alloc, "frame")?),
-        Err(DecodeFault::Malformed { .. }) => Ok(String::from_str(alloc, "garbled")?),
-        Err(DecodeFault::Memory) => bail!("out of memory"),
+    match *name {
+        "transaction" => judged::<Tx>(alloc, bytes.as_slice()),
+        "signed" => judged::<SignedTx>(alloc, bytes.as_slice()),
+        "tear-off" => judged::<TornTx>(alloc, bytes.as_slice()),
+        "value" => judged::<Value>(alloc, bytes.as_slice()),
+        "answer" => judged::<NotaryAnswer>(alloc, bytes.as_slice()),
+        "entry" => judged::<Entry>(alloc, bytes.as_slice()),
+        name => judged_part(alloc, name, bytes.as_slice()),
+    }
+}
+
+/// The same of the small types, and of flows.
+fn judged_part(alloc: Global, name: &str, bytes: &[u8]) -> Result<String> {
+    match name {
+        "identity" => judged::<Identity>(alloc, bytes),
+        "parties" => judged::<PartySet>(alloc, bytes),
+        "token" => judged::<Token>(alloc, bytes),
+        "maybe-moment" => judged::<Option<Moment>>(alloc, bytes),
+        "reference" => judged::<StateRef>(alloc, bytes),
+        "number" => judged::<Boxed<u32>>(alloc, bytes),
+        "counter" => judged::<Counter>(alloc, bytes),
+        "shipped" => judged::<ShippedFlow>(alloc, bytes),
+        "act" => judged::<Act<ShippedFlow>>(alloc, bytes),
+        "checkpoint" => judged::<Checkpoint<ShippedFlow>>(alloc, bytes),
+        _ => bail!("no type of that name"),
     }
 }

@@ -14,12 +14,24 @@ fn shows(seen: &Visible, id: &Hash32, tx: &Tx) -> bool {
         && seen.window == tx.window
 }
 
+/// `id BYTES`: the id of the transaction.
+pub fn id_of(alloc: Global, values: &[&str]) -> Result<String> {
+    let [column] = values else {
+        bail!("a transaction has one value")
+    };
+    let tx = Tx::decode(alloc, &mut Reader::new(bytes(alloc, column)?.as_slice()))?;
+    Ok(hex::encode(alloc, tx.id().0)?)
+}
+
 /// `transaction BYTES`: its id, and its tear-off, whose bytes are read again before it is looked at.
 pub fn transaction_of(alloc: Global, values: &[&str]) -> Result<String> {
     let [column] = values else {
         bail!("a transaction has one value")
     };
     let tx = Tx::decode(alloc, &mut Reader::new(bytes(alloc, column)?.as_slice()))?;
+    if tx.copy(alloc)? != tx {
+        return Ok(String::from_str(alloc, "another copy")?);
+    }
     let id = tx.id();
     let mut out = Writer::new(alloc);
     tear(alloc, &tx)?.encode(alloc, &mut out)?;

@@ -1,4 +1,4 @@
-use Rattle.ledger_acts.proofs.Comings.{concludes_as_meant}
+use Rattle.ledger_acts.proofs.Concluded.{concludes_as_meant}
 use Rattle.ledger_acts.proofs.laws.concludes_as_meant.Goals as goal
 
 pub returns : goal.returns

@@ -1,5 +1,0 @@
-use Rattle.job_picks.proofs.Choosing.{unclaimed_is_picked}
-use Rattle.job_picks.proofs.laws.unclaimed_is_picked.Goals as goal
-
-pub returns : goal.returns
-returns g c = unclaimed_is_picked
