@@ -9,6 +9,7 @@ mod checks;
 mod laws;
 mod sections;
 mod stage;
+mod steps;
 
 use anyhow::Result;
 use checks::Check;
@@ -32,6 +33,12 @@ fn main(rt: HostRuntime) -> Result<()> {
     let mut stage = Stage::new(alloc);
     let mut passed = 0u64;
     let mut failed = 0u64;
+    if steps::are_answered_in_order(alloc)? {
+        passed = 1;
+    } else {
+        println!(rt; "a row of steps has other outcomes")?;
+        failed = 1;
+    }
     for part in text.split_inclusive("\n@") {
         let section = Section::parse(part);
         match stage.take(alloc, &section) {
