@@ -4,6 +4,8 @@ ghost use Rattle.std.specs.Prelude.{◌≡◌, map, string_bytes, IfOk};
 ghost use Rattle.flow_machine.specs.Machine.{Machine};
 ghost use Rattle.flow_machine.specs.Flows.{GivesWords, GivesMade, GivesBegun, Falls, LoadHolds, OversHold, OverFails, ArgsAreShort, KnownByName, SpellsContent, KeepsLimits};
 ghost use Rattle.flow_machine.specs.Tags.{KeepsTags, BeginsBare};
+ghost use Rattle.flow_machine.specs.Limits.{IsResumed, IsPlace};
+ghost use Rattle.net_base.specs.Names.{IsKey};
 
 use super::{Act, Place, Resumed};
 use net_base::{ByteList, Key, Spelt, Writer, decode_if_spelt, encode};
@@ -47,6 +49,17 @@ impl From<AllocError> for WordFault {
     }
 }
 
+impl From<AllocError> for MakeFault {
+    ghost use Rattle.std.specs.Prelude.{◌≡◌};
+    ghost use Rattle.flow_machine.specs.declared.flow_set.MakeFault.TheVariants.{Memory};
+
+    ghost from_gives = { λ _ e. e ≡ Memory };
+
+    fn from(_: AllocError) -> MakeFault {
+        MakeFault::Memory
+    }
+}
+
 /// A set of flows: their frames, and how these begin and go on. A frame is spelt as it stands in an act and in a checkpoint: two
 /// bytes of length and its own bytes, of which there are at most 32,768.
 pub trait FlowSet: Spelt + Drop {
@@ -72,6 +85,7 @@ pub trait FlowSet: Spelt + Drop {
         args: &ByteList,
         at: &Place,
     ) -> Result<(Self, Act<Self>), MakeFault>
+        requires { IsPlace at.now }
         ensures { GivesMade result (machine.made class args.now at.entry.now) };
 
     /// The frame and the act with which a flow begins that answers the session's Init of the class.
@@ -85,6 +99,8 @@ pub trait FlowSet: Spelt + Drop {
         key: &Key,
         at: &Place,
     ) -> Result<(Self, Act<Self>), MakeFault>
+        requires fits { IsKey key.now }
+        requires place { IsPlace at.now }
         ensures { GivesBegun result (machine.begun class key.now at.entry.now) };
 
     /// The frame and the act that follow, once the act was performed with this result.
@@ -98,10 +114,14 @@ pub trait FlowSet: Spelt + Drop {
         with: &Resumed,
         at: &Place,
     ) -> Result<(Self, Act<Self>), AllocError>
+        requires fits { Self.within self.now }
+        requires small { IsResumed with.now }
+        requires place { IsPlace at.now }
         ensures { IfOk result (λ made. made ≡ machine.next self.now with.now at.entry.now) };
 
     /// A bound on what the frame may still cause.
     fn weight(&self) -> u64
+        requires { Self.within self.now }
         ensures { result ≡ machine.weight self.now };
 
     /// A frame is spelt by its bytes behind their length, and has at most 32,768.

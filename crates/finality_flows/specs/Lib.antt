@@ -1,0 +1,3 @@
+pub mod Tagging
+pub mod Finality
+pub mod FinalityLaws

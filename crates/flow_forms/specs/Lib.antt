@@ -1,0 +1,14 @@
+pub mod Frames
+pub mod Calls
+pub mod Forms
+pub mod Parts
+pub mod FormLaws
+pub mod Sums
+pub mod Bytes
+pub mod Framed
+pub mod Closing
+pub mod Shared
+pub mod Sizes
+pub mod Arguments
+pub mod Ways
+pub mod Usual

@@ -1,0 +1,23 @@
+//! Machines of flows in one form, and the sum of flow sets.
+//!
+//! A machine is what it keeps (its fields), where it may wait (its places), how it starts and how each place goes on. All that does not
+//! depend on the machine is said and proved here once.
+#![tactic(auto)]
+
+mod arguments;
+mod begins;
+mod calls;
+mod closed;
+mod copies;
+mod flows;
+mod forms;
+mod machine;
+
+pub use arguments::{Argument, Arguments, End, Then};
+pub use begins::{Answers, Begins, ByCall, ByInit, ByWords, Worded};
+pub use calls::Call;
+pub use closed::{Closed, Opens};
+pub use copies::copy_option;
+pub use flows::Flows;
+pub use forms::{At, Frame, Goes, Sum};
+pub use machine::{Machine, Numbered};

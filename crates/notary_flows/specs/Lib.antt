@@ -1,0 +1,4 @@
+pub mod Client
+pub mod ClientLaws
+pub mod Service
+pub mod ServiceLaws
