@@ -1,9 +1,9 @@
 -- What machines share: counters that stop at an end, tags of fields that may be absent, and how a law goes by a test.
-use Rattle.std.specs.Prelude.{◌≡◌, ℕ, ◌+◌, ◌≤◌, ◌<◌, ◌^◌, ◌&&◌, List, [], ◌∷◌, Bool, true, false, refl, Option, Some, None, if◌then◌else◌, min}
+use Rattle.std.specs.Prelude.{◌≡◌, ℕ, ◌+◌, ◌≤◌, ◌<◌, ◌^◌, ◌&&◌, List, [], ◌∷◌, ◌==◌, not, nat_lt, Bool, true, false, refl, Option, Some, None, IfSome, if◌then◌else◌, min}
 use Rattle.std.specs.List.{list_all}
-use Rattle.std.proofs.lemmas.Bool.{and_parts}
+use Rattle.std.proofs.lemmas.Bool.{and_parts, ltb-true}
 use Rattle.std.proofs.lemmas.List.Folds.{list_all-append}
-use Rattle.std.proofs.Common.{sym, ◌∙◌, ◌++◌}
+use Rattle.std.proofs.Common.{arith, sym, subst, ◌∙◌, ◌++◌}
 use Rattle.net_base.specs.declared.names.Tag.{Tag}
 use Rattle.flow_machine.specs.declared.acts.Place.{Place}
 use Rattle.flow_machine.specs.declared.acts.Resumed.{Resumed}
@@ -71,3 +71,26 @@ joined_pass test a b ha hb = list_all-append test a b ∙ (rw (ha, hb) refl)
 pub on_owes : {P S : Type 0} (form : Form P S) (within : S → Type 0) (most : ℕ) (s t : S) (with : Resumed) (here : Place) (p : P) (a : Act Call) → (within s → IsResumed with → IsPlace here → within t × IsAct IsCall a)
     → ((test : Tag → Bool) → list_all test (form.tags s) ≡ true → list_all test (resumed_tags with) ≡ true → (list_all test (form.tags t) ≡ true) × (list_all test (act_tags call_tags a) ≡ true)) → form.weight p t + price a ≤ most → is_asking a ≡ true → Owes form within most s with here (On p t a)
 on_owes form within most s t with here p a limits tags falls asks = record { limits = limits; tags = tags; falls = falls; asks = asks }
+
+-- another node of the network
+abbrev pub is_peer : ℕ → Place → Bool
+is_peer to here = nat_lt to here.nodes && not (to == here.me.0)
+
+-- a peer's number is a party's
+pub peer_is_party : (to : ℕ) (here : Place) → is_peer to here ≡ true → IsPlace here → to < 16
+peer_is_party to here is place = omega (arith, ltb-true to here.nodes (and_parts (nat_lt to here.nodes) (not (to == here.me.0)) is).0, place.nodes)
+
+-- what needs a field that may be absent: without it the frame fails
+abbrev pub needs : {P S A : Type 0} → Option A → S → (A → Goes P S) → Goes P S
+needs None s go = Stops s 54
+needs (Some a) s go = go a
+
+-- what a frame owes that goes on with such a field
+pub needs_owes : {P S A : Type 0} (form : Form P S) (within : S → Type 0) (most : ℕ) (s t : S) (with : Resumed) (here : Place) (o : Option A) (go : A → Goes P S) → Keeps form within s t with here → 1 ≤ most
+    → ((a : A) → o ≡ Some a → Owes form within most s with here (go a)) → Owes form within most s with here (needs o t go)
+needs_owes form within most s t with here None go keeps some goes = fails_owes form within most s t with here 54 keeps (omega arith) some
+needs_owes form within most s t with here (Some a) go keeps some goes = goes a refl
+
+-- a value that is there, of a field within its limits
+pub there_within : {A : Type 0} (within : A → Type 0) (o : Option A) (a : A) → o ≡ Some a → IfSome o within → within a
+there_within {A} within o a e h = subst (λ (p : Option A). IfSome p within) e h

@@ -48,6 +48,11 @@ by_words name number words spelling reading begins = record {
 abbrev pub BeginsWithin : {A S : Type 0} → (A → Type 0) → (S → Type 0) → (S → List Tag) → (A → Place → Option S) → Type 0
 BeginsWithin {A} {S} argued within tags begins = (a : A) (here : Place) (s : S) → begins a here ≡ Some s → (argued a → IsPlace here → within s) × (tags s ≡ [])
 
+-- what is given where a test holds
+pub if_some : {S : Type 0} (test : Bool) {s t : S} → (if test then Some s else None) ≡ Some t → (test ≡ true) × (s ≡ t)
+if_some true e = (refl, cc)
+if_some false e = absurd cc
+
 -- what was made, was made of arguments that all of the bytes spell
 made_whole : {A S : Type 0} (begins : A → Place → Option S) (here : Place) (r : Result (A × List ℕ) ℕ) (s : S) → begins_of begins here (whole_of r) ≡ Ok s → (a : A) × ((r ≡ Ok (a, [])) × (fields_of (begins a here) ≡ Ok s))
 made_whole begins here (Ok (a, [])) s e = (a, (refl, e))

@@ -1,3 +1,6 @@
+ghost use Rattle.std.specs.Prelude.{◌≡◌};
+ghost use Rattle.flow_forms.specs.Calls.{load_of};
+
 use ledger_types::{HeldList, Request, SignedTx, Tx};
 use net_base::{Boxed, Key, ListOf, Party};
 
@@ -14,4 +17,18 @@ pub enum Call {
     Give { key: Key, coins: HeldList },
     /// Takes transactions in the session, resolves each, and returns the coins that are named.
     Take { key: Key },
+}
+
+/// The most that an Init of the class may cause: of class 2 an echo of 1,000 turns, of 20 a notary's service, of 21 a receiver, of 22 a
+/// signer.
+pub fn load_of(class: u16) -> u64
+    ensures { result ≡ load_of class }
+{
+    match class {
+        2 => 3002,
+        20 => 5,
+        21 => 2566,
+        22 => 6,
+        _ => 0,
+    }
 }

@@ -2,7 +2,7 @@
 
 ghost use Rattle.std.specs.Prelude.{◌≡◌};
 ghost use Rattle.flow_forms.specs.Forms.{frame, unnamed};
-ghost use Rattle.flow_forms.specs.declared.forms.At.TheVariants.{Called};
+ghost use Rattle.flow_forms.specs.declared.forms.At.TheVariants.{Called, Asking};
 ghost use Rattle.flow_forms.specs.declared.forms.Goes.TheVariants.{On, Ends, Stops};
 
 use crate::calls::Call;
@@ -45,6 +45,13 @@ impl<P, S, W> Frame<P, S, W> {
             fields,
             way: PhantomData,
         }
+    }
+
+    /// A frame that waits at a place.
+    pub fn asking(place: P, fields: S) -> Frame<P, S, W>
+        ensures { result ≡ record { at = Asking place; fields = fields } }
+    {
+        Frame::new(At::Asking(place), fields)
     }
 
     /// The frame of a subflow that is called with these fields.

@@ -15,9 +15,9 @@ mod machine;
 
 pub use arguments::{Argument, Arguments, End, Then};
 pub use begins::{Answers, Begins, ByCall, ByInit, ByWords, Worded};
-pub use calls::Call;
+pub use calls::{Call, load_of};
 pub use closed::{Closed, Opens};
 pub use copies::copy_option;
 pub use flows::Flows;
 pub use forms::{At, Frame, Goes, Sum};
-pub use machine::{Machine, Numbered};
+pub use machine::{Machine, Numbered, is_peer};

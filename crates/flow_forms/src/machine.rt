@@ -3,6 +3,7 @@
 ghost use Rattle.std.specs.Prelude.{◌≡◌, ◌==◌, ◌&&◌, ◌≤◌, ℕ, IfOk, find, length, Bool};
 ghost use Rattle.flow_machine.specs.Limits.{IsResumed, IsPlace};
 ghost use Rattle.net_base.specs.Parts.{Gives};
+ghost use Rattle.flow_forms.specs.Shared.{is_peer};
 ghost use Rattle.flow_forms.specs.Forms.{Form, IsForm, frame, started, next_at, weight_at};
 ghost use Rattle.flow_forms.specs.Bytes.{Places, ArePlaces, standing, place_at, byte_of};
 
@@ -195,4 +196,11 @@ impl<P: Numbered, S: Machine<P>, W> Frame<P, S, W> {
             At::Asking(place) => self.fields.weight(place),
         }
     }
+}
+
+/// Whether the number is another node's.
+pub fn is_peer(to: u8, here: &Place) -> bool
+    ensures { result ≡ is_peer to here.entry.now }
+{
+    to < here.nodes && to != here.me.0
 }

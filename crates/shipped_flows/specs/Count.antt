@@ -1,40 +1,58 @@
--- The counting flow's frames among those of the set: their own bytes, and their acts.
-use Rattle.std.specs.Prelude.{◌≡◌, ℕ, List, ◌∷◌, ◌++◌, length, Result, refl}
-use Rattle.std.proofs.Common.{arith, ap}
+-- The counting flow: class 1, `count K`, sleeps K times until moment 0, and returns K.
+use Rattle.std.specs.Prelude.{ℕ, ◌-◌, ◌+◌, ◌<◌, ◌^◌, ◌==◌, nat_le, [], ◌∷◌, ◌++◌, List, Option, Some, None, Result, if◌then◌else◌, codes, max, false}
 use Rattle.std.specs.Int.{w32}
 use Rattle.net_base.specs.Reading.{number}
-use Rattle.net_base.specs.Forms.{below_at, number_at}
-use Rattle.net_base.specs.Laws.{Laws}
-use Rattle.net_base.specs.Kinds.{between_at, between_laws}
-use Rattle.net_base.specs.Combining.{mapped_at, mapped_laws, pair_at, pair_laws}
-use Rattle.net_base.specs.Fields.{below_laws, u32_laws}
-use Rattle.flow_machine.specs.declared.counter.Counter.{Counter}
-use Rattle.flow_machine.specs.declared.counter.Phase.{Phase}
-use Rattle.flow_machine.specs.CounterLaws.{of_place, to_phase, place_below}
-use Rattle.flow_machine.specs.Counter.{place_of, phase_of, content, IsCounter}
+use Rattle.net_base.specs.Forms.{number_at}
+use Rattle.net_base.specs.Combining.{mapped_at, pair_at}
+use Rattle.ledger_types.specs.declared.value.Value.TheVariants as value
+use Rattle.flow_machine.specs.declared.acts.Act.TheVariants as act
+use Rattle.flow_machine.specs.declared.acts.Resumed.TheVariants as resumed
+use Rattle.flow_forms.specs.declared.arguments.End.{End}
+use Rattle.flow_forms.specs.declared.arguments.Then.{Then}
+use Rattle.flow_forms.specs.declared.forms.Goes.{Goes}
+use Rattle.flow_forms.specs.declared.forms.Goes.TheVariants.{On, Ends}
+use Rattle.flow_forms.specs.Usual.{Place, Resumed, Form, unnamed, Places}
+use Rattle.shipped_flows.specs.declared.count.Count.{Count}
+use Rattle.shipped_flows.specs.declared.count.CountPlace.{CountPlace}
+use Rattle.shipped_flows.specs.declared.count.CountPlace.TheVariants.{Sleeping}
 
--- a frame of its fields, behind the machine
-abbrev pub count_of : ℕ × (ℕ × (ℕ × ℕ)) → Counter
-count_of p = record { phase = phase_of p.1.0; left = p.1.1.0; all = p.1.1.1 }
+-- ---- how it goes on
 
--- reading a frame's own bytes
-unfoldable pub count_at : List ℕ → Result (Counter × List ℕ) ℕ
-count_at = mapped_at count_of (pair_at (between_at 1 2) (pair_at (below_at 3) (pair_at (number_at w32) (number_at w32))))
+-- at most 65,534 sleeps, all of which are left
+abbrev pub begins : Then ℕ End → Place → Option Count
+begins args here = if nat_le args.first 65534 then Some (record { left = args.first; all = args.first }) else None
 
--- the laws of a frame's own bytes
-pub count_laws : Laws IsCounter content count_at
-unfolding count_at
-count_laws =
-    mapped_laws count_of (pair_laws (between_laws 1 2 (omega arith)) (pair_laws (below_laws 3 (omega arith)) (pair_laws u32_laws u32_laws))) (record {
-      keeps = λ p h.
-          let machine : 1 ≡ p.0 = omega (arith, h.0) in
-          let place : place_of (phase_of p.1.0) ≡ p.1.0 = of_place p.1.0 h.1.0 in
-          (h.1.1, λ i. machine i ∷ place i ∷ (number w32 p.1.1.0 ++ number w32 p.1.1.1));
-      from = λ c h.
-          ((1, (place_of c.phase, (c.left, c.all))), (((omega arith, omega arith), (place_below c.phase, h)), ap (λ (phase : Phase). record { phase = phase; left = c.left; all = c.all }) (to_phase c.phase)));
-    })
+-- it sleeps until moment 0 while a sleep is left, and then returns how many there were
+abbrev pub sleeps : Count → Goes CountPlace Count
+sleeps c = if c.left == 0 then Ends c (value.Number c.all) else On Sleeping c (act.Sleep 0)
 
--- how many bytes a frame has
-pub count_long : (c : Counter) → length (content c) ≡ 10
-unfolding number
-count_long c = refl
+-- once its time has come, one sleep fewer is left
+abbrev pub moves : CountPlace → Count → Resumed → Place → Goes CountPlace Count
+moves Sleeping c resumed.Lapsed here = sleeps (record c { left = c.left - 1 })
+moves Sleeping c other here = unnamed c other
+
+-- what the machine is: each sleep that is left costs one
+abbrev pub form : Form CountPlace Count
+form = record { starts = λ c here. sleeps c; moves = moves; weight = λ p c. max c.left 1; called = λ c. c.left + 1; tags = λ c. [] }
+
+-- ---- its bytes
+
+-- the limits of its fields
+abbrev pub IsCount : Count → Type 0
+IsCount c = (c.left < 2 ^ 32) × (c.all < 2 ^ 32)
+
+-- the bytes of its fields
+abbrev pub count : Count → List ℕ
+count c = number w32 c.left ++ number w32 c.all
+
+-- fields of their parts
+abbrev pub count_of : ℕ × ℕ → Count
+count_of p = record { left = p.0; all = p.1 }
+
+-- reading its fields
+unfoldable pub count_at : List ℕ → Result (Count × List ℕ) ℕ
+count_at = mapped_at count_of (pair_at (number_at w32) (number_at w32))
+
+-- its places: 1 Sleep, 2 Return
+abbrev pub places : Places CountPlace
+places = record { all = Sleeping ∷ []; number = λ p. 1; last = 2; callable = false }

@@ -1,100 +1,47 @@
--- The laws of counting frames among those of the set, from the counting flow's own.
-use Rattle.std.specs.Prelude.{◌≡◌, ℕ, zero, suc, ◌+◌, ◌-◌, ◌≤◌, Bool, true, false, refl, []}
-use Rattle.std.proofs.Common.{◌∙◌}
-use Rattle.flow_machine.specs.declared.acts.Act.{Act}
+-- The laws of the counting flow.
+use Rattle.std.specs.Prelude.{◌≡◌, ◌+◌, ◌-◌, ◌≤◌, ◌<◌, ◌^◌, ◌==◌, nat_le, ℕ, List, length, Bool, true, false, refl, max, Option, Some, None, if◌then◌else◌}
+use Rattle.std.proofs.Common.{arith, subst}
+use Rattle.std.proofs.lemmas.Bool.{eqb-false, leb-true}
+use Rattle.net_base.specs.Reading.{number}
+use Rattle.net_base.specs.Laws.{Laws}
+use Rattle.net_base.specs.Combining.{pair_laws, iso_laws}
+use Rattle.net_base.specs.Fields.{u32_laws}
+use Rattle.ledger_types.specs.declared.value.Value.TheVariants as value
 use Rattle.flow_machine.specs.declared.acts.Act.TheVariants as act
-use Rattle.flow_machine.specs.declared.acts.Place.{Place}
-use Rattle.flow_machine.specs.declared.acts.Resumed.{Resumed}
 use Rattle.flow_machine.specs.declared.acts.Resumed.TheVariants as resumed
-use Rattle.flow_machine.specs.declared.counter.Counter.{Counter}
-use Rattle.flow_machine.specs.declared.counter.Phase.{Phase}
-use Rattle.flow_machine.specs.declared.counter.Phase.TheVariants.{Sleeping, Returning, Failing}
-use Rattle.flow_machine.specs.Acts.{act_with}
-use Rattle.flow_machine.specs.Flows.{cost, is_fair, is_fail}
-use Rattle.flow_machine.specs.Limits.{IsAct}
-use Rattle.flow_machine.specs.Tags.{act_tags}
-use Rattle.flow_machine.specs.Counter.{next, next_at, woken, with_left, IsCounter}
-use Rattle.flow_machine.specs.Counter as counter
-use Rattle.flow_machine.specs.CounterLaws as counter_law
-use Rattle.shipped_flows.specs.Shipped as set
-use Rattle.shipped_flows.specs.Shipped.{of_count, seen_count, IsShipped}
+use Rattle.flow_forms.specs.declared.forms.Goes.TheVariants.{On, Ends}
+use Rattle.flow_forms.specs.Ways.{BeginsWithin, if_some}
+use Rattle.flow_forms.specs.Usual.{Place, Resumed, Owes, IsForm, unnamed_owes, ArePlaces, IsAt, owes_if}
+use Rattle.flow_forms.specs.declared.forms.At.TheVariants as stands
+use Rattle.shipped_flows.specs.declared.count.Count.{Count}
+use Rattle.shipped_flows.specs.declared.count.CountPlace.{CountPlace}
+use Rattle.shipped_flows.specs.declared.count.CountPlace.TheVariants.{Sleeping}
+use Rattle.shipped_flows.specs.Count.{begins, sleeps, moves, form, IsCount, count, count_of, count_at, places}
 
--- ---- acts, seen as the set's
+pub count_laws : Laws IsCount count count_at
+unfolding count_at
+count_laws = iso_laws count_of (λ c. (c.left, c.all)) (λ _. refl) (λ _. refl) (pair_laws u32_laws u32_laws)
 
--- it keeps its limits
-pub act_within : (a : Act Counter) → IsAct IsCounter a → IsAct IsShipped (act_with of_count a)
-act_within (act.Sub frame) h = h
-act_within other h = h
+pub short : (c : Count) → IsCount c → length (count c) ≤ 32766
+unfolding number
+short c h = omega arith
 
--- it is fair to the same frames
-pub act_fair : (c : Counter) (a : Act Counter) → is_fair counter.machine c a ≡ true → is_fair set.machine (of_count c) (act_with of_count a) ≡ true
-act_fair c (act.Sub frame) h = h
-act_fair c other h = h
+pub are_places : ArePlaces places
+are_places = record { asking = elim [ Sleeping ↦ refl ]; returning = refl }
 
--- it is as much a Fail
-pub act_fail : (a : Act Counter) → is_fail a ≡ true → is_fail (act_with of_count a) ≡ true
-act_fail (act.Fail code) h = refl
-act_fail other h = h
+pub begins_within : BeginsWithin (λ args. (args.first < 2 ^ 32) × Unit {0}) IsCount form.tags begins
+begins_within args here c e = let made = if_some (nat_le args.first 65534) e in (λ given place. subst IsCount made.1 (given.0, given.0), refl)
 
--- it has the same tags
-pub act_bare : (a : Act Counter) → act_tags set.machine.tags (act_with of_count a) ≡ act_tags counter.machine.tags a
-act_bare (act.Sub frame) = refl
-act_bare other = refl
+-- how it sleeps, with so many left
+sleeps_owe : (most n : ℕ) (c : Count) (with : Resumed) (here : Place) → 1 ≤ most → n + 1 ≤ most → (IsCount c → n < 2 ^ 32) → Owes form IsCount most c with here (sleeps (record c { left = n }))
+sleeps_owe most n c with here some falls small =
+    owes_if form IsCount most c with here (n == 0) (Ends (record c { left = n }) (value.Number c.all)) (On Sleeping (record c { left = n }) (act.Sleep 0))
+    (λ _. record { limits = λ h fits place. ((small h, h.1), omega (arith, h.1)); tags = λ test old given. (refl, refl); falls = some; asks = refl })
+    (λ left. record { limits = λ h fits place. ((small h, h.1), omega arith); tags = λ test old given. (refl, refl); falls = omega (arith, falls, eqb-false n 0 left); asks = refl })
 
--- whether it opens no session
-abbrev is_quiet : Act Counter → Bool
-is_quiet (act.Open to class first) = false
-is_quiet other = true
+moves_owe : (p : CountPlace) (c : Count) (with : Resumed) (here : Place) → Owes form IsCount (max c.left 1) c with here (moves p c with here)
+moves_owe Sleeping c resumed.Lapsed here = sleeps_owe (max c.left 1) (c.left - 1) c resumed.Lapsed here (omega arith) (omega arith) (λ h. omega (arith, h.0))
+moves_owe Sleeping c other here = unnamed_owes form IsCount (max c.left 1) c other here (omega arith)
 
--- it costs the same, unless it opens a session
-act_cost : (a : Act Counter) → is_quiet a ≡ true → cost set.machine (act_with of_count a) ≡ cost counter.machine a
-unfolding set.weight
-act_cost (act.Open to class first) h = absurd cc
-act_cost (act.Sub frame) h = refl
-act_cost other h = refl
-
--- ---- a counting flow opens none
-
-left_quiet : (left all : ℕ) → is_quiet (with_left left all).1 ≡ true
-unfolding with_left
-left_quiet zero all = refl
-left_quiet (suc n) all = refl
-
-woken_quiet : (with : Resumed) (c : Counter) → is_quiet (woken with c).1 ≡ true
-woken_quiet resumed.Lapsed c = left_quiet (c.left - 1) c.all
-woken_quiet other c = refl
-
-quiet_at : (phase : Phase) (with : Resumed) (c : Counter) → is_quiet (next_at phase with c).1 ≡ true
-quiet_at Sleeping with c = woken_quiet with c
-quiet_at Returning with c = refl
-quiet_at Failing with c = refl
-
-next_quiet : (c : Counter) (with : Resumed) (at : Place) → is_quiet (next c with at).1 ≡ true
-unfolding next
-next_quiet c with at = quiet_at c.phase with c
-
--- the weight falls by at least the cost
-pub falls : (c : Counter) (with : Resumed) (at : Place) → counter.over c ≡ false → set.machine.weight (seen_count (next c with at)).0 + cost set.machine (seen_count (next c with at)).1 ≤ set.machine.weight (of_count c)
-unfolding set.weight
-falls c with at h = rw (act_cost (next c with at).1 (next_quiet c with at)) (counter_law.falls c with at h)
-
--- ---- a counting flow's acts have no tag
-
-left_bare : (left all : ℕ) → act_tags counter.machine.tags (with_left left all).1 ≡ []
-unfolding with_left
-left_bare zero all = refl
-left_bare (suc n) all = refl
-
-woken_bare : (with : Resumed) (c : Counter) → act_tags counter.machine.tags (woken with c).1 ≡ []
-woken_bare resumed.Lapsed c = left_bare (c.left - 1) c.all
-woken_bare other c = refl
-
-bare_at : (phase : Phase) (with : Resumed) (c : Counter) → act_tags counter.machine.tags (next_at phase with c).1 ≡ []
-bare_at Sleeping with c = woken_bare with c
-bare_at Returning with c = refl
-bare_at Failing with c = refl
-
--- no act has a tag
-pub next_bare : (c : Counter) (with : Resumed) (at : Place) → act_tags set.machine.tags (act_with of_count (next c with at).1) ≡ []
-unfolding next
-next_bare c with at = act_bare (next_at c.phase with c).1 ∙ bare_at c.phase with c
+pub is_form : IsForm IsCount form
+is_form = record { starts = λ c here. sleeps_owe (c.left + 1) c.left c resumed.Started here (omega arith) (omega arith) (λ h. h.0); moves = moves_owe }

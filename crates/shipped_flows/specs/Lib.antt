@@ -1,7 +1,5 @@
-pub mod Shared
-pub mod SharedLaws
-pub mod Lifting
 pub mod Count
+pub mod CountLaws
 pub mod Ping
 pub mod PingLaws
 pub mod Probe
@@ -9,7 +7,5 @@ pub mod ProbeLaws
 pub mod Echo
 pub mod EchoLaws
 pub mod Shipped
-pub mod CountLaws
-pub mod ShippedLaws
 pub mod Meeting
 pub mod MeetingLaws

@@ -1,160 +1,83 @@
--- The flow set: what each machine means, and which machine a class, a word or a frame is of.
-use Rattle.std.specs.Prelude.{ℕ, List, [], ◌∷◌, ◌++◌, Option, Some, None, Result, Ok, Err, Bool, true, false, ◌==◌, if◌then◌else◌, codes}
-use Rattle.std.specs.Int.{w16}
-use Rattle.std.specs.Str.{bytes_eq}
-use Rattle.net_base.specs.declared.names.Key.{Key}
+-- The flow set of the four machines: counting, ping, probe and echo.
+use Rattle.std.specs.Prelude.{ℕ, ◌≤◌, ◌^◌, List, [], ◌∷◌, ◌++◌, Result, codes}
+use Rattle.std.proofs.Common.{arith}
+use Rattle.std.specs.Int.{w16, w32}
 use Rattle.net_base.specs.Reading.{number}
+use Rattle.net_base.specs.Forms.{byte_at, number_at}
 use Rattle.net_base.specs.Combining.{mapped_at, pair_at}
-use Rattle.net_base.specs.Kinds.{between_at, cases_at}
-use Rattle.flow_machine.specs.declared.acts.Act.{Act}
-use Rattle.flow_machine.specs.declared.acts.Place.{Place}
-use Rattle.flow_machine.specs.declared.acts.Resumed.{Resumed}
-use Rattle.flow_machine.specs.declared.flow_set.WordFault.{WordFault}
-use Rattle.flow_machine.specs.declared.flow_set.MakeFault.{MakeFault}
-use Rattle.flow_machine.specs.declared.counter.Counter.{Counter}
 use Rattle.flow_machine.specs.Machine.{Machine}
-use Rattle.flow_machine.specs.Acts.{act_with}
-use Rattle.flow_machine.specs.Counter as counter
-use Rattle.shipped_flows.specs.declared.ping.Ping.{Ping}
-use Rattle.shipped_flows.specs.declared.probe.Probe.{Probe}
-use Rattle.shipped_flows.specs.declared.echo.Echo.{Echo}
-use Rattle.shipped_flows.specs.declared.set.ShippedFlow.{ShippedFlow}
-use Rattle.shipped_flows.specs.declared.set.ShippedFlow.TheVariants as flow
-use Rattle.shipped_flows.specs.Lifting.{seen}
-use Rattle.shipped_flows.specs.Count.{count_at}
+use Rattle.flow_forms.specs.declared.arguments.End.{End}
+use Rattle.flow_forms.specs.declared.arguments.Then.{Then}
+use Rattle.flow_forms.specs.declared.calls.Call.{Call}
+use Rattle.flow_forms.specs.declared.calls.Call.TheVariants as call
+use Rattle.flow_forms.specs.Calls.{call_weight}
+use Rattle.flow_forms.specs.Arguments.{word_below, no_words, then_words, then_of, end_at}
+use Rattle.flow_forms.specs.Ways.{by_words, by_init}
+use Rattle.flow_forms.specs.FormLaws.{Way, part_of}
+use Rattle.flow_forms.specs.Parts.{Part}
+use Rattle.flow_forms.specs.Sums.{sum}
+use Rattle.flow_forms.specs.Bytes.{Places, content_of, body_of}
+use Rattle.flow_forms.specs.Closing.{closed}
+use Rattle.shipped_flows.specs.Count as count
 use Rattle.shipped_flows.specs.Ping as ping
 use Rattle.shipped_flows.specs.Probe as probe
 use Rattle.shipped_flows.specs.Echo as echo
+use Rattle.flow_forms.specs.declared.forms.At.TheVariants as stands
+use Rattle.flow_forms.specs.declared.forms.Sum.{Sum}
+use Rattle.flow_forms.specs.declared.forms.Sum.TheVariants as of
+use Rattle.flow_forms.specs.Frames.{Frame}
+use Rattle.shipped_flows.specs.declared.count.Count.{Count}
+use Rattle.shipped_flows.specs.declared.count.CountPlace.{CountPlace}
+use Rattle.shipped_flows.specs.declared.count.CountPlace.TheVariants.{Sleeping}
+use Rattle.shipped_flows.specs.declared.ping.Ping.{Ping}
+use Rattle.shipped_flows.specs.declared.ping.PingPlace.{PingPlace}
+use Rattle.shipped_flows.specs.declared.probe.Probe.{Probe}
+use Rattle.shipped_flows.specs.declared.probe.ProbePlace.{ProbePlace}
+use Rattle.shipped_flows.specs.declared.echo.Echo.{Echo}
+use Rattle.shipped_flows.specs.declared.echo.EchoPlace.{EchoPlace}
 
--- ---- frames of the set
+-- the frames
+abbrev pub Shipped : Type 0
+Shipped = Sum (Frame CountPlace Count) (Sum (Frame PingPlace Ping) (Sum (Frame ProbePlace Probe) (Frame EchoPlace Echo)))
 
--- a counting frame
-abbrev pub of_count : Counter → ShippedFlow
-of_count c = flow.Count c
+-- what stands for a call, which none of the machines makes
+abbrev pub no_call : Call → Shipped
+no_call c = of.First (record { at = stands.Asking Sleeping; fields = record { left = 0; all = 0 } })
 
--- a ping's frame
-abbrev pub of_ping : Ping → ShippedFlow
-of_ping p = flow.Ping p
+-- a call costs something
+pub calls_cost : (c : Call) → 1 ≤ call_weight c
+calls_cost (call.Client request) = omega arith
+calls_cost (call.Resolve key stx) = omega arith
+calls_cost (call.Finality tx peers) = omega arith
+calls_cost (call.Give key coins) = omega arith
+calls_cost (call.Take key) = omega arith
 
--- a probe's frame
-abbrev pub of_probe : Probe → ShippedFlow
-of_probe p = flow.Probe p
+-- ---- what the set means
 
--- an echo's frame
-abbrev pub of_echo : Echo → ShippedFlow
-of_echo e = flow.Echo e
+-- the bytes that a machine's frames are spelt by
+abbrev pub text : {P S : Type 0} → ℕ → Places P → (S → List ℕ) → Frame P S → List ℕ
+text machine places fields = content_of (λ f. machine) (body_of places fields)
 
--- a counting frame and its act
-abbrev pub seen_count : Counter × Act Counter → ShippedFlow × Act ShippedFlow
-seen_count g = (of_count g.0, act_with of_count g.1)
+-- `count K` is class 1
+abbrev pub count_way : Way Count
+count_way = by_words (codes "count") 1 (then_words (word_below (2 ^ 32)) no_words) (λ t. number w32 t.first ++ []) (mapped_at then_of (pair_at (number_at w32) end_at)) count.begins
 
--- ---- how flows begin
+-- reading a party and a count
+abbrev pub ping_args_at : List ℕ → Result (Then ℕ (Then ℕ End) × List ℕ) ℕ
+ping_args_at = mapped_at then_of (pair_at byte_at (mapped_at then_of (pair_at (number_at w32) end_at)))
 
--- `ping`, `probe`, or the counting flow's word
-unfoldable pub worded : List ℕ → List (List ℕ) → Result (ℕ × List ℕ) WordFault
-worded class args = if bytes_eq class (codes "ping") then ping.worded args else if bytes_eq class (codes "probe") then probe.worded args else counter.worded class args
+-- `ping P K` is class 2
+abbrev pub ping_way : Way Ping
+ping_way = by_words (codes "ping") 2 (then_words (word_below (2 ^ 8)) (then_words (word_below (2 ^ 32)) no_words)) (λ t. (t.first ∷ []) ++ (number w32 t.rest.first ++ [])) ping_args_at ping.begins
 
--- what a machine makes, seen as the set's
-abbrev pub made_by : {A B : Type 0} → (A → B) → Result A MakeFault → Result B MakeFault
-made_by see (Ok g) = Ok (see g)
-made_by see (Err e) = Err e
+-- `probe P CLASS` is class 10
+abbrev pub probe_way : Way Probe
+probe_way = by_words (codes "probe") 10 (then_words (word_below (2 ^ 8)) (then_words (word_below (2 ^ 16)) no_words)) (λ t. (t.first ∷ []) ++ (number w16 t.rest.first ++ [])) (mapped_at then_of (pair_at byte_at (mapped_at then_of (pair_at (number_at w16) end_at)))) probe.begins
 
--- class 2 is ping, class 10 is probe, and class 1 counts
-unfoldable pub made : ℕ → List ℕ → Place → Result (ShippedFlow × Act ShippedFlow) MakeFault
-made class args at = if class == 2 then made_by (seen of_ping) (ping.made args at) else if class == 10 then made_by (seen of_probe) (probe.made args at) else made_by seen_count (counter.made class args at)
-
--- what a machine begins, seen as the set's
-abbrev pub begun_by : {A B : Type 0} → (A → B) → Option A → Option B
-begun_by see None = None
-begun_by see (Some g) = Some (see g)
-
--- an Init of class 2 is answered by an echo, and no other
-unfoldable pub begun : ℕ → Key → Place → Option (ShippedFlow × Act ShippedFlow)
-begun class k at = begun_by (seen of_echo) (echo.begun class k)
-
--- ---- how they go on
-
--- each machine goes on by itself
-unfoldable pub next : ShippedFlow → Resumed → Place → ShippedFlow × Act ShippedFlow
-next (flow.Count c) with at = seen_count (counter.next c with at)
-next (flow.Ping p) with at = seen of_ping (ping.next p with)
-next (flow.Probe p) with at = seen of_probe (probe.next p with)
-next (flow.Echo e) with at = seen of_echo (echo.next e with)
-
--- the weight of a frame
-unfoldable pub weight : ShippedFlow → ℕ
-weight (flow.Count c) = counter.weight c
-weight (flow.Ping p) = ping.weight p
-weight (flow.Probe p) = probe.weight p
-weight (flow.Echo e) = echo.weight e
-
--- the frames that wait on Return or Fail
-abbrev pub over : ShippedFlow → Bool
-over (flow.Count c) = counter.over c
-over (flow.Ping p) = ping.over p
-over (flow.Probe p) = probe.over p
-over (flow.Echo e) = echo.over e
-
--- what an Init may cause: of class 2 as much as an echo of 1,000 turns
-abbrev pub load : ℕ → ℕ
-load class = if class == 2 then 3002 else 0
-
--- ---- bytes
-
--- the bytes of a frame
-abbrev pub content : ShippedFlow → List ℕ
-content (flow.Count c) = counter.content c
-content (flow.Ping p) = ping.content p
-content (flow.Probe p) = probe.content p
-content (flow.Echo e) = echo.content e
-
--- how many bytes these are
-abbrev pub size : ShippedFlow → ℕ
-size (flow.Count c) = 10
-size (flow.Ping p) = ping.size p
-size (flow.Probe p) = probe.size p
-size (flow.Echo e) = 19
-
--- the spelling of a frame: the bytes behind their length
-abbrev pub shipped : ShippedFlow → List ℕ
-shipped f = number w16 (size f) ++ content f
-
--- the limits of a frame
-abbrev pub IsShipped : ShippedFlow → Type 0
-IsShipped (flow.Count c) = counter.IsCounter c
-IsShipped (flow.Ping p) = ping.IsPing p
-IsShipped (flow.Probe p) = probe.IsProbe p
-IsShipped (flow.Echo e) = echo.IsEcho e
-
--- a length tells the machine, and whether its key is there
-abbrev pub arms : List (ℕ × (List ℕ → Result (ShippedFlow × List ℕ) ℕ))
-arms =
-    (6, mapped_at of_probe (probe.probe_at false))
-    ∷ (10, mapped_at of_count count_at)
-    ∷ (11, mapped_at of_probe (probe.probe_at true))
-    ∷ (16, mapped_at of_ping (ping.ping_at false))
-    ∷ (19, mapped_at of_echo echo.echo_at)
-    ∷ (21, mapped_at of_ping (ping.ping_at true))
-    ∷ []
-
--- the frame behind the high byte of its length
-abbrev pub behind_high : ℕ × ShippedFlow → ShippedFlow
-behind_high p = p.1
-
--- reading a frame: the high byte of its length is 0, and the low one tells what comes
-unfoldable pub shipped_at : List ℕ → Result (ShippedFlow × List ℕ) ℕ
-shipped_at = mapped_at behind_high (pair_at (between_at 0 1) (cases_at arms))
+-- what the flows mean
+abbrev pub part : Part Shipped
+part = sum (part_of count.form count_way (text 1 count.places count.count)) (sum (part_of ping.form ping_way (text 2 ping.places ping.ping)) (sum (part_of probe.form probe_way (text 10 probe.places probe.probe)) (part_of echo.form (by_init 2 echo.answers) (text 11 echo.places echo.echo))))
 
 -- what the flow set means
-abbrev pub machine : Machine ShippedFlow
-machine = record {
-  worded = worded;
-  made = made;
-  begun = begun;
-  next = next;
-  content = content;
-  weight = weight;
-  over = over;
-  tags = λ f. [];
-  load = load;
-}
+abbrev pub machine : Machine Shipped
+machine = closed part no_call

@@ -1,67 +1,159 @@
-//! The counting flow's frames and acts among those of the set.
+ghost use Rattle.std.specs.Prelude.{◌≡◌, codes};
+ghost use Rattle.std.proofs.Common.{arith};
+ghost use Rattle.shipped_flows.specs.Count.{begins, sleeps, form, places, IsCount, count, count_at};
+ghost use Rattle.shipped_flows.specs.CountLaws.{count_laws, short, are_places, begins_within, is_form};
 
-ghost use Rattle.std.specs.Prelude.{◌≡◌};
-ghost use Rattle.net_base.specs.Parts.{Gives, Writes};
-ghost use Rattle.flow_machine.specs.Acts.{act_with};
-ghost use Rattle.flow_machine.specs.Counter.{IsCounter, content};
-ghost use Rattle.shipped_flows.specs.Count.{count_at};
-ghost use Rattle.shipped_flows.specs.Shipped.{of_count};
-
-use crate::set::ShippedFlow;
-use flow_machine::{Act, Counter, Phase};
-use net_base::{PartFault, Reader, Spelt, Writer, read_below, read_between};
+use flow_forms::{End, Goes, Machine, Numbered, Then, Worded};
+use flow_machine::{Act, Place, Resumed};
+use ledger_types::Value;
+use net_base::{PartFault, Reader, Spelt, TryCopy, Writer};
 use std::alloc::{AllocError, Global};
 
-/// Reads a frame.
+/// The most sleeps that a counting flow is made for.
+const MOST_SLEEPS: u32 = 65534;
+
+/// Where a counting flow waits: 1 until it wakes.
+#[derive(Clone, Copy, Debug, PartialEq, Eq)]
+pub enum CountPlace {
+    Sleeping,
+}
+
+/// The counting flow, class 1: `count K` sleeps K times, each until moment 0, and returns K. K is at most 65,534.
+#[derive(Clone, Copy, Debug, PartialEq, Eq)]
+pub struct Count {
+    /// How many sleeps are left.
+    pub left: u32,
+    /// How many there are in all.
+    pub all: u32,
+}
+
+impl Count {
+    fn sleeps(self) -> Goes<CountPlace, Count>
+        ensures { result ≡ sleeps self }
+    {
+        if self.left == 0 {
+            Goes::ends(self, Value::Number(u64::from(self.all)))
+        } else {
+            Goes::on(CountPlace::Sleeping, self, Act::Sleep { until: 0 })
+        }
+    }
+}
+
+impl Numbered for CountPlace {
+    ghost places = { places };
+
+    ghost are_places = { are_places };
+
+    fn number(self) -> u8 {
+        1
+    }
+
+    fn all() -> &'static [CountPlace] {
+        &[CountPlace::Sleeping]
+    }
+
+    fn last() -> u8 {
+        2
+    }
+
+    fn callable() -> bool {
+        false
+    }
+}
+
 #[tactic(auto, unfolding(crate::specs::Count::count_at))]
-pub(crate) fn read_count(alloc: Global, from: &mut Reader) -> Result<Counter, PartFault>
-    ensures { Gives (λ x. x) result from.old from.new (count_at from.old.left) }
-{
-    let _machine = read_between(from, 1, 2)?;
-    Ok(Counter {
-        phase: Phase::of_place(read_below(from, 3)?),
-        left: Spelt::read_part(alloc, from)?,
-        all: Spelt::read_part(alloc, from)?,
-    })
+impl Spelt for Count {
+    ghost spelling = { count };
+
+    ghost within = { IsCount };
+
+    ghost reading = { count_at };
+
+    ghost laws = { count_laws };
+
+    fn read_part(alloc: Global, from: &mut Reader) -> Result<Count, PartFault> {
+        Ok(Count {
+            left: Spelt::read_part(alloc, from)?,
+            all: Spelt::read_part(alloc, from)?,
+        })
+    }
+
+    fn write_part(&self, alloc: Global, out: &mut Writer) -> Result<(), AllocError> {
+        self.left.write_part(alloc, out)?;
+        self.all.write_part(alloc, out)
+    }
 }
 
-/// Writes the frame's own bytes.
-pub(crate) fn write_count(
-    frame: &Counter,
-    alloc: Global,
-    out: &mut Writer,
-) -> Result<(), AllocError>
-    requires { IsCounter frame.now }
-    ensures { Writes (content frame.now) result out.old out.new }
-{
-    out.put_u8(alloc, 1)?;
-    out.put_u8(alloc, frame.phase.place())?;
-    frame.left.write_part(alloc, out)?;
-    frame.all.write_part(alloc, out)?;
-    Ok(())
+impl TryCopy for Count {
+    fn try_copy(&self, _alloc: Global) -> Result<Count, AllocError> {
+        Ok(*self)
+    }
 }
 
-/// The act of a counting flow, as one of the set.
-pub(crate) fn as_shipped(act: Act<Counter>) -> Act<ShippedFlow>
-    ensures { result ≡ act_with of_count act }
-{
-    match act {
-        Act::Open { to, class, first } => Act::Open { to, class, first },
-        Act::Send { key, value } => Act::Send { key, value },
-        Act::Receive { key } => Act::Receive { key },
-        Act::ReceiveBy { key, until } => Act::ReceiveBy { key, until },
-        Act::Sleep { until } => Act::Sleep { until },
-        Act::Sub { frame } => Act::Sub {
-            frame: ShippedFlow::Count(frame),
-        },
-        Act::Verify { tx } => Act::Verify { tx },
-        Act::Reserve { token, amount } => Act::Reserve { token, amount },
-        Act::Lookup { id } => Act::Lookup { id },
-        Act::Missing { tx } => Act::Missing { tx },
-        Act::Sign { id } => Act::Sign { id },
-        Act::Notarise { request } => Act::Notarise { request },
-        Act::Record { stx } => Act::Record { stx },
-        Act::Return { value } => Act::Return { value },
-        Act::Fail { code } => Act::Fail { code },
+impl Machine<CountPlace> for Count {
+    ghost form = { form };
+
+    ghost MACHINE = { 1 };
+
+    ghost is_form = { is_form };
+
+    ghost short = { short };
+
+    const MACHINE: u8 = 1;
+
+    fn start(self, _alloc: Global, _here: &Place) -> Result<Goes<CountPlace, Count>, AllocError> {
+        Ok(self.sleeps())
+    }
+
+    fn resume(
+        self,
+        _alloc: Global,
+        _place: CountPlace,
+        with: &Resumed,
+        _here: &Place,
+    ) -> Result<Goes<CountPlace, Count>, AllocError> {
+        match with {
+            Resumed::Lapsed => {
+                let left = self.left.saturating_sub(1);
+                Ok(Count { left, ..self }.sleeps())
+            }
+            _ => Ok(Goes::unnamed(self, with)),
+        }
+    }
+
+    fn weight(&self, _place: CountPlace) -> u64 {
+        u64::from(self.left).max(1)
+    }
+
+    fn called(&self) -> u64 {
+        u64::from(self.left) + 1
+    }
+}
+
+impl Worded<CountPlace> for Count {
+    ghost name = { codes "count" };
+
+    ghost CLASS = { 1 };
+
+    ghost begins = { begins };
+
+    ghost args_fit = { omega arith };
+
+    ghost begins_within = { begins_within };
+
+    type Args = Then<u32, End>;
+
+    const CLASS: u16 = 1;
+
+    fn is_named(word: &str) -> bool {
+        word == "count"
+    }
+
+    fn begin(args: Then<u32, End>, _here: &Place) -> Option<Count> {
+        let left = args.first;
+        if left > MOST_SLEEPS {
+            return None;
+        }
+        Some(Count { left, all: left })
     }
 }

@@ -1,7 +1,6 @@
-//! Flows that talk in sessions, beside the counting flow: ping, probe, and the echo that answers a ping.
+//! The flow set that the program ships: counting (class 1), ping (2), probe (10), and the echo that answers an Init of class 2.
 //!
-//! A flow opens a session with its counterparty, and a flow that the counterparty initiates answers it (Corda 4 documentation,
-//! "Writing flows"). Each machine here is a frame of its own and what follows each result; `ShippedFlow` is the set of them.
+//! Each machine is in the form of `flow_forms`; the set is their sum.
 #![tactic(auto)]
 
 mod count;
@@ -10,10 +9,10 @@ mod meeting;
 mod ping;
 mod probe;
 mod set;
-mod shared;
 
-pub use echo::{Echo, EchoPhase};
+pub use count::{Count, CountPlace};
+pub use echo::{Echo, EchoPlace};
 pub use meeting::a_ping_returns_its_count;
-pub use ping::{Ping, PingPhase};
-pub use probe::{Probe, ProbePhase};
-pub use set::ShippedFlow;
+pub use ping::{Ping, PingPlace};
+pub use probe::{Probe, ProbePlace};
+pub use set::{NoCalls, Shipped, ShippedFlow};

@@ -1,31 +1,25 @@
-ghost use Rattle.std.specs.Prelude.{◌≡◌, map, string_bytes};
-ghost use Rattle.std.specs.Int.{w16};
-ghost use Rattle.net_base.specs.Parts.{Gives, Writes};
-ghost use Rattle.flow_machine.specs.Flows.{GivesWords};
-ghost use Rattle.shipped_flows.specs.Shared.{party_and};
+ghost use Rattle.std.specs.Prelude.{◌≡◌, codes};
+ghost use Rattle.std.proofs.Common.{arith};
+ghost use Rattle.shipped_flows.specs.Probe.{begins, form, places, IsProbe, probe, probe_at};
+ghost use Rattle.shipped_flows.specs.ProbeLaws.{probe_laws, short, are_places, begins_within, is_form};
 
-use crate::shared::{is_peer, read_flagged, u8_word, u16_of, u16_word};
-use flow_machine::{Act, MakeFault, Place, Resumed, WordFault};
+use flow_forms::{End, Goes, Machine, Numbered, Then, Worded, is_peer, load_of};
+use flow_machine::{Act, Place, Resumed};
 use ledger_types::Value;
-use net_base::{
-    ByteList, Key, PartFault, Party, Reader, Spelt, Writer, read_below, read_between, write_option,
-};
+use net_base::{Key, PartFault, Party, Reader, Spelt, TryCopy, Writer};
 use std::alloc::{AllocError, Global};
 
-/// What a probe waits on.
+/// Where a probe waits: 1 until its session is open, 2 to receive.
 #[derive(Clone, Copy, Debug, PartialEq, Eq)]
-pub enum ProbePhase {
+pub enum ProbePlace {
     Opening,
     Receiving,
-    Returning,
-    Failing,
 }
 
-/// The probe flow, class 10: `probe P CLASS` opens a session of the class with the counterparty P, whose first value is Unit, and returns Unit once
-/// any value came. Where P knows no such class it fails with 50.
+/// The probe flow, class 10: `probe P CLASS` opens a session of the class with the counterparty P, whose first value is Unit, and returns
+/// Unit once any value came. Where P knows no such class it fails with 50.
 #[derive(Clone, Copy, Debug, PartialEq, Eq)]
 pub struct Probe {
-    pub phase: ProbePhase,
     /// The counterparty.
     pub to: Party,
     /// The class that the counterparty is asked to begin.
@@ -34,207 +28,137 @@ pub struct Probe {
     pub key: Option<Key>,
 }
 
-impl ProbePhase {
-    ghost use Rattle.shipped_flows.specs.Probe.{place_of, phase_of};
+impl Numbered for ProbePlace {
+    ghost places = { places };
 
-    /// The number of the act that it waits on: 0 Fail, 1 Open, 2 Receive, 3 Return.
-    fn place(self) -> u8
-        ensures { result ≡ place_of self }
-    {
+    ghost are_places = { are_places };
+
+    fn number(self) -> u8 {
         match self {
-            ProbePhase::Failing => 0,
-            ProbePhase::Opening => 1,
-            ProbePhase::Receiving => 2,
-            ProbePhase::Returning => 3,
+            ProbePlace::Opening => 1,
+            ProbePlace::Receiving => 2,
         }
     }
 
-    /// The phase of such a number.
-    fn of_place(place: u8) -> ProbePhase
-        ensures { result ≡ phase_of place }
-    {
-        match place {
-            0 => ProbePhase::Failing,
-            1 => ProbePhase::Opening,
-            2 => ProbePhase::Receiving,
-            _ => ProbePhase::Returning,
-        }
+    fn all() -> &'static [ProbePlace] {
+        &[ProbePlace::Opening, ProbePlace::Receiving]
+    }
+
+    fn last() -> u8 {
+        3
+    }
+
+    fn callable() -> bool {
+        false
     }
 }
 
-/// The party and the class that the arguments spell; `None` exactly where they spell none.
-fn args_of(bytes: &[u8]) -> Option<(u8, u16)>
-    ensures { result ≡ party_and 2 w16 bytes.now }
-{
-    match bytes {
-        [to, rest @ ..] => match u16_of(rest) {
-            Some(class) => Some((*to, class)),
-            None => None,
-        },
-        [] => None,
-    }
-}
+#[tactic(auto, unfolding(crate::specs::Probe::probe_at))]
+impl Spelt for Probe {
+    ghost spelling = { probe };
 
-impl Probe {
-    ghost use Rattle.shipped_flows.specs.Probe.{worded, begins, made, failed, opened, received, next, weight, content, size, IsProbe, probe_at};
+    ghost within = { IsProbe };
 
-    /// The class and the arguments of `probe P CLASS`: P in one byte, CLASS in two.
-    ///
-    /// # Errors
-    ///
-    /// `BadArgs` exactly where there aren't two words, P is no number below 2^8 or CLASS none below 2^16, and `Memory`.
-    pub fn read_words(alloc: Global, args: &[String]) -> Result<(u16, ByteList), WordFault>
-        ensures { GivesWords result (worded (map (λ s. string_bytes s) args.now)) }
-    {
-        let [to, class] = args else {
-            return Err(WordFault::BadArgs);
-        };
-        let (Some(to), Some(class)) = (u8_word(to.as_str()), u16_word(class.as_str())) else {
-            return Err(WordFault::BadArgs);
-        };
-        let mut out = Writer::new(alloc);
-        out.put_u8(alloc, to)?;
-        out.put_u16(alloc, class)?;
-        Ok((10, out.into_bytes()))
-    }
+    ghost reading = { probe_at };
 
-    /// How a probe begins by its arguments, as a flow of any flow set.
-    ///
-    /// # Errors
-    ///
-    /// `BadArgs` exactly where they aren't three bytes or P isn't another node.
-    #[tactic(auto, unfolding(crate::specs::Probe::made))]
-    pub fn make<F>(args: &ByteList, place: &Place) -> Result<(Probe, Act<F>), MakeFault>
-        ensures { result ≡ made args.now place.entry.now }
-    {
-        let Some((to, class)) = args_of(args.as_slice()) else {
-            return Err(MakeFault::BadArgs);
-        };
-        if is_peer(to, place) {
-            Ok(Probe::begin(to, class))
-        } else {
-            Err(MakeFault::BadArgs)
-        }
-    }
+    ghost laws = { probe_laws };
 
-    fn begin<F>(to: u8, class: u16) -> (Probe, Act<F>)
-        ensures { result ≡ begins to class }
-    {
-        let frame = Probe {
-            phase: ProbePhase::Opening,
-            to: Party(to),
-            class,
-            key: None,
-        };
-        let act = Act::Open {
-            to: Party(to),
-            class,
-            first: Value::Unit,
-        };
-        (frame, act)
-    }
-
-    fn failed<F>(self, code: u16) -> (Probe, Act<F>)
-        ensures { result ≡ failed code self }
-    {
-        let frame = Probe {
-            phase: ProbePhase::Failing,
-            ..self
-        };
-        (frame, Act::Fail { code })
-    }
-
-    fn opened<F>(self, with: &Resumed) -> (Probe, Act<F>)
-        ensures { result ≡ opened with.now self }
-    {
-        match with {
-            Resumed::Opened { key } => {
-                let frame = Probe {
-                    phase: ProbePhase::Receiving,
-                    key: Some(*key),
-                    ..self
-                };
-                (frame, Act::Receive { key: *key })
-            }
-            _ => self.failed(with.unnamed_code()),
-        }
-    }
-
-    fn received<F>(self, with: &Resumed) -> (Probe, Act<F>)
-        ensures { result ≡ received with.now self }
-    {
-        match with {
-            Resumed::Got { .. } => {
-                let frame = Probe {
-                    phase: ProbePhase::Returning,
-                    ..self
-                };
-                let value = Value::Unit;
-                (frame, Act::Return { value })
-            }
-            _ => self.failed(with.unnamed_code()),
-        }
-    }
-
-    /// The frame and the act that follow this result, as those of any flow set.
-    #[tactic(auto, unfolding(crate::specs::Probe::next))]
-    pub fn resume<F>(self, with: &Resumed) -> (Probe, Act<F>)
-        ensures { result ≡ next self with.now }
-    {
-        match self.phase {
-            ProbePhase::Opening => self.opened(with),
-            ProbePhase::Receiving => self.received(with),
-            ProbePhase::Returning | ProbePhase::Failing => self.failed(with.unnamed_code()),
-        }
-    }
-
-    /// A bound on what the frame may still cause.
-    #[tactic(auto, unfolding(crate::specs::Probe::weight))]
-    pub fn weight(self) -> u64
-        ensures { result ≡ weight self }
-    {
-        match self.phase {
-            ProbePhase::Opening => 2,
-            ProbePhase::Receiving => 1,
-            ProbePhase::Returning | ProbePhase::Failing => 0,
-        }
-    }
-
-    /// How many bytes the frame has.
-    pub fn size(&self) -> u16
-        ensures { result ≡ size self.now }
-    {
-        match self.key {
-            None => 6,
-            Some(_) => 11,
-        }
-    }
-
-    /// Reads a frame's own bytes, where it is known whether its key is `there`, or tells how many bytes are left where no spelling goes on. After a fault the reader's
-    /// place is not stated.
-    #[tactic(auto, unfolding(crate::specs::Probe::probe_at))]
-    pub fn read(alloc: Global, from: &mut Reader, there: bool) -> Result<Probe, PartFault>
-        ensures { Gives (λ x. x) result from.old from.new (probe_at there from.old.left) }
-    {
-        let _machine = read_between(from, 10, 11)?;
+    fn read_part(alloc: Global, from: &mut Reader) -> Result<Probe, PartFault> {
         Ok(Probe {
-            phase: ProbePhase::of_place(read_below(from, 4)?),
             to: Spelt::read_part(alloc, from)?,
             class: Spelt::read_part(alloc, from)?,
-            key: read_flagged(alloc, from, there)?,
+            key: Spelt::read_part(alloc, from)?,
         })
     }
 
-    /// Writes the frame's own bytes: the machine, the place, and the fields in their order. After want of memory a front of them may stand in `out`.
-    pub fn write(&self, alloc: Global, out: &mut Writer) -> Result<(), AllocError>
-        requires { IsProbe self.now }
-        ensures { Writes (content self.now) result out.old out.new }
-    {
-        out.put_u8(alloc, 10)?;
-        out.put_u8(alloc, self.phase.place())?;
+    fn write_part(&self, alloc: Global, out: &mut Writer) -> Result<(), AllocError> {
         self.to.write_part(alloc, out)?;
         self.class.write_part(alloc, out)?;
-        write_option(alloc, &self.key, out)?;
-        Ok(())
+        self.key.write_part(alloc, out)
+    }
+}
+
+impl TryCopy for Probe {
+    fn try_copy(&self, _alloc: Global) -> Result<Probe, AllocError> {
+        Ok(*self)
+    }
+}
+
+impl Machine<ProbePlace> for Probe {
+    ghost form = { form };
+
+    ghost MACHINE = { 10 };
+
+    ghost is_form = { is_form };
+
+    ghost short = { short };
+
+    const MACHINE: u8 = 10;
+
+    fn start(self, _alloc: Global, _here: &Place) -> Result<Goes<ProbePlace, Probe>, AllocError> {
+        let (to, class, first) = (self.to, self.class, Value::Unit);
+        Ok(Goes::on(ProbePlace::Opening, self, Act::Open { to, class, first }))
+    }
+
+    fn resume(
+        self,
+        _alloc: Global,
+        place: ProbePlace,
+        with: &Resumed,
+        _here: &Place,
+    ) -> Result<Goes<ProbePlace, Probe>, AllocError> {
+        Ok(match (place, with) {
+            (ProbePlace::Opening, Resumed::Opened { key }) => {
+                let fields = Probe {
+                    key: Some(*key),
+                    ..self
+                };
+                Goes::on(ProbePlace::Receiving, fields, Act::Receive { key: *key })
+            }
+            (ProbePlace::Receiving, Resumed::Got { .. }) => Goes::ends(self, Value::Unit),
+            _ => Goes::unnamed(self, with),
+        })
+    }
+
+    fn weight(&self, place: ProbePlace) -> u64 {
+        match place {
+            ProbePlace::Opening => 2,
+            ProbePlace::Receiving => 1,
+        }
+    }
+
+    fn called(&self) -> u64 {
+        load_of(self.class) + 8
+    }
+}
+
+impl Worded<ProbePlace> for Probe {
+    ghost name = { codes "probe" };
+
+    ghost CLASS = { 10 };
+
+    ghost begins = { begins };
+
+    ghost args_fit = { omega arith };
+
+    ghost begins_within = { begins_within };
+
+    type Args = Then<u8, Then<u16, End>>;
+
+    const CLASS: u16 = 10;
+
+    fn is_named(word: &str) -> bool {
+        word == "probe"
+    }
+
+    fn begin(args: Then<u8, Then<u16, End>>, here: &Place) -> Option<Probe> {
+        if !is_peer(args.first, here) {
+            return None;
+        }
+        Some(Probe {
+            to: Party(args.first),
+            class: args.rest.first,
+            key: None,
+        })
     }
 }
