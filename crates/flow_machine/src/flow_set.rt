@@ -3,6 +3,7 @@
 ghost use Rattle.std.specs.Prelude.{◌≡◌, map, string_bytes, IfOk};
 ghost use Rattle.flow_machine.specs.Machine.{Machine};
 ghost use Rattle.flow_machine.specs.Flows.{GivesWords, GivesMade, GivesBegun, Falls, LoadHolds, OversHold, OverFails, ArgsAreShort, KnownByName, SpellsContent, KeepsLimits};
+ghost use Rattle.flow_machine.specs.Limits.{IsResumed, IsPlace};
 ghost use Rattle.flow_machine.specs.Tags.{KeepsTags, BeginsBare};
 
 use super::{Act, Place, Resumed};
@@ -98,10 +99,14 @@ pub trait FlowSet: Spelt + Drop {
         with: &Resumed,
         at: &Place,
     ) -> Result<(Self, Act<Self>), AllocError>
+        requires fits { Self.within self.now }
+        requires small { IsResumed with.now }
+        requires place { IsPlace at.now }
         ensures { IfOk result (λ made. made ≡ machine.next self.now with.now at.entry.now) };
 
     /// A bound on what the frame may still cause.
     fn weight(&self) -> u64
+        requires { Self.within self.now }
         ensures { result ≡ machine.weight self.now };
 
     /// A frame is spelt by its bytes behind their length, and has at most 32,768.

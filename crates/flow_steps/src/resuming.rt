@@ -1,14 +1,16 @@
 //! How a flow goes on once its act is performed: a frame of its stack is resumed.
 
 ghost use Rattle.std.specs.Prelude.{◌≡◌, ◌<◌, ◌+◌, ◌-◌, ◌^◌, IfOk};
+ghost use Rattle.net_base.specs.Names.{IsIdentity};
 ghost use Rattle.ledger_types.specs.Values.{IsValue};
-ghost use Rattle.flow_machine.specs.Limits.{IsStack};
+ghost use Rattle.flow_machine.specs.Checkpoints.{IsCheckpoint};
+ghost use Rattle.flow_machine.specs.Limits.{IsResumed};
 ghost use Rattle.net_model.specs.Environment.{environment};
 ghost use Rattle.flow_steps.specs.Going.{gone_on, called, returned};
 
 use flow_machine::{Checkpoint, FlowSet, FlowState, Place, Resumed, Stack, copy_frame};
 use ledger_types::Value;
-use net_base::{Identity, Moment};
+use net_base::{Identity, Moment, Unlimited};
 use std::alloc::{AllocError, Global};
 
 /// Lets a value go.
@@ -39,9 +41,14 @@ fn resumed<F: FlowSet>(
     stack: Stack<F>,
     with: &Resumed,
 ) -> Result<FlowState<F>, AllocError>
-    requires { at.now.step < 2 ^ 32 - 1 }
+    requires step { at.now.step < 2 ^ 32 - 1 }
+    requires identity { IsIdentity identity.now }
+    requires limits { IsCheckpoint F.within at.now }
+    requires top { F.within stack.top }
+    requires with { IsResumed with.now }
     ensures { IfOk result (λ flow. flow ≡ gone_on (environment F.machine F.reading identity.now) identity.now.party.0 now.0 at.now stack.top stack.below with.now) }
 {
+    now.known();
     let here = place_of(identity, at.flow, at.step, now);
     let mut stack = stack;
     let (top, waiting) = stack.top().resume(alloc, with, &here)?;
@@ -64,12 +71,15 @@ pub(crate) fn resume<F: FlowSet>(
     with: &Resumed,
 ) -> Result<FlowState<F>, AllocError>
     requires step { at.now.step < 2 ^ 32 - 1 }
-    requires limits { IsStack F.within at.now.stack }
+    requires identity { IsIdentity identity.now }
+    requires limits { IsCheckpoint F.within at.now }
+    requires with { IsResumed with.now }
     ensures { IfOk result (λ flow. flow ≡ gone_on (environment F.machine F.reading identity.now) identity.now.party.0 now.0 at.now at.now.stack.top at.now.stack.below with.now) }
 {
     if at.stack.depth() > 1 {
         return resumed(alloc, identity, now, at, at.stack.copy(alloc)?, with);
     }
+    now.known();
     let here = place_of(identity, at.flow, at.step, now);
     let (top, waiting) = at.stack.top().resume(alloc, with, &here)?;
     Ok(FlowState::Live(Checkpoint {
@@ -90,7 +100,8 @@ pub(crate) fn call<F: FlowSet>(
     frame: &F,
 ) -> Result<FlowState<F>, AllocError>
     requires step { at.now.step < 2 ^ 32 - 1 }
-    requires limits { IsStack F.within at.now.stack }
+    requires identity { IsIdentity identity.now }
+    requires limits { IsCheckpoint F.within at.now }
     requires frame { F.within frame.now }
     ensures { IfOk result (λ flow. flow ≡ called (environment F.machine F.reading identity.now) identity.now.party.0 now.0 at.now frame.now) }
 {
@@ -118,7 +129,8 @@ pub(crate) fn hand_down<F: FlowSet>(
     value: &Value,
 ) -> Result<FlowState<F>, AllocError>
     requires step { at.now.step < 2 ^ 32 - 1 }
-    requires limits { IsStack F.within at.now.stack }
+    requires identity { IsIdentity identity.now }
+    requires limits { IsCheckpoint F.within at.now }
     requires value { IsValue value.now }
     ensures { IfOk result (λ flow. flow ≡ returned (environment F.machine F.reading identity.now) identity.now.party.0 now.0 at.now value.now at.now.stack.below) }
 {

@@ -1,5 +1,6 @@
 ghost use Rattle.std.specs.Prelude.{◌≡◌, IfOk};
 ghost use Rattle.flow_machine.specs.Flows.{GivesMade};
+ghost use Rattle.flow_machine.specs.Limits.{IsResumed, IsPlace};
 ghost use Rattle.flow_machine.specs.Counter as counter;
 ghost use Rattle.shipped_flows.specs.Lifting.{seen};
 ghost use Rattle.shipped_flows.specs.Ping as ping_words;
@@ -113,6 +114,9 @@ fn resume_count(
     with: &Resumed,
     place: &Place,
 ) -> Result<(ShippedFlow, Act<ShippedFlow>), AllocError>
+    requires fits { counter.IsCounter frame.now }
+    requires small { IsResumed with.now }
+    requires place { IsPlace place.now }
     ensures { IfOk result (λ made. made ≡ seen_count (counter.next frame.now with.now place.entry.now)) }
 {
     let (frame, act) = frame.resume(alloc, with, place)?;
