@@ -1,5 +1,5 @@
 -- Lists of what is seen of items, as of the frames that stacks share.
-use Rattle.std.proofs.Common.{◌≡◌, ◌-◌, ◌<◌, ℕ, zero, suc, get_or, subst, List, [], ◌∷◌, ◌++◌, length, map, take, drop, reverse, refl, sym, ap, ◌∙◌, arith}
+use Rattle.std.proofs.Common.{◌≡◌, ◌-◌, ◌<◌, ℕ, zero, suc, get_or, subst, List, [], ◌∷◌, ◌++◌, length, map, take, drop, reverse, sym, ap, ◌∙◌, arith}
 use Rattle.std.specs.List.{AllByRecursion}
 use Rattle.std.proofs.lemmas.List.{map-append, reverse-append, length-map, length-drop, take-append-drop}
 
