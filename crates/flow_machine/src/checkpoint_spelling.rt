@@ -1,6 +1,7 @@
 //! The spelling of stacks and checkpoints.
 
-ghost use Rattle.std.specs.Prelude.{◌≤◌, IfOk, length};
+ghost use Rattle.std.specs.Prelude.{◌≤◌, IfOk, length, map};
+ghost use Rattle.std.specs.Arc.{arc_value};
 ghost use Rattle.std.specs.List.{flat_map, AllByRecursion};
 ghost use Rattle.net_base.specs.Reading.{Puts};
 ghost use Rattle.net_base.specs.Forms.{items_at};
@@ -12,21 +13,41 @@ ghost use Rattle.flow_machine.specs.Checkpoints.{IsCheckpoint, checkpoint_text, 
 use super::{Checkpoint, FrameBytes, Stack};
 use net_base::{DecodeFault, PartFault, Reader, Spelt, Writer, decode, encode, read_between};
 use std::alloc::{AllocError, Global};
+use std::sync::Arc;
 
-fn read_frames<F: Spelt>(alloc: Global, from: &mut Reader, count: u8) -> Result<Vec<F>, PartFault>
-    ensures given { Gives (λ x. x.items) result from.old from.new (items_at F.reading count from.old.left) }
+/// A frame that stacks can share.
+fn read_frame<F: Spelt>(alloc: Global, from: &mut Reader) -> Result<Arc<F>, PartFault>
+    ensures { Gives (λ frame. arc_value frame) result from.old from.new (F.reading from.old.left) }
+{
+    let frame = F::read_part(alloc, from)?;
+    match Arc::new(alloc, frame) {
+        Ok(frame) => Ok(frame),
+        Err(_) => Err(PartFault::Memory),
+    }
+}
+
+fn read_frames<F: Spelt>(
+    alloc: Global,
+    from: &mut Reader,
+    count: u8,
+) -> Result<Vec<Arc<F>>, PartFault>
+    ensures given { Gives (λ x. map (λ frame. arc_value frame) x.items) result from.old from.new (items_at F.reading count from.old.left) }
     ensures few { IfOk result (λ x. length x.items ≤ count) }
 {
     let mut frames = Vec::with_capacity(alloc, count as usize)?;
     for _ in 0..count {
-        frames.push(F::read_part(alloc, from)?)?;
+        frames.push(read_frame(alloc, from)?)?;
     }
     Ok(frames)
 }
 
-fn write_frames<F: Spelt>(alloc: Global, frames: &[F], out: &mut Writer) -> Result<(), AllocError>
-    requires { AllByRecursion F.within frames.now }
-    ensures { Writes (flat_map F.spelling frames.now) result out.old out.new }
+fn write_frames<F: Spelt>(
+    alloc: Global,
+    frames: &[Arc<F>],
+    out: &mut Writer,
+) -> Result<(), AllocError>
+    requires { AllByRecursion F.within (map (λ frame. arc_value frame) frames.now) }
+    ensures { Writes (flat_map F.spelling (map (λ frame. arc_value frame) frames.now)) result out.old out.new }
 {
     for frame in frames {
         frame.write_part(alloc, out)?;
@@ -52,7 +73,7 @@ impl<F: Spelt> Spelt for Stack<F> {
     fn read_part(alloc: Global, from: &mut Reader) -> Result<Stack<F>, PartFault> {
         let depth = read_between(from, 1, 9)?;
         let below = read_frames(alloc, from, depth - 1)?;
-        let top = Spelt::read_part(alloc, from)?;
+        let top = read_frame(alloc, from)?;
         Ok(Stack::from_bottom(below, top))
     }
 

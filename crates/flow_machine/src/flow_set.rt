@@ -3,12 +3,13 @@
 ghost use Rattle.std.specs.Prelude.{◌≡◌, map, string_bytes, IfOk};
 ghost use Rattle.flow_machine.specs.Machine.{Machine};
 ghost use Rattle.flow_machine.specs.Flows.{GivesWords, GivesMade, GivesBegun, Falls, LoadHolds, OversHold, OverFails, ArgsAreShort, KnownByName, SpellsContent, KeepsLimits};
+ghost use Rattle.flow_machine.specs.Limits.{IsResumed, IsPlace};
 ghost use Rattle.flow_machine.specs.Tags.{KeepsTags, BeginsBare};
 ghost use Rattle.flow_machine.specs.Limits.{IsResumed, IsPlace};
 ghost use Rattle.net_base.specs.Names.{IsKey};
 
 use super::{Act, Place, Resumed};
-use net_base::{ByteList, Key, Spelt, Writer, decode_if_spelt, encode};
+use net_base::{ByteList, Key, Spelt};
 use std::alloc::{AllocError, Global};
 use thiserror::Error;
 
@@ -153,24 +154,6 @@ pub trait FlowSet: Spelt + Drop {
 
     /// Whether a class is unknown is told by its name, whatever the arguments are.
     ghost known_by_name: { KnownByName machine };
-}
-
-/// An equal frame.
-///
-/// # Errors
-///
-/// `AllocError` for want of memory.
-pub fn copy_frame<F: FlowSet>(alloc: Global, frame: &F) -> Result<F, AllocError>
-    requires { F.within frame.now }
-    ensures { IfOk result (λ copy. copy ≡ frame.now) }
-{
-    let mut out = Writer::new(alloc);
-    encode(alloc, frame, &mut out)?;
-    let bytes = out.into_bytes();
-    match decode_if_spelt(alloc, bytes.as_slice())? {
-        Some(copy) => Ok(copy),
-        None => unreachable!(),
-    }
 }
 
 /// The law of every flow set that a frame is spelt by two bytes of length and its own bytes, of which there are at most 32,768.

@@ -20,8 +20,8 @@ pub use counter::{Counter, Phase};
 pub use fields::u32_of;
 pub use flow_set::{
     FlowSet, MakeFault, WordFault, args_are_short, begins_bare, classes_are_known_by_name,
-    copy_frame, frames_are_spelt, limits_are_kept, load_holds, over_frames_fail, over_is_exact,
-    tags_are_kept, weight_falls,
+    frames_are_spelt, limits_are_kept, load_holds, over_frames_fail, over_is_exact, tags_are_kept,
+    weight_falls,
 };
 pub use flows::{Checkpoint, FlowState};
 pub use stack::Stack;

@@ -1,49 +1,38 @@
 //! The frames of a live flow.
 
-ghost use Rattle.std.specs.Prelude.{◌≡◌, ◌+◌, ◌∷◌, ◌<◌, ◌≤◌, [], length, reverse, OnOk, OnErr, IfOk, MatchOption};
-ghost use Rattle.std.specs.List.{AllByRecursion};
-ghost use Rattle.flow_machine.specs.Limits.{IsStack};
+ghost use Rattle.std.specs.Prelude.{◌≡◌, ◌+◌, ◌∷◌, ◌<◌, ◌≤◌, [], length, map, drop, reverse, IfOk, MatchOption};
+ghost use Rattle.std.specs.Arc.{arc_value};
 
-use super::{FlowSet, copy_frame};
 use std::alloc::{AllocError, Global};
 use std::marker::Model;
-use std::mem;
+use std::sync::Arc;
 
 /// The frames of a live flow: the one that is resumed next, and those that wait below it for a subflow to return. A flow has at
-/// most 8.
+/// most 8. No frame ever changes, so the stacks before and after a step share those that stay: none is copied.
 #[derive(Debug, Drop)]
 pub struct Stack<F> {
-    top: F,
+    top: Arc<F>,
     // the bottom first
-    below: Vec<F>,
+    below: Vec<Arc<F>>,
 }
 
 impl<F> Model for Stack<F> {
     ghost use Rattle.flow_machine.specs.Stacks.{Frames};
-    ghost use Rattle.std.specs.Prelude.{reverse, length, ◌≤◌};
+    ghost use Rattle.std.specs.Prelude.{map, reverse, length, ◌≤◌};
+    ghost use Rattle.std.specs.Arc.{arc_value};
 
     ghost Value = { Frames F };
 
-    ghost view = { λ s. record { top = s.top; below = reverse s.below.items } };
+    ghost view = { λ s. record { top = arc_value s.top; below = reverse (map (λ frame. arc_value frame) s.below.items) } };
 
     ghost invariant = { λ s. length s.below.items ≤ 7 };
 }
 
 impl<F> Stack<F> {
-    /// The stack of one frame. Takes no memory.
-    pub fn new(alloc: Global, top: F) -> Stack<F>
-        ensures { result ≡ record { top = top; below = [] } }
-    {
-        Stack {
-            top,
-            below: Vec::new(alloc),
-        }
-    }
-
     /// The stack of this frame on top of at most 7 others, the bottom first. Takes no memory.
-    pub(crate) fn from_bottom(below: Vec<F>, top: F) -> Stack<F>
+    pub(crate) fn from_bottom(below: Vec<Arc<F>>, top: Arc<F>) -> Stack<F>
         requires { length below.items ≤ 7 }
-        ensures { result ≡ record { top = top; below = reverse below.items } }
+        ensures { result ≡ record { top = arc_value top; below = reverse (map (λ frame. arc_value frame) below.items) } }
     {
         Stack { top, below }
     }
@@ -52,7 +41,17 @@ impl<F> Stack<F> {
     pub fn top(&self) -> &F
         ensures { result.now ≡ self.now.top }
     {
-        &self.top
+        &*self.top
+    }
+
+    /// The frame that waits for the top one to return, `None` where the top one is the only one.
+    pub fn caller(&self) -> Option<&F>
+        ensures { MatchOption result (self.now.below ≡ []) (λ frame. self.now.below ≡ frame.now ∷ drop 1 self.now.below) }
+    {
+        match self.below.last() {
+            Some(frame) => Some(&**frame),
+            None => None,
+        }
     }
 
     /// How many frames there are, 1 to 8.
@@ -64,70 +63,75 @@ impl<F> Stack<F> {
     }
 
     /// The frames below the top one, the bottom first.
-    pub fn below(&self) -> &[F]
-        ensures { result.now ≡ reverse self.now.below }
+    pub(crate) fn below(&self) -> &[Arc<F>]
+        ensures { map (λ frame. arc_value frame) result.now ≡ reverse self.now.below }
     {
         self.below.as_slice()
     }
 }
 
 impl<F: Drop> Stack<F> {
-    /// Another frame in place of the top one.
-    pub fn replace_top(&mut self, frame: F)
-        ensures top { self.new.top ≡ frame }
-        ensures below { self.new.below ≡ self.old.below }
-    {
-        self.top = frame;
-    }
-
-    /// A frame on top of the others.
-    ///
-    /// # Errors
-    ///
-    /// `AllocError` for want of memory; the stack is then as it was.
-    pub fn push(&mut self, frame: F) -> Result<(), AllocError>
-        requires { length self.old.below < 7 }
-        ensures ok { OnOk result (self.new ≡ record { top = frame; below = self.old.top ∷ self.old.below }) }
-        ensures err { OnErr result (self.new ≡ self.old) }
-    {
-        self.below.reserve(1)?;
-        let waits = mem::replace(&mut self.top, frame);
-        self.below.push(waits).unwrap();
-        Ok(())
-    }
-
-    /// The top frame, taken off; `None` at the bottom, where nothing changes.
-    pub fn pop(&mut self) -> Option<F>
-        ensures { MatchOption result ((self.old.below ≡ []) × (self.new ≡ self.old)) (λ top. (top ≡ self.old.top) × (self.old.below ≡ self.new.top ∷ self.new.below)) }
-    {
-        let next = self.below.pop()?;
-        Some(mem::replace(&mut self.top, next))
-    }
-}
-
-impl<F: FlowSet> Stack<F> {
-    /// An equal stack.
+    /// The stack of one frame.
     ///
     /// # Errors
     ///
     /// `AllocError` for want of memory.
-    pub fn copy(&self, alloc: Global) -> Result<Stack<F>, AllocError>
-        requires { IsStack F.within self.now }
-        ensures { IfOk result (λ copy. copy ≡ self.now) }
+    pub fn new(alloc: Global, top: F) -> Result<Stack<F>, AllocError>
+        ensures { IfOk result (λ stack. stack ≡ record { top = top; below = [] }) }
     {
-        let below = copy_frames(alloc, self.below.as_slice())?;
-        let top = copy_frame(alloc, &self.top)?;
+        Ok(Stack::from_bottom(Vec::new(alloc), Arc::new(alloc, top)?))
+    }
+
+    /// The stack with another frame in place of the top one.
+    ///
+    /// # Errors
+    ///
+    /// `AllocError` for want of memory.
+    pub fn with_top(&self, alloc: Global, top: F) -> Result<Stack<F>, AllocError>
+        ensures { IfOk result (λ stack. stack ≡ record { top = top; below = self.now.below }) }
+    {
+        let top = Arc::new(alloc, top)?;
+        let below = shared(alloc, self.below.as_slice())?;
+        Ok(Stack::from_bottom(below, top))
+    }
+
+    /// The stack with this frame above all others.
+    ///
+    /// # Errors
+    ///
+    /// `AllocError` for want of memory.
+    pub fn with_callee(&self, alloc: Global, top: F) -> Result<Stack<F>, AllocError>
+        requires { length self.now.below < 7 }
+        ensures { IfOk result (λ stack. stack ≡ record { top = top; below = self.now.top ∷ self.now.below }) }
+    {
+        let top = Arc::new(alloc, top)?;
+        let mut below = shared(alloc, self.below.as_slice())?;
+        below.push(Arc::try_clone(&self.top)?)?;
+        Ok(Stack::from_bottom(below, top))
+    }
+
+    /// The stack without its top frame, and with this one in place of the frame that waited for it.
+    ///
+    /// # Errors
+    ///
+    /// `AllocError` for want of memory.
+    pub fn with_caller(&self, alloc: Global, caller: F) -> Result<Stack<F>, AllocError>
+        requires { 0 < length self.now.below }
+        ensures { IfOk result (λ stack. stack ≡ record { top = caller; below = drop 1 self.now.below }) }
+    {
+        let top = Arc::new(alloc, caller)?;
+        let below = shared(alloc, &self.below[..self.below.len() - 1])?;
         Ok(Stack::from_bottom(below, top))
     }
 }
 
-fn copy_frames<F: FlowSet>(alloc: Global, frames: &[F]) -> Result<Vec<F>, AllocError>
-    requires { AllByRecursion F.within frames.now }
-    ensures { IfOk result (λ copies. copies.items ≡ frames.now) }
+/// The same frames once more. None is copied.
+fn shared<F: Drop>(alloc: Global, frames: &[Arc<F>]) -> Result<Vec<Arc<F>>, AllocError>
+    ensures { IfOk result (λ same. map (λ frame. arc_value frame) same.items ≡ map (λ frame. arc_value frame) frames.now) }
 {
-    let mut copies = Vec::with_capacity(alloc, frames.len())?;
+    let mut same = Vec::with_capacity(alloc, frames.len())?;
     for frame in frames {
-        copies.push(copy_frame(alloc, frame)?)?;
+        same.push(Arc::try_clone(frame)?)?;
     }
-    Ok(copies)
+    Ok(same)
 }

@@ -42,10 +42,10 @@ fn flow_for<F: FlowSet>(
     };
     now.known();
     match F::initiated(alloc, *class, key, &place_of(identity, number, 0, now)) {
-        Ok((top, waiting)) => Ok(Some(FlowAfter {
-            number,
-            state: first_state(alloc, number, *class, top, waiting),
-        })),
+        Ok((top, waiting)) => {
+            let state = first_state(alloc, number, *class, top, waiting)?;
+            Ok(Some(FlowAfter { number, state }))
+        }
         Err(MakeFault::UnknownClass) => Ok(None),
         Err(MakeFault::BadArgs) => unreachable!(),
         Err(MakeFault::Memory) => Err(AllocError),

@@ -15,7 +15,7 @@ ghost use Rattle.flow_steps.specs.Ready.{AreKept, IsBegun, IsReady};
 
 use crate::acts::{perform, step_of};
 use crate::picking::flow_in;
-use crate::resuming::place_of;
+use crate::resuming::{let_go, place_of};
 use checkpoints::{FlowView, Flows};
 use flow_machine::{Act, Checkpoint, FlowSet, FlowState, MakeFault, Stack};
 use flow_records::Step;
@@ -42,23 +42,29 @@ fn known_bytes(bytes: &[u8])
     let _ = bytes;
 }
 
-/// A flow that begins, at step 0. Takes no memory.
-pub(crate) fn first_state<F>(
+/// A flow that begins, at step 0. The only error is want of memory.
+pub(crate) fn first_state<F: Drop>(
     alloc: Global,
     flow: u32,
     class: u16,
     top: F,
     waiting: Act<F>,
-) -> FlowState<F>
-    ensures { result ≡ first_state flow class (top, waiting) }
+) -> Result<FlowState<F>, AllocError>
+    ensures { IfOk result (λ state. state ≡ first_state flow class (top, waiting)) }
 {
-    FlowState::Live(Checkpoint {
-        flow,
-        step: 0,
-        class,
-        waiting,
-        stack: Stack::new(alloc, top),
-    })
+    match Stack::new(alloc, top) {
+        Ok(stack) => Ok(FlowState::Live(Checkpoint {
+            flow,
+            step: 0,
+            class,
+            waiting,
+            stack,
+        })),
+        Err(fault) => {
+            let_go(waiting);
+            Err(fault)
+        }
+    }
 }
 
 /// The step by which a flow of a class begins, as that of the node's next number. Its cause has the stamp and the moment.
@@ -84,6 +90,10 @@ pub fn begin<F: FlowSet>(
     known_bytes(args.as_slice());
     now.known();
     let (top, waiting) = F::make(alloc, class, args, &place_of(identity, number, 0, now))?;
+    let state = match first_state(alloc, number, class, top, waiting) {
+        Ok(state) => state,
+        Err(_) => return Err(MakeFault::Memory),
+    };
     let event = Event::Start {
         flow: number,
         class,
@@ -94,7 +104,6 @@ pub fn begin<F: FlowSet>(
         moment: now,
         event,
     };
-    let state = first_state(alloc, number, class, top, waiting);
     let session = unchanged(alloc, number);
     Ok(step_of(alloc, cause, number, state, session))
 }

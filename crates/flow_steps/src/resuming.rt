@@ -1,14 +1,19 @@
 //! How a flow goes on once its act is performed: a frame of its stack is resumed.
 
 ghost use Rattle.std.specs.Prelude.{◌≡◌, ◌<◌, ◌+◌, ◌-◌, ◌^◌, IfOk};
+ghost use Rattle.net_base.specs.Names.{IsIdentity};
 ghost use Rattle.ledger_types.specs.Values.{IsValue};
-ghost use Rattle.flow_machine.specs.Limits.{IsStack};
+ghost use Rattle.flow_machine.specs.Checkpoints.{IsCheckpoint};
+ghost use Rattle.flow_machine.specs.Limits.{IsResumed};
+ghost use Rattle.flow_machine.specs.Stacks.{Frames};
+ghost use Rattle.flow_machine.specs.declared.flows.FlowState.TheVariants.{Live};
 ghost use Rattle.net_model.specs.Environment.{environment};
+ghost use Rattle.net_model.specs.Steps.{place};
 ghost use Rattle.flow_steps.specs.Going.{gone_on, called, returned};
 
-use flow_machine::{Checkpoint, FlowSet, FlowState, Place, Resumed, Stack, copy_frame};
+use flow_machine::{Act, Checkpoint, FlowSet, FlowState, Place, Resumed, Stack};
 use ledger_types::Value;
-use net_base::{Identity, Moment};
+use net_base::{Identity, Moment, Unlimited};
 use std::alloc::{AllocError, Global};
 
 /// Lets a value go.
@@ -30,32 +35,52 @@ pub(crate) fn place_of(identity: &Identity, flow: u32, step: u32, now: Moment) -
     }
 }
 
-/// The flow at its next step, once the top frame of this stack is resumed.
+/// What a frame of the flow becomes, and the act that follows, once it is resumed with this.
 fn resumed<F: FlowSet>(
     alloc: Global,
     identity: &Identity,
     now: Moment,
     at: &Checkpoint<F>,
-    stack: Stack<F>,
+    frame: &F,
     with: &Resumed,
-) -> Result<FlowState<F>, AllocError>
-    requires { at.now.step < 2 ^ 32 - 1 }
-    ensures { IfOk result (λ flow. flow ≡ gone_on (environment F.machine F.reading identity.now) identity.now.party.0 now.0 at.now stack.top stack.below with.now) }
+) -> Result<(F, Act<F>), AllocError>
+    requires step { at.now.step < 2 ^ 32 - 1 }
+    requires identity { IsIdentity identity.now }
+    requires limits { IsCheckpoint F.within at.now }
+    requires frame { F.within frame.now }
+    requires with { IsResumed with.now }
+    ensures { IfOk result (λ made. made ≡ F.machine.next frame.now with.now (place (environment F.machine F.reading identity.now) identity.now.party.0 at.now.flow at.now.step now.0)) }
 {
+    now.known();
     let here = place_of(identity, at.flow, at.step, now);
-    let mut stack = stack;
-    let (top, waiting) = stack.top().resume(alloc, with, &here)?;
-    stack.replace_top(top);
-    Ok(FlowState::Live(Checkpoint {
-        flow: at.flow,
-        step: at.step + 1,
-        class: at.class,
-        waiting,
-        stack,
-    }))
+    frame.resume(alloc, with, &here)
 }
 
-/// The flow at its next step, once its top frame is resumed. Where it has one frame nothing is copied.
+/// The flow at its next step, which waits on this act, where there was memory for its frames.
+fn next_of<F: FlowSet>(
+    at: &Checkpoint<F>,
+    waiting: Act<F>,
+    stack: Result<Stack<F>, AllocError>,
+) -> Result<FlowState<F>, AllocError>
+    requires { at.now.step < 2 ^ 32 - 1 }
+    ensures { (frames : Frames F) → IfOk stack (λ is. is ≡ frames) → IfOk result (λ flow. flow ≡ Live (record { flow = at.now.flow; step = at.now.step + 1; class = at.now.class; waiting = waiting; stack = frames })) }
+{
+    match stack {
+        Ok(stack) => Ok(FlowState::Live(Checkpoint {
+            flow: at.flow,
+            step: at.step + 1,
+            class: at.class,
+            waiting,
+            stack,
+        })),
+        Err(fault) => {
+            let_go(waiting);
+            Err(fault)
+        }
+    }
+}
+
+/// The flow at its next step, once its top frame is resumed.
 pub(crate) fn resume<F: FlowSet>(
     alloc: Global,
     identity: &Identity,
@@ -64,21 +89,13 @@ pub(crate) fn resume<F: FlowSet>(
     with: &Resumed,
 ) -> Result<FlowState<F>, AllocError>
     requires step { at.now.step < 2 ^ 32 - 1 }
-    requires limits { IsStack F.within at.now.stack }
+    requires identity { IsIdentity identity.now }
+    requires limits { IsCheckpoint F.within at.now }
+    requires with { IsResumed with.now }
     ensures { IfOk result (λ flow. flow ≡ gone_on (environment F.machine F.reading identity.now) identity.now.party.0 now.0 at.now at.now.stack.top at.now.stack.below with.now) }
 {
-    if at.stack.depth() > 1 {
-        return resumed(alloc, identity, now, at, at.stack.copy(alloc)?, with);
-    }
-    let here = place_of(identity, at.flow, at.step, now);
-    let (top, waiting) = at.stack.top().resume(alloc, with, &here)?;
-    Ok(FlowState::Live(Checkpoint {
-        flow: at.flow,
-        step: at.step + 1,
-        class: at.class,
-        waiting,
-        stack: Stack::new(alloc, top),
-    }))
+    let (top, waiting) = resumed(alloc, identity, now, at, at.stack.top(), with)?;
+    next_of(at, waiting, at.stack.with_top(alloc, top))
 }
 
 /// A subflow begins, or the flow is told that its stack has 8 frames.
@@ -90,23 +107,16 @@ pub(crate) fn call<F: FlowSet>(
     frame: &F,
 ) -> Result<FlowState<F>, AllocError>
     requires step { at.now.step < 2 ^ 32 - 1 }
-    requires limits { IsStack F.within at.now.stack }
+    requires identity { IsIdentity identity.now }
+    requires limits { IsCheckpoint F.within at.now }
     requires frame { F.within frame.now }
     ensures { IfOk result (λ flow. flow ≡ called (environment F.machine F.reading identity.now) identity.now.party.0 now.0 at.now frame.now) }
 {
-    let mut stack = at.stack.copy(alloc)?;
-    if stack.depth() == 8 {
-        return resumed(
-            alloc,
-            identity,
-            now,
-            at,
-            stack,
-            &Resumed::Refused { code: 49 },
-        );
+    if at.stack.depth() == 8 {
+        return resume(alloc, identity, now, at, &Resumed::Refused { code: 49 });
     }
-    stack.push(copy_frame(alloc, frame)?)?;
-    resumed(alloc, identity, now, at, stack, &Resumed::Started)
+    let (top, waiting) = resumed(alloc, identity, now, at, frame, &Resumed::Started)?;
+    next_of(at, waiting, at.stack.with_callee(alloc, top))
 }
 
 /// A frame returned a value to the one below it, or ended its flow.
@@ -118,23 +128,23 @@ pub(crate) fn hand_down<F: FlowSet>(
     value: &Value,
 ) -> Result<FlowState<F>, AllocError>
     requires step { at.now.step < 2 ^ 32 - 1 }
-    requires limits { IsStack F.within at.now.stack }
+    requires identity { IsIdentity identity.now }
+    requires limits { IsCheckpoint F.within at.now }
     requires value { IsValue value.now }
     ensures { IfOk result (λ flow. flow ≡ returned (environment F.machine F.reading identity.now) identity.now.party.0 now.0 at.now value.now at.now.stack.below) }
 {
-    if at.stack.depth() == 1 {
+    let Some(caller) = at.stack.caller() else {
         return Ok(FlowState::Ended {
             step: at.step + 1,
             class: at.class,
             value: value.copy(alloc)?,
         });
-    }
-    let mut stack = at.stack.copy(alloc)?;
-    let _ = stack.pop();
+    };
     let with = Resumed::Returned {
         value: value.copy(alloc)?,
     };
-    let flow = resumed(alloc, identity, now, at, stack, &with);
+    let made = resumed(alloc, identity, now, at, caller, &with);
     let_go(with);
-    flow
+    let (top, waiting) = made?;
+    next_of(at, waiting, at.stack.with_caller(alloc, top))
 }

@@ -263,12 +263,16 @@ fn settle(
         left: 1,
         all: 1,
     };
+    let Ok(stack) = Stack::new(alloc, frame) else {
+        forget(waiting);
+        return Err(AllocError);
+    };
     let at = Checkpoint {
         flow: 4,
         step: 2,
         class: 1,
         waiting,
-        stack: Stack::new(alloc, frame),
+        stack,
     };
     let needs = needs_job(&node(Party(1)), store, &at);
     let judged = judge(alloc, store, &at);

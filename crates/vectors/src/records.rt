@@ -51,19 +51,22 @@ fn sleeping(column: &str) -> Result<Counter> {
     })
 }
 
-/// `stack BOTTOM TOP OTHER`: a stack of two frames whose top one is replaced, and what is popped of its copy.
+/// `stack BOTTOM TOP OTHER`: a stack of two frames whose top one is replaced, and what there is once it has returned.
 pub fn stack_of(alloc: Global, values: &[&str]) -> Result<String> {
     let [bottom, top, other] = values else {
         bail!("a stack has three values")
     };
-    let mut stack = Stack::new(alloc, sleeping(bottom)?);
-    stack.push(sleeping(top)?)?;
-    stack.replace_top(sleeping(other)?);
-    let mut copy = stack.copy(alloc)?;
-    let depth = copy.depth();
-    let popped = copy.pop().map_or(0, |frame| frame.left);
-    let left = copy.top().left;
-    let rest = copy.below().len();
-    let last = u8::from(copy.pop().is_some());
-    Ok(format!(in alloc; "{depth} {popped} {left} {rest} {last}")?)
+    let stack = Stack::new(alloc, sleeping(bottom)?)?;
+    let stack = stack.with_callee(alloc, sleeping(top)?)?;
+    let stack = stack.with_top(alloc, sleeping(other)?)?;
+    let depth = stack.depth();
+    let returns = stack.top().left;
+    let Some(caller) = stack.caller() else {
+        bail!("the top frame has no caller")
+    };
+    let stack = stack.with_caller(alloc, *caller)?;
+    let left = stack.top().left;
+    let rest = stack.depth() - 1;
+    let last = u8::from(stack.caller().is_some());
+    Ok(format!(in alloc; "{depth} {returns} {left} {rest} {last}")?)
 }

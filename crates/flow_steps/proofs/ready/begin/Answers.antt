@@ -18,7 +18,7 @@ returns g c = λ s same.
     let within : AreWithin g.F.Spelt.within (c.in_ok-top.top, c.in_ok-top.waiting) = g.met.F.FlowSet.keeps_limits.made c.args.class c.args.args.now here (c.in_ok-top.top, c.in_ok-top.waiting) (rw c.as_slice.ensures at c.known_bytes.ensures) limits made in
     let short : length c.args.args.now ≤ 65535 = of_ok _ (m.made c.args.class c.args.args.now here) _ made (g.met.F.FlowSet.args_are_short.made c.args.class c.args.args.now here) in
     let at_place = rw c.place_of.ensures at made in
-    rw (c.step_of.ensures, c.in-Ok.ensures, c.first_state-state.ensures) (
+    rw (c.step_of.ensures, c.in-Ok.ensures, c.in-Ok-first_state.ensures) (
       ap (λ n. record { stamp = c.args.stamp; moment = c.args.now; event = event.Start n c.args.class c.args.args.now }) (sym same),
       begun_ready (environment m g.F.Spelt.reading id) id.party.0 c.args.stamp c.args.now g.F.Spelt.within c.args.class c.args.number c.args.args.now (c.in_ok-top.top, c.in_ok-top.waiting) c.unchanged-session.result c.ranges.number.fits c.ranges.class.fits at_place within short c.unchanged-session.ensures s same,
       rw (same, at_place) refl,
