@@ -4,7 +4,5 @@ pub mod Limits
 pub mod Flows
 pub mod Tags
 pub mod Unnamed
-pub mod Counter
-pub mod CounterLaws
 pub mod Acts
 pub mod Checkpoints

@@ -3,7 +3,6 @@
 ghost use Rattle.std.specs.Prelude.{◌≡◌, map, string_bytes, IfOk};
 ghost use Rattle.flow_machine.specs.Machine.{Machine};
 ghost use Rattle.flow_machine.specs.Flows.{GivesWords, GivesMade, GivesBegun, Falls, LoadHolds, OversHold, OverFails, ArgsAreShort, KnownByName, SpellsContent, KeepsLimits};
-ghost use Rattle.flow_machine.specs.Limits.{IsResumed, IsPlace};
 ghost use Rattle.flow_machine.specs.Tags.{KeepsTags, BeginsBare};
 ghost use Rattle.flow_machine.specs.Limits.{IsResumed, IsPlace};
 ghost use Rattle.net_base.specs.Names.{IsKey};

@@ -7,8 +7,6 @@
 mod act_spelling;
 mod acts;
 mod checkpoint_spelling;
-mod counter;
-mod fields;
 mod flow_set;
 mod flows;
 mod stack;
@@ -16,8 +14,6 @@ mod stack;
 pub use act_spelling::FrameBytes;
 pub use acts::{Act, Place, Resumed};
 pub use checkpoint_spelling::same_bytes;
-pub use counter::{Counter, Phase};
-pub use fields::u32_of;
 pub use flow_set::{
     FlowSet, MakeFault, WordFault, args_are_short, begins_bare, classes_are_known_by_name,
     frames_are_spelt, limits_are_kept, load_holds, over_frames_fail, over_is_exact, tags_are_kept,

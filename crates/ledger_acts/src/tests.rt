@@ -1,15 +1,14 @@
 //! Each call once, over the ledger of party 1 in which one transaction is recorded, which makes 100 of a token for it.
 
-ghost use Rattle.std.specs.Prelude.{◌≡◌, ◌≤◌, IfOk, IfSome, length};
+ghost use Rattle.std.specs.Prelude.{◌≡◌, ◌<◌, ◌≤◌, ◌^◌, IfOk, IfSome, length};
 ghost use Rattle.signing.specs.Marks.{keyed_mark};
 ghost use Rattle.ledger_types.specs.Txs.{IsTx};
-ghost use Rattle.flow_machine.specs.Counter.{IsCounter};
 ghost use Rattle.flow_machine.specs.Limits.{IsAct};
 ghost use Rattle.ledger_acts.specs.Jobs.{IsRun};
 
 use super::*;
 use contract_verify::{ContractBook, Judge};
-use flow_machine::{Act, Checkpoint, Counter, Phase, Resumed, Stack};
+use flow_machine::{Act, Checkpoint, Resumed, Stack};
 use ledger_tables::LedgerTables;
 use ledger_types::{LedgerChange, Request, SignedTx, Tx, Verdict};
 use net_base::{
@@ -73,7 +72,7 @@ fn record(alloc: Global, ledger: &mut LedgerTables, tx: Tx) -> Result<bool, Allo
     if !change_fits(ledger, NOTARY, &change) || ledger.store().count() > 9 {
         return Ok(false);
     }
-    add_change::<Counter>(ledger, NOTARY, change);
+    add_change::<u32>(ledger, NOTARY, change);
     Ok(true)
 }
 
@@ -254,16 +253,11 @@ fn accept<F: Spelt>(
 fn settle(
     alloc: Global,
     store: &Store,
-    waiting: Act<Counter>,
+    waiting: Act<u32>,
 ) -> Result<(bool, (bool, u16), (u16, usize, bool, bool)), AllocError>
-    requires { IsAct IsCounter waiting }
+    requires { IsAct (λ frame. frame < 2 ^ 32) waiting }
 {
-    let frame = Counter {
-        phase: Phase::Sleeping,
-        left: 1,
-        all: 1,
-    };
-    let Ok(stack) = Stack::new(alloc, frame) else {
+    let Ok(stack) = Stack::new(alloc, 1) else {
         forget(waiting);
         return Err(AllocError);
     };
@@ -341,13 +335,13 @@ fn a_recorded_transaction_waits_for_no_job(rt: HostRuntime) -> Result<(), Fail> 
     forget(stx);
     forget(ledger);
     assert_eq!(rt; again, (700, 0, false, false));
-    acts_as_meant::<Counter>();
-    unjudged_as_meant::<Counter>();
-    job_is_the_act::<Counter>();
-    concludes_as_meant::<Counter>();
-    settles_as_meant::<Counter>();
-    job_stays::<Counter>();
-    jobs_are_within::<Counter>();
-    unclaimed_is_picked::<Counter>();
+    acts_as_meant::<u32>();
+    unjudged_as_meant::<u32>();
+    job_is_the_act::<u32>();
+    concludes_as_meant::<u32>();
+    settles_as_meant::<u32>();
+    job_stays::<u32>();
+    jobs_are_within::<u32>();
+    unclaimed_is_picked::<u32>();
     Ok(())
 }

@@ -2,10 +2,10 @@
 //! would go through each kind of value that may stand in it.
 
 use crate::{fits_as_ruled, rebuild};
-use flow_machine::Counter;
 use ledger_tables::LedgerTables;
 use net_base::{ByteList, ListOf, Party};
 use node_ledger::change_fits_as_ruled;
+use shipped_flows::ShippedFlow;
 use std::alloc::{AllocError, Global};
 use std::mem;
 use std::test::Fail;
@@ -36,12 +36,12 @@ fn states(alloc: Global, ledger: &LedgerTables) -> Result<Vec<(u32, Option<u32>)
 
 #[test]
 fn the_ledger_is_that_of_the_records(rt: HostRuntime) -> Result<(), Fail> {
-    fits_as_ruled::<Counter>();
-    change_fits_as_ruled::<Counter>();
+    fits_as_ruled::<ShippedFlow>();
+    change_fits_as_ruled::<ShippedFlow>();
     let first = record(rt.alloc(), 16, BEGUN)?;
     let second = record(rt.alloc(), 317, WENT_ON)?;
     let list = ListOf::from_vec(vec![in rt.alloc(); first, second]?);
-    let Ok(tables) = rebuild::<Counter>(rt.alloc(), Party(0), 2, Party(0), list) else {
+    let Ok(tables) = rebuild::<ShippedFlow>(rt.alloc(), Party(0), 2, Party(0), list) else {
         assert!(rt; false);
         return Ok(());
     };

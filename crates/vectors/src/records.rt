@@ -1,6 +1,6 @@
 use super::columns::bytes;
 use anyhow::{Result, bail};
-use flow_machine::{Counter, Phase, Stack};
+use flow_machine::Stack;
 use net_base::DecodeFault;
 use std::alloc::Global;
 use transition_record::{decode_record, encode_record};
@@ -41,31 +41,21 @@ pub fn told_by(alloc: Global, values: &[&str]) -> Result<String> {
     Ok(format!(in alloc; "{flow} {over} {came} {recorded} {locked} {booked}")?)
 }
 
-/// A counting flow that still sleeps so many times.
-fn sleeping(column: &str) -> Result<Counter> {
-    let left = column.parse::<u32>()?;
-    Ok(Counter {
-        phase: Phase::Sleeping,
-        left,
-        all: left,
-    })
-}
-
 /// `stack BOTTOM TOP OTHER`: a stack of two frames whose top one is replaced, and what there is once it has returned.
 pub fn stack_of(alloc: Global, values: &[&str]) -> Result<String> {
     let [bottom, top, other] = values else {
         bail!("a stack has three values")
     };
-    let stack = Stack::new(alloc, sleeping(bottom)?)?;
-    let stack = stack.with_callee(alloc, sleeping(top)?)?;
-    let stack = stack.with_top(alloc, sleeping(other)?)?;
+    let stack = Stack::new(alloc, bottom.parse::<u32>()?)?;
+    let stack = stack.with_callee(alloc, top.parse::<u32>()?)?;
+    let stack = stack.with_top(alloc, other.parse::<u32>()?)?;
     let depth = stack.depth();
-    let returns = stack.top().left;
+    let returns = *stack.top();
     let Some(caller) = stack.caller() else {
         bail!("the top frame has no caller")
     };
     let stack = stack.with_caller(alloc, *caller)?;
-    let left = stack.top().left;
+    let left = *stack.top();
     let rest = stack.depth() - 1;
     let last = u8::from(stack.caller().is_some());
     Ok(format!(in alloc; "{depth} {returns} {left} {rest} {last}")?)
