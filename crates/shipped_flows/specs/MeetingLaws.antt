@@ -87,9 +87,9 @@ echo_answers k last turns x q few small =
     let answer : min (x + 1) (2 ^ 64 - 1) ≡ x + 1 = omega (arith, small) in
     let goes : Echo → Shipped × Act Shipped = λ e. seen no_call (right (right (right (frame (echo.heard e))))) in
     ap (λ (n : ℕ). goes (record { key = k; last = x; turns = n })) count ∙ may_answer (nat_le (turns + 1) 1000) (le-leb (turns + 1) 1000 few) answer where
-  may_answer : (test : Bool) → test ≡ true → min (x + 1) (2 ^ 64 - 1) ≡ x + 1 → ◌≡◌ {A = Shipped × Act Shipped} (seen no_call (right (right (right (frame (if test then On echo_place.Sending (record { key = k; last = x; turns = turns + 1 }) (act.Send k (value.Number (min (x + 1) (2 ^ 64 - 1)))) else Stops (record { key = k; last = x; turns = turns + 1 }) 62)))))) (answering k x (turns + 1))
-  may_answer true e same = ap (λ (n : ℕ). (of_echo echo_place.Sending (record { key = k; last = x; turns = turns + 1 }), act.Send k (value.Number n))) same
-  may_answer false e same = absurd cc
+      may_answer : (test : Bool) → test ≡ true → min (x + 1) (2 ^ 64 - 1) ≡ x + 1 → ◌≡◌ {A = Shipped × Act Shipped} (seen no_call (right (right (right (frame (if test then On echo_place.Sending (record { key = k; last = x; turns = turns + 1 }) (act.Send k (value.Number (min (x + 1) (2 ^ 64 - 1)))) else Stops (record { key = k; last = x; turns = turns + 1 }) 62)))))) (answering k x (turns + 1))
+      may_answer true e same = ap (λ (n : ℕ). (of_echo echo_place.Sending (record { key = k; last = x; turns = turns + 1 }), act.Send k (value.Number n))) same
+      may_answer false e same = absurd cc
 
 ping_sends : (to : Party) (k : Key) (n last y : ℕ) (p : Place) → machine.next (waiting to k (suc (suc n)) last).0 (got y) p ≡ sending to k (suc n) y
 ping_sends to k n last y p =

@@ -55,7 +55,7 @@ counts_owe p t with here keeps fewer =
     owes_if form IsPing (weight Receiving p) p with here (t.left == 0) (Ends t (value.Number t.last)) (needs t.key t (λ k. On Sending t (act.Send k (value.Number t.last))))
     (λ _. record { limits = λ h small place. let w = keeps.limits h small place in (w, w.1.1.1); tags = λ test old given. (refl, refl); falls = omega arith; asks = refl })
     (λ some. needs_owes form IsPing (weight Receiving p) p t with here t.key (λ k. On Sending t (act.Send k (value.Number t.last))) keeps (omega arith)
-        (λ k is. record { limits = λ h small place. let w = keeps.limits h small place in (w, (there_within IsKey t.key k is w.1.1.0, w.1.1.1)); tags = λ test old given. (refl, refl); falls = omega (arith, fewer, eqb-false t.left 0 some); asks = refl }))
+    (λ k is. record { limits = λ h small place. let w = keeps.limits h small place in (w, (there_within IsKey t.key k is w.1.1.0, w.1.1.1)); tags = λ test old given. (refl, refl); falls = omega (arith, fewer, eqb-false t.left 0 some); asks = refl }))
 
 moves_owe : (place : PingPlace) (p : Ping) (with : Resumed) (here : Place) → Owes form IsPing (weight place p) p with here (moves place p with here)
 moves_owe Opening p (resumed.Opened k) here = receives_owe p (record p { key = Some k }) (resumed.Opened k) here (weight Opening p) (record { limits = λ h small place. (h.0, (h.1.0, (small, h.1.1.1))); passes = λ test old given. refl }) (omega arith)

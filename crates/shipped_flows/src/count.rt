@@ -15,7 +15,7 @@ const MOST_SLEEPS: u32 = 65534;
 /// Where a counting flow waits: 1 until it wakes.
 #[derive(Clone, Copy, Debug, PartialEq, Eq)]
 pub enum CountPlace {
-    Sleeping,
+    Sleeping = 1,
 }
 
 /// The counting flow, class 1: `count K` sleeps K times, each until moment 0, and returns K. K is at most 65,534.
@@ -27,8 +27,12 @@ pub struct Count {
     pub all: u32,
 }
 
+type Gone = Goes<CountPlace, Count>;
+
+type Moved = Result<Gone, AllocError>;
+
 impl Count {
-    fn sleeps(self) -> Goes<CountPlace, Count>
+    fn sleeps(self) -> Gone
         ensures { result ≡ sleeps self }
     {
         if self.left == 0 {
@@ -45,7 +49,7 @@ impl Numbered for CountPlace {
     ghost are_places = { are_places };
 
     fn number(self) -> u8 {
-        1
+        self as u8
     }
 
     fn all() -> &'static [CountPlace] {
@@ -101,17 +105,11 @@ impl Machine<CountPlace> for Count {
 
     const MACHINE: u8 = 1;
 
-    fn start(self, _alloc: Global, _here: &Place) -> Result<Goes<CountPlace, Count>, AllocError> {
+    fn start(self, _: Global, _: &Place) -> Moved {
         Ok(self.sleeps())
     }
 
-    fn resume(
-        self,
-        _alloc: Global,
-        _place: CountPlace,
-        with: &Resumed,
-        _here: &Place,
-    ) -> Result<Goes<CountPlace, Count>, AllocError> {
+    fn resume(self, _: Global, _place: CountPlace, with: &Resumed, _: &Place) -> Moved {
         match with {
             Resumed::Lapsed => {
                 let left = self.left.saturating_sub(1);

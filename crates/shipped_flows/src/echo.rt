@@ -14,8 +14,8 @@ const MOST_TURNS: u32 = 1000;
 /// Where an echo waits: 1 to receive, 2 to send.
 #[derive(Clone, Copy, Debug, PartialEq, Eq)]
 pub enum EchoPlace {
-    Receiving,
-    Sending,
+    Receiving = 1,
+    Sending = 2,
 }
 
 /// The echo flow, which answers an Init of class 2: it sends each number that comes back, one higher, and returns Unit once the other side
@@ -30,15 +30,19 @@ pub struct Echo {
     pub turns: u32,
 }
 
+type Gone = Goes<EchoPlace, Echo>;
+
+type Moved = Result<Gone, AllocError>;
+
 impl Echo {
-    fn receives(self) -> Goes<EchoPlace, Echo>
+    fn receives(self) -> Gone
         ensures { result ≡ receives self }
     {
         let key = self.key;
         Goes::on(EchoPlace::Receiving, self, Act::Receive { key })
     }
 
-    fn heard(self) -> Goes<EchoPlace, Echo>
+    fn heard(self) -> Gone
         ensures { result ≡ heard self }
     {
         if self.turns > MOST_TURNS {
@@ -56,10 +60,7 @@ impl Numbered for EchoPlace {
     ghost are_places = { are_places };
 
     fn number(self) -> u8 {
-        match self {
-            EchoPlace::Receiving => 1,
-            EchoPlace::Sending => 2,
-        }
+        self as u8
     }
 
     fn all() -> &'static [EchoPlace] {
@@ -117,17 +118,11 @@ impl Machine<EchoPlace> for Echo {
 
     const MACHINE: u8 = 11;
 
-    fn start(self, _alloc: Global, _here: &Place) -> Result<Goes<EchoPlace, Echo>, AllocError> {
+    fn start(self, _: Global, _: &Place) -> Moved {
         Ok(self.receives())
     }
 
-    fn resume(
-        self,
-        _alloc: Global,
-        place: EchoPlace,
-        with: &Resumed,
-        _here: &Place,
-    ) -> Result<Goes<EchoPlace, Echo>, AllocError> {
+    fn resume(self, _: Global, place: EchoPlace, with: &Resumed, _: &Place) -> Moved {
         Ok(match (place, with) {
             (
                 EchoPlace::Receiving,

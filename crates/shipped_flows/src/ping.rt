@@ -15,9 +15,9 @@ const MOST_NUMBERS: u32 = 1000;
 /// Where a ping waits: 1 until its session is open, 2 to receive, 3 to send.
 #[derive(Clone, Copy, Debug, PartialEq, Eq)]
 pub enum PingPlace {
-    Opening,
-    Receiving,
-    Sending,
+    Opening = 1,
+    Receiving = 2,
+    Sending = 3,
 }
 
 /// The ping flow, class 2: `ping P K` opens a session with the echo of the counterparty P, sends back each number that comes, and returns
@@ -34,8 +34,12 @@ pub struct Ping {
     pub last: u64,
 }
 
+type Gone = Goes<PingPlace, Ping>;
+
+type Moved = Result<Gone, AllocError>;
+
 impl Ping {
-    fn receives(self) -> Goes<PingPlace, Ping>
+    fn receives(self) -> Gone
         ensures { result ≡ receives self }
     {
         match self.key {
@@ -44,7 +48,7 @@ impl Ping {
         }
     }
 
-    fn counts(self) -> Goes<PingPlace, Ping>
+    fn counts(self) -> Gone
         ensures { result ≡ counts self }
     {
         let value = Value::Number(self.last);
@@ -64,11 +68,7 @@ impl Numbered for PingPlace {
     ghost are_places = { are_places };
 
     fn number(self) -> u8 {
-        match self {
-            PingPlace::Opening => 1,
-            PingPlace::Receiving => 2,
-            PingPlace::Sending => 3,
-        }
+        self as u8
     }
 
     fn all() -> &'static [PingPlace] {
@@ -128,19 +128,13 @@ impl Machine<PingPlace> for Ping {
 
     const MACHINE: u8 = 2;
 
-    fn start(self, _alloc: Global, _here: &Place) -> Result<Goes<PingPlace, Ping>, AllocError> {
+    fn start(self, _: Global, _: &Place) -> Moved {
         let (to, first) = (self.to, Value::Number(0));
         let class = 2;
         Ok(Goes::on(PingPlace::Opening, self, Act::Open { to, class, first }))
     }
 
-    fn resume(
-        self,
-        _alloc: Global,
-        place: PingPlace,
-        with: &Resumed,
-        _here: &Place,
-    ) -> Result<Goes<PingPlace, Ping>, AllocError> {
+    fn resume(self, _: Global, place: PingPlace, with: &Resumed, _: &Place) -> Moved {
         Ok(match (place, with) {
             (PingPlace::Opening, Resumed::Opened { key }) => Ping {
                 key: Some(*key),

@@ -12,8 +12,8 @@ use std::alloc::{AllocError, Global};
 /// Where a probe waits: 1 until its session is open, 2 to receive.
 #[derive(Clone, Copy, Debug, PartialEq, Eq)]
 pub enum ProbePlace {
-    Opening,
-    Receiving,
+    Opening = 1,
+    Receiving = 2,
 }
 
 /// The probe flow, class 10: `probe P CLASS` opens a session of the class with the counterparty P, whose first value is Unit, and returns
@@ -28,16 +28,17 @@ pub struct Probe {
     pub key: Option<Key>,
 }
 
+type Gone = Goes<ProbePlace, Probe>;
+
+type Moved = Result<Gone, AllocError>;
+
 impl Numbered for ProbePlace {
     ghost places = { places };
 
     ghost are_places = { are_places };
 
     fn number(self) -> u8 {
-        match self {
-            ProbePlace::Opening => 1,
-            ProbePlace::Receiving => 2,
-        }
+        self as u8
     }
 
     fn all() -> &'static [ProbePlace] {
@@ -95,18 +96,12 @@ impl Machine<ProbePlace> for Probe {
 
     const MACHINE: u8 = 10;
 
-    fn start(self, _alloc: Global, _here: &Place) -> Result<Goes<ProbePlace, Probe>, AllocError> {
+    fn start(self, _: Global, _: &Place) -> Moved {
         let (to, class, first) = (self.to, self.class, Value::Unit);
         Ok(Goes::on(ProbePlace::Opening, self, Act::Open { to, class, first }))
     }
 
-    fn resume(
-        self,
-        _alloc: Global,
-        place: ProbePlace,
-        with: &Resumed,
-        _here: &Place,
-    ) -> Result<Goes<ProbePlace, Probe>, AllocError> {
+    fn resume(self, _: Global, place: ProbePlace, with: &Resumed, _: &Place) -> Moved {
         Ok(match (place, with) {
             (ProbePlace::Opening, Resumed::Opened { key }) => {
                 let fields = Probe {

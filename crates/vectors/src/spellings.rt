@@ -4,9 +4,9 @@ use super::columns::bytes;
 use anyhow::{Result, bail};
 use flow_machine::{Act, Checkpoint};
 use ledger_types::{Entry, NotaryAnswer, SignedTx, TornTx, Tx, Value};
-use net_base::{decode_if_spelt, 
+use net_base::{
     Boxed, ByteList, DecodeFault, Identity, Moment, PartySet, Reader, Spelt, StateRef, Token,
-    TryCopy, Writer, decode, decode_whole, encode,
+    TryCopy, Writer, decode, decode_if_spelt, decode_whole, encode,
 };
 use shipped_flows::ShippedFlow;
 use std::alloc::{AllocError, Global};
