@@ -103,11 +103,7 @@ fn joined(ids: Vec<Hash32>, list: &[Hash32]) -> Result<Vec<Hash32>, AllocError>
 }
 
 /// The ids that are lacking, with these moved to the end.
-pub(crate) fn widened(
-    alloc: Global,
-    pending: &IdList,
-    list: &IdList,
-) -> Result<IdList, AllocError>
+pub(crate) fn widened(alloc: Global, pending: &IdList, list: &IdList) -> Result<IdList, AllocError>
     ensures { IfOk result (λ l. l ≡ widened pending.now list.now) }
 {
     let ids = keep_others(alloc, pending.as_slice(), list.as_slice())?;
