@@ -1,5 +1,5 @@
 -- The notary client: it opens a session of class 20 with the notary by its request, and waits 30 seconds for the answer, at most three times.
-use Rattle.std.specs.Prelude.{ℕ, ◌+◌, ◌*◌, ◌-◌, ◌<◌, ◌^◌, List, [], ◌∷◌, ◌++◌, Bool, true, false, Option, Some, None, Result, IfSome, nat_lt, if◌then◌else◌, min}
+use Rattle.std.specs.Prelude.{ℕ, ◌+◌, ◌*◌, ◌-◌, ◌<◌, ◌^◌, List, [], ◌∷◌, ◌++◌, true, Option, Some, None, Result, IfSome, nat_lt, if◌then◌else◌, min}
 use Rattle.net_base.specs.declared.names.Key.{Key}
 use Rattle.net_base.specs.declared.names.Tag.{Tag}
 use Rattle.net_base.specs.Forms.{option_of, option_at, byte_at}
@@ -10,35 +10,35 @@ use Rattle.ledger_types.specs.declared.notary.NotaryAnswer.{NotaryAnswer}
 use Rattle.ledger_types.specs.declared.value.Value.TheVariants as value
 use Rattle.ledger_types.specs.Requests.{IsRequest, request, request_at, IsNotaryAnswer, notary_answer, notary_answer_at}
 use Rattle.flow_machine.specs.declared.acts.Act.TheVariants as act
-use Rattle.flow_machine.specs.declared.acts.Place.{Place}
-use Rattle.flow_machine.specs.declared.acts.Resumed.{Resumed}
 use Rattle.flow_machine.specs.declared.acts.Resumed.TheVariants as resumed
 use Rattle.flow_machine.specs.Tags.{answer_tags}
 use Rattle.flow_forms.specs.declared.forms.Goes.{Goes}
 use Rattle.flow_forms.specs.declared.forms.Goes.TheVariants.{On, Ends, Stops}
-use Rattle.flow_forms.specs.Forms.{Form, unnamed}
-use Rattle.flow_forms.specs.Bytes.{Places}
-use Rattle.flow_forms.specs.Shared.{raised, tags_in}
+use Rattle.flow_forms.specs.Usual.{Place, Resumed, Form, unnamed, Places, raised, tags_in}
 use Rattle.notary_flows.specs.declared.client.Client.{Client}
 use Rattle.notary_flows.specs.declared.client.ClientPlace.{ClientPlace}
 use Rattle.notary_flows.specs.declared.client.ClientPlace.TheVariants.{Opening, Receiving}
 
 -- ---- how it goes on
 
+-- its fields as it is called for a request
+abbrev pub fresh : Request → Client
+fresh r = record { request = r; tries = 0; key = None; answer = None }
+
 -- it opens a session by its request
 abbrev pub opens : Client → Place → Goes ClientPlace Client
 opens c here = On Opening c (act.Open here.notary 20 (value.Request c.request))
 
--- once the session is open it waits 30 seconds there
+-- in the open session it waits 30 seconds for the answer, at most to the last moment that there is
 abbrev pub opened : Client → Resumed → Place → Goes ClientPlace Client
 opened c (resumed.Opened k) here = On Receiving (record c { key = Some k }) (act.ReceiveBy k (min (here.now.0 + 30000) (2 ^ 64 - 1)))
 opened c other here = unnamed c other
 
--- it tries again until the third time
+-- it tries again, unless it waited in vain three times
 abbrev pub tried : Client → Place → Goes ClientPlace Client
 tried c here = if nat_lt c.tries 3 then opens c here else Stops c 53
 
--- an answer is returned
+-- the answer is returned; where it didn't come in time that is one try more
 abbrev pub answered : Client → Resumed → Place → Goes ClientPlace Client
 answered c (resumed.Got (value.Answer a)) here = Ends (record c { answer = Some a }) (value.Answer a)
 answered c resumed.Lapsed here = tried (record c { tries = raised 255 c.tries }) here
@@ -49,7 +49,7 @@ abbrev pub moves : ClientPlace → Client → Resumed → Place → Goes ClientP
 moves Opening c with here = opened c with here
 moves Receiving c with here = answered c with here
 
--- each further try costs twelve
+-- the weight of a frame: each further try costs twelve
 abbrev pub weight : ClientPlace → Client → ℕ
 weight Opening c = 12 * (2 - c.tries) + 2
 weight Receiving c = 12 * (2 - c.tries) + 1

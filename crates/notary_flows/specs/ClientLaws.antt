@@ -1,32 +1,26 @@
 -- The laws of the notary client.
-use Rattle.std.specs.Prelude.{◌≡◌, ℕ, ◌+◌, ◌*◌, ◌-◌, ◌≤◌, ◌<◌, List, ◌∷◌, ◌++◌, length, Bool, true, false, refl, nat_lt}
-use Rattle.std.specs.List.{list_all}
+use Rattle.std.specs.Prelude.{ℕ, ◌+◌, ◌*◌, ◌-◌, ◌≤◌, ◌<◌, ◌∷◌, ◌++◌, length, refl, nat_lt}
 use Rattle.std.proofs.Common.{arith}
-use Rattle.std.proofs.lemmas.Bool.{ltb-true, and_parts}
-use Rattle.net_base.specs.declared.names.Tag.{Tag}
+use Rattle.std.proofs.lemmas.Bool.{ltb-true}
 use Rattle.net_base.specs.Forms.{option_of}
 use Rattle.net_base.specs.Laws.{Laws}
 use Rattle.net_base.specs.Combining.{pair_laws, iso_laws}
 use Rattle.net_base.specs.Fields.{byte_laws, option_laws}
 use Rattle.net_base.specs.Names.{IsKey, key, key_laws}
 use Rattle.ledger_types.specs.declared.value.Value.TheVariants as value
-use Rattle.ledger_types.specs.Requests.{IsRequest, request, request_laws, IsNotaryAnswer, notary_answer, notary_answer_laws}
+use Rattle.ledger_types.specs.Requests.{request, request_laws, IsNotaryAnswer, notary_answer, notary_answer_laws}
 use Rattle.ledger_types.proofs.Sizes.{request_fits, answer_fits, joined}
-use Rattle.flow_forms.specs.Sizes.{option_fits, key_fits}
-use Rattle.flow_machine.specs.declared.acts.Place.{Place}
-use Rattle.flow_machine.specs.declared.acts.Resumed.{Resumed}
 use Rattle.flow_machine.specs.declared.acts.Resumed.TheVariants as resumed
 use Rattle.flow_machine.specs.Tags.{answer_tags}
 use Rattle.flow_forms.specs.declared.forms.At.TheVariants as stands
 use Rattle.flow_forms.specs.declared.forms.Goes.TheVariants.{Stops}
-use Rattle.flow_forms.specs.Forms.{Owes, IsForm}
-use Rattle.flow_forms.specs.Bytes.{ArePlaces, IsAt}
-use Rattle.flow_forms.specs.FormLaws.{unnamed_owes}
-use Rattle.flow_forms.specs.Shared.{owes_if, stops_owes, first_passes, both_pass, raised, tags_in}
+use Rattle.flow_forms.specs.Shared.{stops_owes, first_passes, both_pass}
+use Rattle.flow_forms.specs.Sizes.{option_fits, key_fits}
+use Rattle.flow_forms.specs.Usual.{Place, Resumed, Owes, IsForm, ArePlaces, IsAt, unnamed_owes, raised, tags_in, owes_if}
 use Rattle.notary_flows.specs.declared.client.Client.{Client}
 use Rattle.notary_flows.specs.declared.client.ClientPlace.{ClientPlace}
 use Rattle.notary_flows.specs.declared.client.ClientPlace.TheVariants.{Opening, Receiving}
-use Rattle.notary_flows.specs.Client.{opens, opened, tried, answered, moves, weight, form, IsClient, client, client_of, client_at, place_number, places}
+use Rattle.notary_flows.specs.Client.{opens, opened, answered, moves, weight, form, IsClient, client, client_of, client_at, places}
 
 -- its fields' laws
 pub client_laws : Laws IsClient client client_at

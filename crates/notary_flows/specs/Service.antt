@@ -1,5 +1,5 @@
--- The notary service: class 20, has the node's book decide the request that comes and sends the answer.
-use Rattle.std.specs.Prelude.{ℕ, ◌==◌, List, [], ◌∷◌, ◌++◌, Option, Some, None, Result, Err, IfSome, false, if◌then◌else◌}
+-- The notary service, of class 20: it has the node's book decide the request that comes, and sends the answer.
+use Rattle.std.specs.Prelude.{ℕ, List, [], ◌∷◌, ◌++◌, Option, Some, None, Result, IfSome, false}
 use Rattle.net_base.specs.declared.names.Key.{Key}
 use Rattle.net_base.specs.declared.names.Tag.{Tag}
 use Rattle.net_base.specs.Forms.{option_of, option_at}
@@ -11,15 +11,19 @@ use Rattle.ledger_types.specs.declared.value.Value.TheVariants as value
 use Rattle.ledger_types.specs.Requests.{IsRequest, request, request_at, IsNotaryAnswer, notary_answer, notary_answer_at}
 use Rattle.flow_machine.specs.declared.acts.Act.TheVariants as act
 use Rattle.flow_machine.specs.declared.acts.Resumed.TheVariants as resumed
-use Rattle.flow_machine.specs.declared.flow_set.WordFault.TheVariants as word
-use Rattle.flow_machine.specs.declared.flow_set.MakeFault.TheVariants as make
 use Rattle.flow_machine.specs.Tags.{answer_tags}
 use Rattle.flow_forms.specs.declared.forms.Goes.{Goes}
 use Rattle.flow_forms.specs.declared.forms.Goes.TheVariants.{On, Ends}
-use Rattle.flow_forms.specs.Usual.{Place, Resumed, Form, unnamed, Way, Places, tags_in}
+use Rattle.flow_forms.specs.Usual.{Place, Resumed, Form, unnamed, Places, tags_in}
 use Rattle.notary_flows.specs.declared.service.Service.{Service}
 use Rattle.notary_flows.specs.declared.service.ServicePlace.{ServicePlace}
 use Rattle.notary_flows.specs.declared.service.ServicePlace.TheVariants.{Receiving, Deciding, Answering}
+
+-- ---- how it goes on
+
+-- its fields as it answers an Init in a session
+abbrev pub fresh : Key → Service
+fresh k = record { key = k; request = None; answer = None }
 
 -- it waits for the request
 abbrev pub begins : Service → Goes ServicePlace Service
@@ -59,14 +63,6 @@ tags s = tags_in (λ r. r.tag ∷ []) s.request ++ tags_in answer_tags s.answer
 -- what the machine is
 abbrev pub form : Form ServicePlace Service
 form = record { starts = λ s here. begins s; moves = moves; weight = weight; called = λ s. 5; tags = tags }
-
--- its fields as it begins
-abbrev pub fresh : Key → Service
-fresh k = record { key = k; request = None; answer = None }
-
--- an Init of class 20 begins it
-abbrev pub way : Way Service
-way = record { worded = λ class args. Err word.UnknownClass; made = λ class args here. Err make.UnknownClass; begun = λ class k. if class == 20 then Some (fresh k) else None }
 
 -- ---- its bytes
 

@@ -1,27 +1,24 @@
 -- The laws of the notary service.
-use Rattle.std.specs.Prelude.{◌≡◌, ℕ, ◌+◌, ◌≤◌, ◌==◌, List, [], ◌∷◌, ◌++◌, length, Bool, true, false, refl, Some, None, Option, if◌then◌else◌}
-use Rattle.std.specs.List.{list_all}
-use Rattle.std.proofs.Common.{arith, subst}
-use Rattle.std.proofs.lemmas.Bool.{eqb-true}
-use Rattle.net_base.specs.declared.names.Key.{Key}
+use Rattle.std.specs.Prelude.{◌≤◌, [], ◌∷◌, ◌++◌, length, refl}
+use Rattle.std.proofs.Common.{arith}
 use Rattle.net_base.specs.Forms.{option_of}
 use Rattle.net_base.specs.Laws.{Laws}
 use Rattle.net_base.specs.Combining.{pair_laws, iso_laws}
 use Rattle.net_base.specs.Fields.{option_laws}
-use Rattle.net_base.specs.Names.{IsKey, key, key_laws}
+use Rattle.net_base.specs.Names.{key, key_laws}
 use Rattle.ledger_types.specs.declared.value.Value.TheVariants as value
 use Rattle.ledger_types.specs.Requests.{IsRequest, request, request_laws, IsNotaryAnswer, notary_answer, notary_answer_laws}
 use Rattle.ledger_types.proofs.Sizes.{request_fits, answer_fits, joined}
 use Rattle.flow_machine.specs.declared.acts.Resumed.TheVariants as resumed
 use Rattle.flow_machine.specs.Tags.{answer_tags}
 use Rattle.flow_forms.specs.declared.forms.At.TheVariants as stands
-use Rattle.flow_forms.specs.Calls.{load_of}
+use Rattle.flow_forms.specs.Ways.{AnswersWithin}
 use Rattle.flow_forms.specs.Sizes.{option_fits, key_fits}
-use Rattle.flow_forms.specs.Usual.{Place, Resumed, Owes, IsForm, IsWay, ArePlaces, IsAt, unnamed_owes, tags_in, joined_pass, parts_pass}
+use Rattle.flow_forms.specs.Usual.{Place, Resumed, Owes, IsForm, ArePlaces, IsAt, unnamed_owes, tags_in, joined_pass, parts_pass}
 use Rattle.notary_flows.specs.declared.service.Service.{Service}
 use Rattle.notary_flows.specs.declared.service.ServicePlace.{ServicePlace}
 use Rattle.notary_flows.specs.declared.service.ServicePlace.TheVariants.{Receiving, Deciding, Answering}
-use Rattle.notary_flows.specs.Service.{begins, received, decided, sent, moves, weight, tags, form, fresh, way, IsService, service, service_of, service_at, place_number, places}
+use Rattle.notary_flows.specs.Service.{received, decided, sent, moves, weight, form, fresh, IsService, service, service_of, service_at, places}
 
 -- its fields' laws
 pub service_laws : Laws IsService service service_at
@@ -76,13 +73,6 @@ moves_owe Answering s with here = sent_owes s with here
 pub is_form : IsForm IsService form
 is_form = record { starts = λ s here. record { limits = λ h small place. (h, h.0); tags = λ test old given. (old, refl); falls = omega arith; asks = refl }; moves = moves_owe }
 
--- class 20 begins it, within the load of the class
-begun_by : (class : ℕ) (k : Key) (s : Service) (test : Bool) → (class == 20) ≡ test → (if test then Some (fresh k) else None) ≡ Some s → (IsKey k → IsService s) × ((tags s ≡ []) × (5 ≤ load_of class))
-begun_by class k s true is e =
-    let twenty : class ≡ 20 = eqb-true class 20 is in
-    let same : fresh k ≡ s = cc in
-    subst (λ (x : Service). (IsKey k → IsService x) × ((tags x ≡ []) × (5 ≤ load_of class))) same ((λ h. (h, (tt, tt))), (refl, rw twenty (omega arith)))
-begun_by class k s false is e = absurd cc
-
-pub is_way : IsWay IsService form way
-is_way = record { made = λ class args here s e. absurd cc; begun = λ class k s e. begun_by class k s (class == 20) refl e; few_words = λ class args. tt; named = λ class args more e. refl }
+-- it answers an Init of class 20 within the load of the class
+pub answers_within : AnswersWithin IsService form 20 fresh
+answers_within k = ((λ h. (h, (tt, tt))), (refl, omega arith))

@@ -1,67 +1,95 @@
 //! The notary client.
 
 ghost use Rattle.std.specs.Prelude.{◌≡◌, IfOk};
-ghost use Rattle.flow_forms.specs.FormLaws.{no_way, no_way_laws};
-ghost use Rattle.notary_flows.specs.Client.{opens, opened, tried, answered, moves, weight, form, IsClient, client, client_at, places};
+ghost use Rattle.flow_forms.specs.Calls.{call_weight};
+ghost use Rattle.flow_forms.specs.declared.calls.Call.TheVariants as call;
+ghost use Rattle.notary_flows.specs.Client.{fresh, opens, opened, tried, answered, form, IsClient, client, client_at, places};
 ghost use Rattle.notary_flows.specs.ClientLaws.{client_laws, are_places, short, is_form};
 
-use flow_forms::{Goes, Machine, Numbered, copy_answer, copy_answer_option, copy_request};
-use flow_machine::{Act, MakeFault, Place, Resumed, WordFault};
+use crate::NOTARY_CLASS;
+use flow_forms::{ByCall, Frame, Goes, Machine, Numbered, copy_option};
+use flow_machine::{Act, Place, Resumed};
 use ledger_types::{NotaryAnswer, Request, Value};
-use net_base::{Boxed, ByteList, Key, PartFault, Reader, Spelt, TryCopy, Writer};
+use net_base::{Boxed, Key, PartFault, Reader, Spelt, TryCopy, Writer};
 use std::alloc::{AllocError, Global};
 
-/// Where a notary client waits.
+/// How long a try waits for the answer, in milliseconds.
+const WAIT: u64 = 30_000;
+
+/// The most tries.
+const MOST_TRIES: u8 = 3;
+
+/// Where a notary client waits, with the numbers of the places; 3 is that of Return.
 #[derive(Clone, Copy, Debug, PartialEq, Eq)]
 pub enum ClientPlace {
-    Opening,
-    Receiving,
+    /// Opens a session with the notary.
+    Opening = 1,
+    /// Waits for the answer there.
+    Receiving = 2,
 }
 
-/// The notary client: it opens a session of class 20 with the notary by the request, and waits 30 seconds for the answer, which it returns;
-/// it tries three times.
+/// The notary client, machine 31, a subflow: it opens a session of class 20 with the network's notary by the request, waits there for
+/// the answer for 30,000 milliseconds, and returns it. It tries three times, each time in a new session, and then fails with 53.
 #[derive(Debug, Drop)]
 pub struct Client {
+    /// What the notary is to decide.
     pub request: Boxed<Request>,
-    /// How often it waited in vain.
+    /// How often no answer came in time: 0 to 2, and 3 once it failed.
     pub tries: u8,
+    /// The session that was opened last.
     pub key: Option<Key>,
+    /// The notary's answer, once it came.
     pub answer: Option<Boxed<NotaryAnswer>>,
 }
 
-type Moved = Result<Goes<ClientPlace, Client>, AllocError>;
+/// A frame of a notary client: a flow calls it, and nothing else begins one.
+pub type ClientFrame = Frame<ClientPlace, Client, ByCall>;
+
+type Gone = Goes<ClientPlace, Client>;
+
+type Moved = Result<Gone, AllocError>;
 
 impl Client {
+    /// The client that is called for a request, before its first try.
+    pub fn new(request: Boxed<Request>) -> Client
+        ensures value { result ≡ fresh request }
+        ensures cost { form.called result ≡ call_weight (call.Client request) }
+    {
+        Client {
+            request,
+            tries: 0,
+            key: None,
+            answer: None,
+        }
+    }
+
     fn opens(self, alloc: Global, here: &Place) -> Moved
         ensures { IfOk result (λ g. g ≡ opens self here.entry.now) }
     {
         let act = Act::Open {
             to: here.notary,
-            class: 20,
-            first: Value::Request(copy_request(alloc, &self.request)?),
+            class: NOTARY_CLASS,
+            first: Value::Request(self.request.try_copy(alloc)?),
         };
-        Ok(Goes::On {
-            place: ClientPlace::Opening,
-            fields: self,
-            act,
-        })
+        Ok(Goes::on(ClientPlace::Opening, self, act))
     }
 
-    fn opened(self, with: &Resumed, here: &Place) -> Goes<ClientPlace, Client>
+    fn opened(self, with: &Resumed, here: &Place) -> Gone
         ensures { result ≡ opened self with.now here.entry.now }
     {
         match with {
-            Resumed::Opened { key } => Goes::On {
-                place: ClientPlace::Receiving,
-                fields: Client {
+            Resumed::Opened { key } => {
+                let fields = Client {
                     key: Some(*key),
                     ..self
-                },
-                act: Act::ReceiveBy {
-                    key: *key,
-                    until: here.now.0.saturating_add(30_000),
-                },
-            },
+                };
+                let until = here.now.0.saturating_add(WAIT);
+                Goes::on(
+                    ClientPlace::Receiving,
+                    fields,
+                    Act::ReceiveBy { key: *key, until },
+                )
+            }
             _ => Goes::unnamed(self, with),
         }
     }
@@ -69,13 +97,10 @@ impl Client {
     fn tried(self, alloc: Global, here: &Place) -> Moved
         ensures { IfOk result (λ g. g ≡ tried self here.entry.now) }
     {
-        if self.tries < 3 {
+        if self.tries < MOST_TRIES {
             self.opens(alloc, here)
         } else {
-            Ok(Goes::Stops {
-                fields: self,
-                code: 53,
-            })
+            Ok(Goes::stops(self, 53))
         }
     }
 
@@ -85,18 +110,15 @@ impl Client {
         match with {
             Resumed::Got {
                 value: Value::Answer(answer),
-            } => Ok(Goes::Ends {
-                fields: Client {
-                    answer: Some(copy_answer(alloc, answer)?),
-                    ..self
-                },
-                value: Value::Answer(copy_answer(alloc, answer)?),
-            }),
-            Resumed::Lapsed => Client {
-                tries: self.tries.saturating_add(1),
-                ..self
+            } => {
+                let value = Value::Answer(answer.try_copy(alloc)?);
+                let answer = Some(answer.try_copy(alloc)?);
+                Ok(Goes::ends(Client { answer, ..self }, value))
             }
-            .tried(alloc, here),
+            Resumed::Lapsed => {
+                let tries = self.tries.saturating_add(1);
+                Client { tries, ..self }.tried(alloc, here)
+            }
             _ => Ok(Goes::unnamed(self, with)),
         }
     }
@@ -108,10 +130,7 @@ impl Numbered for ClientPlace {
     ghost are_places = { are_places };
 
     fn number(self) -> u8 {
-        match self {
-            ClientPlace::Opening => 1,
-            ClientPlace::Receiving => 2,
-        }
+        self as u8
     }
 
     fn all() -> &'static [ClientPlace] {
@@ -150,18 +169,17 @@ impl Spelt for Client {
         self.request.write_part(alloc, out)?;
         self.tries.write_part(alloc, out)?;
         self.key.write_part(alloc, out)?;
-        self.answer.write_part(alloc, out)?;
-        Ok(())
+        self.answer.write_part(alloc, out)
     }
 }
 
 impl TryCopy for Client {
     fn try_copy(&self, alloc: Global) -> Result<Client, AllocError> {
         Ok(Client {
-            request: copy_request(alloc, &self.request)?,
+            request: self.request.try_copy(alloc)?,
             tries: self.tries,
             key: self.key,
-            answer: copy_answer_option(alloc, &self.answer)?,
+            answer: copy_option(alloc, &self.answer)?,
         })
     }
 }
@@ -169,38 +187,13 @@ impl TryCopy for Client {
 impl Machine<ClientPlace> for Client {
     ghost form = { form };
 
-    ghost way = { no_way };
-
     ghost MACHINE = { 31 };
 
     ghost is_form = { is_form };
 
-    ghost is_way = { no_way_laws IsClient form };
-
     ghost short = { short };
 
     const MACHINE: u8 = 31;
-
-    fn read_words(
-        _alloc: Global,
-        _class: &str,
-        _args: &[String],
-    ) -> Result<(u16, ByteList), WordFault> {
-        Err(WordFault::UnknownClass)
-    }
-
-    fn make(
-        _alloc: Global,
-        _class: u16,
-        _args: &ByteList,
-        _here: &Place,
-    ) -> Result<Client, MakeFault> {
-        Err(MakeFault::UnknownClass)
-    }
-
-    fn initiated(_alloc: Global, _class: u16, _key: &Key) -> Result<Client, MakeFault> {
-        Err(MakeFault::UnknownClass)
-    }
 
     fn start(self, alloc: Global, here: &Place) -> Moved {
         self.opens(alloc, here)

@@ -4,5 +4,8 @@
 mod client;
 mod service;
 
-pub use client::{Client, ClientPlace};
-pub use service::{Service, ServicePlace};
+pub use client::{Client, ClientFrame, ClientPlace};
+pub use service::{Service, ServiceFrame, ServicePlace};
+
+/// The class of an Init that the notary service answers, and that the notary client sends.
+pub const NOTARY_CLASS: u16 = 20;

@@ -1,46 +1,45 @@
 //! The notary service.
 
 ghost use Rattle.std.specs.Prelude.{◌≡◌, IfOk};
-ghost use Rattle.notary_flows.specs.Service.{begins, received, decided, sent, moves, weight, form, way, IsService, service, service_at, places};
-ghost use Rattle.notary_flows.specs.ServiceLaws.{service_laws, are_places, short, is_form, is_way};
+ghost use Rattle.notary_flows.specs.Service.{begins, received, decided, sent, form, fresh, IsService, service, service_at, places};
+ghost use Rattle.notary_flows.specs.ServiceLaws.{service_laws, are_places, short, is_form, answers_within};
 
-use flow_forms::{Goes, Machine, Numbered, copy_answer, copy_answer_option, copy_request};
-use flow_machine::{Act, MakeFault, Place, Resumed, WordFault};
+use crate::NOTARY_CLASS;
+use flow_forms::{Answers, ByInit, Frame, Goes, Machine, Numbered, copy_option};
+use flow_machine::{Act, Place, Resumed};
 use ledger_types::{NotaryAnswer, Request, Value};
-use net_base::{Boxed, ByteList, Key, PartFault, Reader, Spelt, TryCopy, Writer};
+use net_base::{Boxed, Key, PartFault, Reader, Spelt, TryCopy, Writer};
 use std::alloc::{AllocError, Global};
 
-/// Where a notary service waits.
+/// Where a notary service waits, with the numbers of the places; 4 is that of Return.
 #[derive(Clone, Copy, Debug, PartialEq, Eq)]
 pub enum ServicePlace {
-    Receiving,
-    Deciding,
-    Answering,
+    /// Waits for the request.
+    Receiving = 1,
+    /// Has the node's book decide it.
+    Deciding = 2,
+    /// Sends the answer.
+    Answering = 3,
 }
 
-/// The notary service, which a session's Init of class 20 begins: it has the book decide the request and sends the answer.
+/// The notary service, machine 20, with which a node answers an Init of class 20: it has the node's book decide the request that comes
+/// and sends the answer; it returns Unit.
 #[derive(Debug, Drop)]
 pub struct Service {
+    /// The session.
     pub key: Key,
+    /// The request, once it came.
     pub request: Option<Boxed<Request>>,
+    /// The book's answer, once it was given.
     pub answer: Option<Boxed<NotaryAnswer>>,
 }
+
+/// A frame of a notary service: an Init of class 20 begins it, and nothing else.
+pub type ServiceFrame = Frame<ServicePlace, Service, ByInit>;
 
 type Gone = Goes<ServicePlace, Service>;
 
 type Moved = Result<Gone, AllocError>;
-
-fn copy_request_option(
-    alloc: Global,
-    request: &Option<Boxed<Request>>,
-) -> Result<Option<Boxed<Request>>, AllocError>
-    ensures { IfOk result (λ v. v ≡ request.now) }
-{
-    match request {
-        None => Ok(None),
-        Some(request) => Ok(Some(copy_request(alloc, request)?)),
-    }
-}
 
 impl Service {
     fn begins(self) -> Gone
@@ -58,9 +57,9 @@ impl Service {
                 value: Value::Request(request),
             } => {
                 let act = Act::Notarise {
-                    request: copy_request(alloc, request)?,
+                    request: request.try_copy(alloc)?,
                 };
-                let request = Some(copy_request(alloc, request)?);
+                let request = Some(request.try_copy(alloc)?);
                 let fields = Service { request, ..self };
                 Ok(Goes::on(ServicePlace::Deciding, fields, act))
             }
@@ -73,17 +72,13 @@ impl Service {
     {
         match with {
             Resumed::Answer { answer } => {
-                let value = Value::Answer(copy_answer(alloc, answer)?);
                 let act = Act::Send {
                     key: self.key,
-                    value,
+                    value: Value::Answer(answer.try_copy(alloc)?),
                 };
-                let answer = Some(copy_answer(alloc, answer)?);
-                Ok(Goes::on(
-                    ServicePlace::Answering,
-                    Service { answer, ..self },
-                    act,
-                ))
+                let answer = Some(answer.try_copy(alloc)?);
+                let fields = Service { answer, ..self };
+                Ok(Goes::on(ServicePlace::Answering, fields, act))
             }
             _ => Ok(Goes::unnamed(self, with)),
         }
@@ -105,11 +100,7 @@ impl Numbered for ServicePlace {
     ghost are_places = { are_places };
 
     fn number(self) -> u8 {
-        match self {
-            ServicePlace::Receiving => 1,
-            ServicePlace::Deciding => 2,
-            ServicePlace::Answering => 3,
-        }
+        self as u8
     }
 
     fn all() -> &'static [ServicePlace] {
@@ -150,8 +141,7 @@ impl Spelt for Service {
     fn write_part(&self, alloc: Global, out: &mut Writer) -> Result<(), AllocError> {
         self.key.write_part(alloc, out)?;
         self.request.write_part(alloc, out)?;
-        self.answer.write_part(alloc, out)?;
-        Ok(())
+        self.answer.write_part(alloc, out)
     }
 }
 
@@ -159,8 +149,8 @@ impl TryCopy for Service {
     fn try_copy(&self, alloc: Global) -> Result<Service, AllocError> {
         Ok(Service {
             key: self.key,
-            request: copy_request_option(alloc, &self.request)?,
-            answer: copy_answer_option(alloc, &self.answer)?,
+            request: copy_option(alloc, &self.request)?,
+            answer: copy_option(alloc, &self.answer)?,
         })
     }
 }
@@ -168,46 +158,13 @@ impl TryCopy for Service {
 impl Machine<ServicePlace> for Service {
     ghost form = { form };
 
-    ghost way = { way };
-
     ghost MACHINE = { 20 };
 
     ghost is_form = { is_form };
 
-    ghost is_way = { is_way };
-
     ghost short = { short };
 
     const MACHINE: u8 = 20;
-
-    fn read_words(
-        _alloc: Global,
-        _class: &str,
-        _args: &[String],
-    ) -> Result<(u16, ByteList), WordFault> {
-        Err(WordFault::UnknownClass)
-    }
-
-    fn make(
-        _alloc: Global,
-        _class: u16,
-        _args: &ByteList,
-        _here: &Place,
-    ) -> Result<Service, MakeFault> {
-        Err(MakeFault::UnknownClass)
-    }
-
-    fn initiated(_alloc: Global, class: u16, key: &Key) -> Result<Service, MakeFault> {
-        if class == 20 {
-            Ok(Service {
-                key: *key,
-                request: None,
-                answer: None,
-            })
-        } else {
-            Err(MakeFault::UnknownClass)
-        }
-    }
 
     fn start(self, _alloc: Global, _here: &Place) -> Moved {
         Ok(self.begins())
@@ -231,5 +188,23 @@ impl Machine<ServicePlace> for Service {
 
     fn called(&self) -> u64 {
         5
+    }
+}
+
+impl Answers<ServicePlace> for Service {
+    ghost ANSWERED = { 20 };
+
+    ghost answers = { fresh };
+
+    ghost answers_within = { answers_within };
+
+    const ANSWERED: u16 = NOTARY_CLASS;
+
+    fn answer(key: &Key) -> Service {
+        Service {
+            key: *key,
+            request: None,
+            answer: None,
+        }
     }
 }

@@ -1,5 +1,5 @@
 -- A list of ids behind two bytes of count, at most 256.
-use Rattle.std.proofs.Common.{◌≡◌, ◌≤◌, ◌+◌, ◌*◌, ◌^◌, ℕ, List, ◌++◌, length, Result, refl, ap, arith}
+use Rattle.std.proofs.Common.{◌≡◌, ◌≤◌, ◌*◌, ℕ, List, ◌++◌, length, Result, refl, ap, arith}
 use Rattle.std.specs.List.{flat_map, AllByRecursion}
 use Rattle.std.specs.Int.{w16}
 use Rattle.std.proofs.Math.Nat.{mul-le-mul_right}

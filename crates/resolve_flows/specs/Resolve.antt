@@ -15,20 +15,20 @@ use Rattle.ledger_types.specs.Names.{hash_eq, has_hash}
 use Rattle.ledger_types.specs.Signatures.{tx_id}
 use Rattle.ledger_types.specs.Txs.{IsSignedTx, signed_tx, signed_tx_at}
 use Rattle.flow_machine.specs.declared.acts.Act.TheVariants as act
-use Rattle.flow_machine.specs.declared.acts.Place.{Place}
-use Rattle.flow_machine.specs.declared.acts.Resumed.{Resumed}
 use Rattle.flow_machine.specs.declared.acts.Resumed.TheVariants as resumed
 use Rattle.flow_forms.specs.declared.forms.Goes.{Goes}
 use Rattle.flow_forms.specs.declared.forms.Goes.TheVariants.{On, Ends, Stops}
-use Rattle.flow_forms.specs.Forms.{Form, unnamed}
-use Rattle.flow_forms.specs.Bytes.{Places}
-use Rattle.flow_forms.specs.Shared.{raised, tags_in}
+use Rattle.flow_forms.specs.Usual.{Place, Resumed, Form, unnamed, Places, raised, tags_in}
 use Rattle.resolve_flows.specs.declared.resolve.Resolve.{Resolve}
 use Rattle.resolve_flows.specs.declared.resolve.ResolvePlace.{ResolvePlace}
 use Rattle.resolve_flows.specs.declared.resolve.ResolvePlace.TheVariants.{Listing, Asking, Receiving, Lacking, Recording, Ending}
 use Rattle.resolve_flows.specs.Ids.{ids, ids_at}
 
 -- ---- how it goes on
+
+-- its fields as it is called for a transaction in a session
+abbrev pub fresh : Key → SignedTx → Resolve
+fresh k stx = record { key = k; stx = stx; pending = []; done = 0; asks = 0; current = None }
 
 -- the id that is asked for next
 abbrev pub last_of : List Hash32 → Option Hash32
@@ -51,11 +51,11 @@ records r = On Ending r (act.Record r.stx)
 abbrev pub goes_on : Resolve → Goes ResolvePlace Resolve
 goes_on r = if length r.pending == 0 then records r else asks_next r
 
--- it begins by what the transaction lacks
+-- it begins by asking what the transaction lacks
 abbrev pub lists : Resolve → Goes ResolvePlace Resolve
 lists r = On Listing r (act.Missing r.stx.tx)
 
--- what the transaction lacks is asked for, where it isn't too much
+-- where the transaction lacks nothing it is recorded, where it lacks more than 256 that is too much, and else these are asked for
 abbrev pub listed : Resolve → Resumed → Goes ResolvePlace Resolve
 listed r (resumed.Ids list) = if length list == 0 then records r else if nat_lt 256 (length list) then Stops r 62 else asks_next (record r { pending = list })
 listed r other = unnamed r other
@@ -70,34 +70,34 @@ abbrev pub has_id : Option Hash32 → SignedTx → Bool
 has_id None stx = false
 has_id (Some id) stx = hash_eq (tx_id stx.tx) id
 
--- what the transaction that came lacks is to be told
+-- a transaction has come, and it asks what this one lacks
 abbrev pub takes : SignedTx → Resolve → Goes ResolvePlace Resolve
 takes stx r = On Lacking (record r { current = Some stx }) (act.Missing stx.tx)
 
--- what it asked for has come; another transaction is not expected
+-- the transaction that it asked for has come; another one isn't expected
 abbrev pub received : Resolve → Resumed → Goes ResolvePlace Resolve
 received r (resumed.Got (value.Tx stx)) = if has_id (last_of r.pending) stx then takes stx r else Stops r 54
 received r other = unnamed r other
 
--- what came is recorded
+-- the one that came is recorded
 abbrev pub records_current : Option SignedTx → Resolve → Goes ResolvePlace Resolve
 records_current None r = Stops r 54
 records_current (Some stx) r = On Recording r (act.Record stx)
 
--- what is lacking, with these moved to the end
+-- what is lacking, with these at the end
 abbrev pub widened : List Hash32 → List Hash32 → List Hash32
 widened pending list = filter (λ h. not (has_hash h list)) pending ++ list
 
--- with too many it fails, else it asks
+-- with those recorded here no more than 256 may be lacking
 abbrev pub widens : List Hash32 → Resolve → Goes ResolvePlace Resolve
 widens pending r = if nat_lt 256 (r.done + length pending) then Stops r 62 else asks_next (record r { pending = pending })
 
--- what came is recorded where it lacks nothing, and else that is asked for
+-- where the one that came lacks nothing it is recorded, and else that is asked for
 abbrev pub lacked : Resolve → Resumed → Goes ResolvePlace Resolve
 lacked r (resumed.Ids list) = if length list == 0 then records_current r.current r else widens (widened r.pending list) r
 lacked r other = unnamed r other
 
--- one that was recorded is lacking no more
+-- the one that was recorded is lacking no more
 abbrev pub recorded : Resolve → Resumed → Goes ResolvePlace Resolve
 recorded r resumed.Recorded = goes_on (record r { pending = take (length r.pending - 1) r.pending; done = raised 65535 r.done })
 recorded r other = unnamed r other
@@ -116,7 +116,7 @@ moves Lacking r with here = lacked r with
 moves Recording r with here = recorded r with
 moves Ending r with here = ended r with
 
--- each time that it may ask yet costs five
+-- the weight of a frame: each time that it may still ask costs five
 abbrev pub weight : ResolvePlace → Resolve → ℕ
 weight Listing r = 5 * (512 - r.asks) + 2
 weight Asking r = 5 * (512 - r.asks) + 5

@@ -1,17 +1,16 @@
 -- The laws of resolving.
-use Rattle.std.specs.Prelude.{◌≡◌, ℕ, ◌+◌, ◌*◌, ◌-◌, ◌≤◌, ◌<◌, ◌==◌, List, ◌++◌, length, take, filter, slice_get, Bool, true, false, not, refl, Option, Some, None, IfSome, nat_lt, if◌then◌else◌}
+use Rattle.std.specs.Prelude.{◌≡◌, ℕ, ◌+◌, ◌*◌, ◌-◌, ◌≤◌, ◌<◌, ◌==◌, List, ◌++◌, length, take, filter, true, not, refl, Option, Some, None, IfSome, nat_lt, if◌then◌else◌}
 use Rattle.std.specs.List.{list_all, AllByRecursion}
 use Rattle.std.specs.Int.{w16}
-use Rattle.std.proofs.Common.{arith, ap, sym, subst, length-append, length-take}
+use Rattle.std.proofs.Common.{arith, sym, subst, length-take}
 use Rattle.std.proofs.lemmas.Bool.{ltb-true, ltb-false}
-use Rattle.net_base.specs.declared.names.Tag.{Tag}
 use Rattle.net_base.specs.declared.values.Hash32.{Hash32}
 use Rattle.net_base.specs.Reading.{number}
-use Rattle.net_base.specs.Forms.{option_of, ListWithin}
+use Rattle.net_base.specs.Forms.{option_of}
 use Rattle.net_base.specs.Laws.{Laws}
 use Rattle.net_base.specs.Combining.{pair_laws, iso_laws}
 use Rattle.net_base.specs.Fields.{u16_laws, option_laws}
-use Rattle.net_base.specs.Names.{IsKey, key, key_laws}
+use Rattle.net_base.specs.Names.{key, key_laws}
 use Rattle.net_base.specs.Values.{IsHash}
 use Rattle.net_base.proofs.Lists.{all_append, all_kept, all_take, all_get}
 use Rattle.ledger_types.specs.declared.tx.SignedTx.{SignedTx}
@@ -19,23 +18,18 @@ use Rattle.ledger_types.specs.declared.value.Value.TheVariants as value
 use Rattle.ledger_types.specs.Names.{has_hash}
 use Rattle.ledger_types.specs.Txs.{IsSignedTx, signed_tx, signed_tx_laws}
 use Rattle.ledger_types.proofs.Sizes.{signed_fits, joined, number16_fits}
-use Rattle.flow_machine.specs.declared.acts.Act.TheVariants as act
-use Rattle.flow_machine.specs.declared.acts.Place.{Place}
-use Rattle.flow_machine.specs.declared.acts.Resumed.{Resumed}
 use Rattle.flow_machine.specs.declared.acts.Resumed.TheVariants as resumed
 use Rattle.flow_machine.specs.Limits.{IsResumed}
 use Rattle.flow_forms.specs.declared.forms.At.TheVariants as stands
-use Rattle.flow_forms.specs.declared.forms.Goes.TheVariants.{On, Stops}
-use Rattle.flow_forms.specs.Forms.{Owes, IsForm}
-use Rattle.flow_forms.specs.Bytes.{ArePlaces, IsAt}
-use Rattle.flow_forms.specs.FormLaws.{unnamed_owes}
-use Rattle.flow_forms.specs.Shared.{owes_if, stops_owes, raised, tags_in, parts_pass, joined_pass}
+use Rattle.flow_forms.specs.declared.forms.Goes.TheVariants.{Stops}
+use Rattle.flow_forms.specs.Shared.{stops_owes}
+use Rattle.flow_forms.specs.Usual.{Place, Resumed, Owes, IsForm, ArePlaces, IsAt, unnamed_owes, raised, tags_in, owes_if, joined_pass, parts_pass}
 use Rattle.flow_forms.specs.Sizes.{option_fits, key_fits}
 use Rattle.resolve_flows.specs.declared.resolve.Resolve.{Resolve}
 use Rattle.resolve_flows.specs.declared.resolve.ResolvePlace.{ResolvePlace}
 use Rattle.resolve_flows.specs.declared.resolve.ResolvePlace.TheVariants.{Listing, Asking, Receiving, Lacking, Recording, Ending}
 use Rattle.resolve_flows.specs.Ids.{ids, ids_laws, ids_fit}
-use Rattle.resolve_flows.specs.Resolve.{last_of, asks_for, asks_next, records, lists, listed, sent, has_id, takes, received, records_current, widened, widens, lacked, recorded, ended, goes_on, moves, weight, tags, form, IsResolve, resolve, resolve_of, resolve_at, place_number, places}
+use Rattle.resolve_flows.specs.Resolve.{last_of, asks_for, asks_next, records, listed, sent, has_id, takes, received, records_current, widened, widens, lacked, recorded, ended, moves, weight, tags, form, IsResolve, resolve, resolve_of, resolve_at, places}
 
 -- its fields' laws
 pub resolve_laws : Laws IsResolve resolve resolve_at

@@ -17,7 +17,7 @@ use std::alloc::{AllocError, Global};
 /// A length of at most the limit.
 #[tactic(auto, unfolding(net_base::specs::Framing::at_most_at))]
 fn read_at_most(from: &mut Reader, limit: u16) -> Result<u16, PartFault>
-    ensures given { Gives (λ x. x) result from.old from.new (at_most_at limit from.old.left) }
+    ensures { Gives (λ x. x) result from.old from.new (at_most_at limit from.old.left) }
 {
     let high = read_up_to(from, (limit / 256) as u8)?;
     let low = if high as u16 == limit / 256 {
@@ -28,17 +28,18 @@ fn read_at_most(from: &mut Reader, limit: u16) -> Result<u16, PartFault>
     Ok(256 * high as u16 + low as u16)
 }
 
-fn read_items<T: Spelt>(alloc: Global, from: &mut Reader, count: u16) -> Result<Vec<T>, PartFault>
-    ensures given { Gives (λ x. x.items) result from.old from.new (items_at T.reading count from.old.left) }
-    ensures few { IfOk result (λ x. length x.items ≤ count) }
+/// Reads so many values.
+fn read_items<T: Spelt>(alloc: Global, from: &mut Reader, len: u16) -> Result<Vec<T>, PartFault>
+    ensures { Gives (λ x. x.items) result from.old from.new (items_at T.reading len from.old.left) }
 {
-    let mut items = Vec::with_capacity(alloc, count as usize)?;
-    for _ in 0..count {
+    let mut items = Vec::with_capacity(alloc, len as usize)?;
+    for _ in 0..len {
         items.push(T::read_part(alloc, from)?)?;
     }
     Ok(items)
 }
 
+/// Writes the values.
 fn write_items<T: Spelt>(alloc: Global, items: &[T], out: &mut Writer) -> Result<(), AllocError>
     requires { AllByRecursion T.within items.now }
     ensures { Writes (flat_map T.spelling items.now) result out.old out.new }
@@ -103,11 +104,7 @@ fn joined(ids: Vec<Hash32>, list: &[Hash32]) -> Result<Vec<Hash32>, AllocError>
 }
 
 /// The ids that are lacking, with these moved to the end.
-pub(crate) fn widened(
-    alloc: Global,
-    pending: &IdList,
-    list: &IdList,
-) -> Result<IdList, AllocError>
+pub(crate) fn widened(alloc: Global, pending: &IdList, list: &IdList) -> Result<IdList, AllocError>
     ensures { IfOk result (λ l. l ≡ widened pending.now list.now) }
 {
     let ids = keep_others(alloc, pending.as_slice(), list.as_slice())?;

@@ -4,4 +4,4 @@
 mod ids;
 mod resolve;
 
-pub use resolve::{Resolve, ResolvePlace};
+pub use resolve::{Resolve, ResolveFrame, ResolvePlace};

@@ -1,49 +1,69 @@
 //! Resolving.
 
 ghost use Rattle.std.specs.Prelude.{◌≡◌, ◌-◌, IfOk, take, length};
-ghost use Rattle.net_base.specs.Forms.{ListWithin};
-ghost use Rattle.net_base.specs.Values.{IsHash};
 ghost use Rattle.ledger_types.specs.Txs.{IsTx};
+ghost use Rattle.flow_machine.specs.declared.acts.Act.TheVariants as act;
 ghost use Rattle.flow_machine.specs.Limits.{IsResumed};
-ghost use Rattle.flow_forms.specs.FormLaws.{no_way, no_way_laws};
-ghost use Rattle.resolve_flows.specs.Resolve.{last_of, takes, asks_for, asks_next, records, lists, listed, sent, has_id, received, records_current, widens, lacked, recorded, ended, goes_on, moves, weight, form, IsResolve, resolve, resolve_at, places};
+ghost use Rattle.flow_forms.specs.Calls.{call_weight};
+ghost use Rattle.flow_forms.specs.declared.calls.Call.TheVariants as call;
+ghost use Rattle.resolve_flows.specs.Resolve.{fresh, last_of, takes, asks_for, asks_next, records, lists, listed, sent, has_id, received, records_current, widens, lacked, recorded, ended, goes_on, form, IsResolve, resolve, resolve_at, places};
 ghost use Rattle.resolve_flows.specs.ResolveLaws.{resolve_laws, are_places, short, is_form};
 
 use crate::ids::{read_ids, widened, write_ids};
-use flow_forms::{Goes, Machine, Numbered, copy_stx, copy_stx_option, copy_tx};
-use flow_machine::{Act, MakeFault, Place, Resumed, WordFault};
+use flow_forms::{ByCall, Call, Frame, Goes, Machine, Numbered, copy_option};
+use flow_machine::{Act, Place, Resumed};
 use ledger_types::{IdList, SignedTx, Value};
-use net_base::{Boxed, ByteList, Hash32, Key, ListOf, PartFault, Reader, Spelt, TryCopy, Writer};
+use net_base::{Boxed, Hash32, Key, ListOf, PartFault, Reader, Spelt, TryCopy, Writer};
 use std::alloc::{AllocError, Global};
 
-/// Where a resolving frame waits.
+/// The most ancestors that may be lacking or recorded here.
+const MOST_ANCESTORS: usize = 256;
+
+/// The most requests.
+const MOST_ASKS: u16 = 512;
+
+/// Where a resolving frame waits, with the numbers of the places; 7 is that of Return.
 #[derive(Clone, Copy, Debug, PartialEq, Eq)]
 pub enum ResolvePlace {
-    Listing,
-    Asking,
-    Receiving,
-    Lacking,
-    Recording,
-    Ending,
+    /// Asks which ancestors of the transaction are lacking.
+    Listing = 1,
+    /// Sends the id of the last of them.
+    Asking = 2,
+    /// Waits for its transaction.
+    Receiving = 3,
+    /// Asks which ancestors of that one are lacking.
+    Lacking = 4,
+    /// Records it.
+    Recording = 5,
+    /// Records the transaction itself.
+    Ending = 6,
 }
 
-/// The resolving subflow: in a session it asks for the ancestors of a transaction that are lacking, records each once its own ancestors
-/// are there, and then the transaction.
+/// Resolving, machine 32, a subflow: in a session it asks for the ancestors of a transaction that are lacking, the last of them first,
+/// records each once its own ancestors are there, and then the transaction itself; it returns Unit. It fails with 62 where more than
+/// 256 ancestors are lacking, or where it would ask more than 512 times, and with 54 where another transaction comes than it asked for.
 #[derive(Debug, Drop)]
 pub struct Resolve {
+    /// The session.
     pub key: Key,
+    /// The transaction itself.
     pub stx: Boxed<SignedTx>,
     /// The ids that are lacking, at most 256; the last is asked for next.
     pub pending: IdList,
-    /// How many ancestors were recorded.
+    /// How many ancestors were recorded here.
     pub done: u16,
-    /// How often it asked, at most 512 times.
+    /// How often it asked, 0 to 512.
     pub asks: u16,
-    /// What came last.
+    /// The ancestor that came last.
     pub current: Option<Boxed<SignedTx>>,
 }
 
-type Moved = Result<Goes<ResolvePlace, Resolve>, AllocError>;
+/// A frame of a resolving subflow: a flow calls it, and nothing else begins one.
+pub type ResolveFrame = Frame<ResolvePlace, Resolve, ByCall>;
+
+type Gone = Goes<ResolvePlace, Resolve>;
+
+type Moved = Result<Gone, AllocError>;
 
 /// The last of the ids.
 fn last_of(pending: &IdList) -> Option<Hash32>
@@ -63,6 +83,14 @@ fn has_id(id: Option<Hash32>, stx: &SignedTx) -> bool
     }
 }
 
+/// The act that asks what a transaction lacks.
+fn missing(alloc: Global, stx: &SignedTx) -> Result<Act<Call>, AllocError>
+    ensures { IfOk result (λ a. a ≡ act.Missing stx.now.tx) }
+{
+    let tx = Boxed::new(alloc, stx.tx.try_copy(alloc)?)?;
+    Ok(Act::Missing { tx })
+}
+
 /// The ids but the last.
 fn without_last(pending: IdList) -> IdList
     ensures { result ≡ take (length pending - 1) pending }
@@ -74,52 +102,53 @@ fn without_last(pending: IdList) -> IdList
 }
 
 impl Resolve {
-    fn asks_for(self, id: Option<Hash32>) -> Goes<ResolvePlace, Resolve>
-        ensures { result ≡ asks_for id self }
+    /// The subflow that is called for a transaction in a session, before it asked.
+    pub fn new(alloc: Global, key: Key, stx: Boxed<SignedTx>) -> Resolve
+        ensures value { result ≡ fresh key stx }
+        ensures cost { form.called result ≡ call_weight (call.Resolve key stx) }
     {
-        match id {
-            None => Goes::Stops {
-                fields: self,
-                code: 54,
-            },
-            Some(id) => Goes::On {
-                place: ResolvePlace::Asking,
-                act: Act::Send {
-                    key: self.key,
-                    value: Value::Id(id),
-                },
-                fields: self,
-            },
+        Resolve {
+            key,
+            stx,
+            pending: ListOf::new(alloc),
+            done: 0,
+            asks: 0,
+            current: None,
         }
     }
 
-    fn asks_next(self) -> Goes<ResolvePlace, Resolve>
+    fn asks_for(self, id: Option<Hash32>) -> Gone
+        ensures { result ≡ asks_for id self }
+    {
+        match id {
+            None => Goes::stops(self, 54),
+            Some(id) => {
+                let act = Act::Send {
+                    key: self.key,
+                    value: Value::Id(id),
+                };
+                Goes::on(ResolvePlace::Asking, self, act)
+            }
+        }
+    }
+
+    fn asks_next(self) -> Gone
         ensures { result ≡ asks_next self }
     {
-        if self.asks < 512 {
+        if self.asks < MOST_ASKS {
             let id = last_of(&self.pending);
-            Resolve {
-                asks: self.asks + 1,
-                ..self
-            }
-            .asks_for(id)
+            let asks = self.asks + 1;
+            Resolve { asks, ..self }.asks_for(id)
         } else {
-            Goes::Stops {
-                fields: self,
-                code: 62,
-            }
+            Goes::stops(self, 62)
         }
     }
 
     fn records(self, alloc: Global) -> Moved
         ensures { IfOk result (λ g. g ≡ records self) }
     {
-        let stx = copy_stx(alloc, &self.stx)?;
-        Ok(Goes::On {
-            place: ResolvePlace::Ending,
-            fields: self,
-            act: Act::Record { stx },
-        })
+        let stx = self.stx.try_copy(alloc)?;
+        Ok(Goes::on(ResolvePlace::Ending, self, Act::Record { stx }))
     }
 
     fn goes_on(self, alloc: Global) -> Moved
@@ -135,12 +164,8 @@ impl Resolve {
     fn lists(self, alloc: Global) -> Moved
         ensures { IfOk result (λ g. g ≡ lists self) }
     {
-        let tx = copy_tx(alloc, &self.stx.get().tx)?;
-        Ok(Goes::On {
-            place: ResolvePlace::Listing,
-            fields: self,
-            act: Act::Missing { tx },
-        })
+        let act = missing(alloc, self.stx.get())?;
+        Ok(Goes::on(ResolvePlace::Listing, self, act))
     }
 
     fn listed(self, alloc: Global, with: &Resumed) -> Moved
@@ -150,11 +175,8 @@ impl Resolve {
             Resumed::Ids { list } => {
                 if list.len() == 0 {
                     self.records(alloc)
-                } else if list.len() > 256 {
-                    Ok(Goes::Stops {
-                        fields: self,
-                        code: 62,
-                    })
+                } else if list.len() > MOST_ANCESTORS {
+                    Ok(Goes::stops(self, 62))
                 } else {
                     let pending = list.copy(alloc)?;
                     Ok(Resolve { pending, ..self }.asks_next())
@@ -164,15 +186,14 @@ impl Resolve {
         }
     }
 
-    fn sent(self, with: &Resumed) -> Goes<ResolvePlace, Resolve>
+    fn sent(self, with: &Resumed) -> Gone
         ensures { result ≡ sent self with.now }
     {
         match with {
-            Resumed::Sent => Goes::On {
-                place: ResolvePlace::Receiving,
-                act: Act::Receive { key: self.key },
-                fields: self,
-            },
+            Resumed::Sent => {
+                let act = Act::Receive { key: self.key };
+                Goes::on(ResolvePlace::Receiving, self, act)
+            }
             _ => Goes::unnamed(self, with),
         }
     }
@@ -180,13 +201,10 @@ impl Resolve {
     fn takes(self, alloc: Global, stx: &Boxed<SignedTx>) -> Moved
         ensures { IfOk result (λ g. g ≡ takes stx.now self) }
     {
-        let tx = copy_tx(alloc, &stx.get().tx)?;
-        let current = Some(copy_stx(alloc, stx)?);
-        Ok(Goes::On {
-            place: ResolvePlace::Lacking,
-            fields: Resolve { current, ..self },
-            act: Act::Missing { tx },
-        })
+        let act = missing(alloc, stx.get())?;
+        let current = Some(stx.try_copy(alloc)?);
+        let fields = Resolve { current, ..self };
+        Ok(Goes::on(ResolvePlace::Lacking, fields, act))
     }
 
     fn received(self, alloc: Global, with: &Resumed) -> Moved
@@ -200,10 +218,7 @@ impl Resolve {
                 if has_id(last_of(&self.pending), stx.get()) {
                     self.takes(alloc, stx)
                 } else {
-                    Ok(Goes::Stops {
-                        fields: self,
-                        code: 54,
-                    })
+                    Ok(Goes::stops(self, 54))
                 }
             }
             _ => Ok(Goes::unnamed(self, with)),
@@ -213,27 +228,18 @@ impl Resolve {
     fn records_current(self, alloc: Global) -> Moved
         ensures { IfOk result (λ g. g ≡ records_current self.current self) }
     {
-        match copy_stx_option(alloc, &self.current)? {
-            None => Ok(Goes::Stops {
-                fields: self,
-                code: 54,
-            }),
-            Some(stx) => Ok(Goes::On {
-                place: ResolvePlace::Recording,
-                fields: self,
-                act: Act::Record { stx },
-            }),
+        match copy_option(alloc, &self.current)? {
+            None => Ok(Goes::stops(self, 54)),
+            Some(stx) => Ok(Goes::on(ResolvePlace::Recording, self, Act::Record { stx })),
         }
     }
 
-    fn widens(self, pending: IdList) -> Goes<ResolvePlace, Resolve>
+    fn widens(self, pending: IdList) -> Gone
         ensures { result ≡ widens pending self }
     {
-        if usize::from(self.done) > 256 || pending.len() > 256 - usize::from(self.done) {
-            Goes::Stops {
-                fields: self,
-                code: 62,
-            }
+        let done = usize::from(self.done);
+        if done > MOST_ANCESTORS || pending.len() > MOST_ANCESTORS - done {
+            Goes::stops(self, 62)
         } else {
             Resolve { pending, ..self }.asks_next()
         }
@@ -259,24 +265,25 @@ impl Resolve {
         ensures { IfOk result (λ g. g ≡ recorded self with.now) }
     {
         match with {
-            Resumed::Recorded => Resolve {
-                pending: without_last(self.pending),
-                done: self.done.saturating_add(1),
-                ..self
+            Resumed::Recorded => {
+                let done = self.done.saturating_add(1);
+                let pending = without_last(self.pending);
+                let fields = Resolve {
+                    pending,
+                    done,
+                    ..self
+                };
+                fields.goes_on(alloc)
             }
-            .goes_on(alloc),
             _ => Ok(Goes::unnamed(self, with)),
         }
     }
 
-    fn ended(self, with: &Resumed) -> Goes<ResolvePlace, Resolve>
+    fn ended(self, with: &Resumed) -> Gone
         ensures { result ≡ ended self with.now }
     {
         match with {
-            Resumed::Recorded => Goes::Ends {
-                fields: self,
-                value: Value::Unit,
-            },
+            Resumed::Recorded => Goes::ends(self, Value::Unit),
             _ => Goes::unnamed(self, with),
         }
     }
@@ -288,14 +295,7 @@ impl Numbered for ResolvePlace {
     ghost are_places = { are_places };
 
     fn number(self) -> u8 {
-        match self {
-            ResolvePlace::Listing => 1,
-            ResolvePlace::Asking => 2,
-            ResolvePlace::Receiving => 3,
-            ResolvePlace::Lacking => 4,
-            ResolvePlace::Recording => 5,
-            ResolvePlace::Ending => 6,
-        }
+        self as u8
     }
 
     fn all() -> &'static [ResolvePlace] {
@@ -345,8 +345,7 @@ impl Spelt for Resolve {
         write_ids(alloc, &self.pending, out)?;
         self.done.write_part(alloc, out)?;
         self.asks.write_part(alloc, out)?;
-        self.current.write_part(alloc, out)?;
-        Ok(())
+        self.current.write_part(alloc, out)
     }
 }
 
@@ -354,11 +353,11 @@ impl TryCopy for Resolve {
     fn try_copy(&self, alloc: Global) -> Result<Resolve, AllocError> {
         Ok(Resolve {
             key: self.key,
-            stx: copy_stx(alloc, &self.stx)?,
+            stx: self.stx.try_copy(alloc)?,
             pending: self.pending.copy(alloc)?,
             done: self.done,
             asks: self.asks,
-            current: copy_stx_option(alloc, &self.current)?,
+            current: copy_option(alloc, &self.current)?,
         })
     }
 }
@@ -366,38 +365,13 @@ impl TryCopy for Resolve {
 impl Machine<ResolvePlace> for Resolve {
     ghost form = { form };
 
-    ghost way = { no_way };
-
     ghost MACHINE = { 32 };
 
     ghost is_form = { is_form };
 
-    ghost is_way = { no_way_laws IsResolve form };
-
     ghost short = { short };
 
     const MACHINE: u8 = 32;
-
-    fn read_words(
-        _alloc: Global,
-        _class: &str,
-        _args: &[String],
-    ) -> Result<(u16, ByteList), WordFault> {
-        Err(WordFault::UnknownClass)
-    }
-
-    fn make(
-        _alloc: Global,
-        _class: u16,
-        _args: &ByteList,
-        _here: &Place,
-    ) -> Result<Resolve, MakeFault> {
-        Err(MakeFault::UnknownClass)
-    }
-
-    fn initiated(_alloc: Global, _class: u16, _key: &Key) -> Result<Resolve, MakeFault> {
-        Err(MakeFault::UnknownClass)
-    }
 
     fn start(self, alloc: Global, _here: &Place) -> Moved {
         self.lists(alloc)
