@@ -27,7 +27,7 @@ pub trait Opens<F: Flows> {
     /// The frame of a call.
     ghost see: { Call → F };
 
-    fn open(call: Call) -> F
+    fn open(alloc: Global, call: Call) -> F
         ensures { result ≡ see call };
 
     /// No machine's number stands twice in the part.
@@ -174,7 +174,7 @@ impl<F: Flows, C: Opens<F>> FlowSet for Closed<F, C> {
         at: &Place,
     ) -> Result<(Closed<F, C>, Act<Closed<F, C>>), MakeFault> {
         let (frame, act) = F::make(alloc, class, args, at)?;
-        Ok((Closed::new(frame), act_in(act)))
+        Ok((Closed::new(frame), act_in(alloc, act)))
     }
 
     fn initiated(
@@ -184,7 +184,7 @@ impl<F: Flows, C: Opens<F>> FlowSet for Closed<F, C> {
         at: &Place,
     ) -> Result<(Closed<F, C>, Act<Closed<F, C>>), MakeFault> {
         let (frame, act) = F::initiated(alloc, class, key, at)?;
-        Ok((Closed::new(frame), act_in(act)))
+        Ok((Closed::new(frame), act_in(alloc, act)))
     }
 
     fn resume(
@@ -194,7 +194,7 @@ impl<F: Flows, C: Opens<F>> FlowSet for Closed<F, C> {
         at: &Place,
     ) -> Result<(Closed<F, C>, Act<Closed<F, C>>), AllocError> {
         let (frame, act) = self.frame.next(alloc, with, at)?;
-        Ok((Closed::new(frame), act_in(act)))
+        Ok((Closed::new(frame), act_in(alloc, act)))
     }
 
     fn weight(&self) -> u64 {
@@ -203,7 +203,7 @@ impl<F: Flows, C: Opens<F>> FlowSet for Closed<F, C> {
 }
 
 /// The act with the called frame put in.
-fn act_in<F: Flows, C: Opens<F>>(act: Act<Call>) -> Act<Closed<F, C>>
+fn act_in<F: Flows, C: Opens<F>>(alloc: Global, act: Act<Call>) -> Act<Closed<F, C>>
     ensures { result ≡ act_with C.see act }
 {
     match act {
@@ -213,7 +213,7 @@ fn act_in<F: Flows, C: Opens<F>>(act: Act<Call>) -> Act<Closed<F, C>>
         Act::ReceiveBy { key, until } => Act::ReceiveBy { key, until },
         Act::Sleep { until } => Act::Sleep { until },
         Act::Sub { frame } => Act::Sub {
-            frame: Closed::new(C::open(frame)),
+            frame: Closed::new(C::open(alloc, frame)),
         },
         Act::Verify { tx } => Act::Verify { tx },
         Act::Reserve { token, amount } => Act::Reserve { token, amount },

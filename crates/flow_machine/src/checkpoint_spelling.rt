@@ -1,6 +1,6 @@
 //! The spelling of stacks and checkpoints.
 
-ghost use Rattle.std.specs.Prelude.{◌≤◌, IfOk, length, map};
+ghost use Rattle.std.specs.Prelude.{◌≤◌, IfOk, length};
 ghost use Rattle.std.specs.Arc.{arc_value};
 ghost use Rattle.std.specs.List.{flat_map, AllByRecursion};
 ghost use Rattle.net_base.specs.Reading.{Puts};
@@ -8,6 +8,7 @@ ghost use Rattle.net_base.specs.Forms.{items_at};
 ghost use Rattle.net_base.specs.Parts.{Gives, Writes, Decodes};
 ghost use Rattle.flow_machine.specs.declared.act_spelling.FrameBytes.{FrameBytes};
 ghost use Rattle.flow_machine.specs.Acts.{IsFrameBytes, frame_bytes, SameBytes};
+ghost use Rattle.flow_machine.specs.Stacks.{frames_in};
 ghost use Rattle.flow_machine.specs.Checkpoints.{IsCheckpoint, checkpoint_text, checkpoint_with};
 
 use super::{Checkpoint, FrameBytes, Stack};
@@ -31,7 +32,7 @@ fn read_frames<F: Spelt>(
     from: &mut Reader,
     count: u8,
 ) -> Result<Vec<Arc<F>>, PartFault>
-    ensures given { Gives (λ x. map (λ frame. arc_value frame) x.items) result from.old from.new (items_at F.reading count from.old.left) }
+    ensures given { Gives (λ x. frames_in x.items) result from.old from.new (items_at F.reading count from.old.left) }
     ensures few { IfOk result (λ x. length x.items ≤ count) }
 {
     let mut frames = Vec::with_capacity(alloc, count as usize)?;
@@ -46,8 +47,8 @@ fn write_frames<F: Spelt>(
     frames: &[Arc<F>],
     out: &mut Writer,
 ) -> Result<(), AllocError>
-    requires { AllByRecursion F.within (map (λ frame. arc_value frame) frames.now) }
-    ensures { Writes (flat_map F.spelling (map (λ frame. arc_value frame) frames.now)) result out.old out.new }
+    requires { AllByRecursion F.within (frames_in frames.now) }
+    ensures { Writes (flat_map F.spelling (frames_in frames.now)) result out.old out.new }
 {
     for frame in frames {
         frame.write_part(alloc, out)?;

@@ -1,7 +1,8 @@
 //! The frames of a live flow.
 
-ghost use Rattle.std.specs.Prelude.{◌≡◌, ◌+◌, ◌∷◌, ◌<◌, ◌≤◌, [], length, map, drop, reverse, IfOk, MatchOption};
+ghost use Rattle.std.specs.Prelude.{◌≡◌, ◌+◌, ◌∷◌, ◌<◌, ◌≤◌, [], length, drop, reverse, IfOk, MatchOption};
 ghost use Rattle.std.specs.Arc.{arc_value};
+ghost use Rattle.flow_machine.specs.Stacks.{frames_in};
 
 use std::alloc::{AllocError, Global};
 use std::marker::Model;
@@ -17,13 +18,13 @@ pub struct Stack<F> {
 }
 
 impl<F> Model for Stack<F> {
-    ghost use Rattle.flow_machine.specs.Stacks.{Frames};
-    ghost use Rattle.std.specs.Prelude.{map, reverse, length, ◌≤◌};
+    ghost use Rattle.flow_machine.specs.Stacks.{Frames, frames_in};
+    ghost use Rattle.std.specs.Prelude.{reverse, length, ◌≤◌};
     ghost use Rattle.std.specs.Arc.{arc_value};
 
     ghost Value = { Frames F };
 
-    ghost view = { λ s. record { top = arc_value s.top; below = reverse (map (λ frame. arc_value frame) s.below.items) } };
+    ghost view = { λ s. record { top = arc_value s.top; below = reverse (frames_in s.below.items) } };
 
     ghost invariant = { λ s. length s.below.items ≤ 7 };
 }
@@ -32,7 +33,7 @@ impl<F> Stack<F> {
     /// The stack of this frame on top of at most 7 others, the bottom first. Takes no memory.
     pub(crate) fn from_bottom(below: Vec<Arc<F>>, top: Arc<F>) -> Stack<F>
         requires { length below.items ≤ 7 }
-        ensures { result ≡ record { top = arc_value top; below = reverse (map (λ frame. arc_value frame) below.items) } }
+        ensures { result ≡ record { top = arc_value top; below = reverse (frames_in below.items) } }
     {
         Stack { top, below }
     }
@@ -64,7 +65,7 @@ impl<F> Stack<F> {
 
     /// The frames below the top one, the bottom first.
     pub(crate) fn below(&self) -> &[Arc<F>]
-        ensures { map (λ frame. arc_value frame) result.now ≡ reverse self.now.below }
+        ensures { frames_in result.now ≡ reverse self.now.below }
     {
         self.below.as_slice()
     }
@@ -127,7 +128,7 @@ impl<F: Drop> Stack<F> {
 
 /// The same frames once more. None is copied.
 fn shared<F: Drop>(alloc: Global, frames: &[Arc<F>]) -> Result<Vec<Arc<F>>, AllocError>
-    ensures { IfOk result (λ same. map (λ frame. arc_value frame) same.items ≡ map (λ frame. arc_value frame) frames.now) }
+    ensures { IfOk result (λ same. frames_in same.items ≡ frames_in frames.now) }
 {
     let mut same = Vec::with_capacity(alloc, frames.len())?;
     for frame in frames {

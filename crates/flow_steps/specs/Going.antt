@@ -15,6 +15,7 @@ use Rattle.flow_machine.specs.declared.flows.Checkpoint.{Checkpoint}
 use Rattle.flow_machine.specs.declared.flows.FlowState.{FlowState}
 use Rattle.flow_machine.specs.declared.flows.FlowState.TheVariants as state
 use Rattle.flow_machine.specs.Limits.{IsResumed}
+use Rattle.flow_machine.specs.Stacks.{Frames}
 use Rattle.transition_record.specs.Changes.{IsSession, session_text, IsLedger}
 use Rattle.net_model.specs.Environment.{Environment, is_act_built}
 use Rattle.net_model.specs.State.{NodeState, Effect, nothing}
@@ -52,11 +53,15 @@ flow_in (event.Arrive key direction number) = 0
 
 -- ---- the flow
 
+-- the flow at its next step, which waits on this act over these frames
+abbrev pub next_state : {F : Type 0} → Checkpoint F → Act F → Frames F → FlowState F
+next_state at waiting stack = state.Live (record { flow = at.flow; step = at.step + 1; class = at.class; waiting = waiting; stack = stack })
+
 -- the flow at its next step, once a frame above these was resumed
 abbrev pub gone_on : {F : Type 0} → Environment F → ℕ → ℕ → Checkpoint F → F → List F → Resumed → FlowState F
 gone_on w me now at frame below with =
     let made = w.machine.next frame with (place w me at.flow at.step now) in
-    state.Live (record { flow = at.flow; step = at.step + 1; class = at.class; waiting = made.1; stack = record { top = made.0; below = below } })
+    next_state at made.1 (record { top = made.0; below = below })
 
 -- the flow once its subflow began above the others, or once it was told that its stack has 8 frames
 abbrev pub called : {F : Type 0} → Environment F → ℕ → ℕ → Checkpoint F → F → FlowState F

@@ -1,15 +1,14 @@
 //! How a flow goes on once its act is performed: a frame of its stack is resumed.
 
-ghost use Rattle.std.specs.Prelude.{◌≡◌, ◌<◌, ◌+◌, ◌-◌, ◌^◌, IfOk};
+ghost use Rattle.std.specs.Prelude.{◌≡◌, ◌<◌, ◌-◌, ◌^◌, IfOk};
 ghost use Rattle.net_base.specs.Names.{IsIdentity};
 ghost use Rattle.ledger_types.specs.Values.{IsValue};
 ghost use Rattle.flow_machine.specs.Checkpoints.{IsCheckpoint};
 ghost use Rattle.flow_machine.specs.Limits.{IsResumed};
 ghost use Rattle.flow_machine.specs.Stacks.{Frames};
-ghost use Rattle.flow_machine.specs.declared.flows.FlowState.TheVariants.{Live};
 ghost use Rattle.net_model.specs.Environment.{environment};
 ghost use Rattle.net_model.specs.Steps.{place};
-ghost use Rattle.flow_steps.specs.Going.{gone_on, called, returned};
+ghost use Rattle.flow_steps.specs.Going.{next_state, gone_on, called, returned};
 
 use flow_machine::{Act, Checkpoint, FlowSet, FlowState, Place, Resumed, Stack};
 use ledger_types::Value;
@@ -63,7 +62,7 @@ fn next_of<F: FlowSet>(
     stack: Result<Stack<F>, AllocError>,
 ) -> Result<FlowState<F>, AllocError>
     requires { at.now.step < 2 ^ 32 - 1 }
-    ensures { (frames : Frames F) → IfOk stack (λ is. is ≡ frames) → IfOk result (λ flow. flow ≡ Live (record { flow = at.now.flow; step = at.now.step + 1; class = at.now.class; waiting = waiting; stack = frames })) }
+    ensures { (frames : Frames F) → IfOk stack (λ is. is ≡ frames) → IfOk result (λ flow. flow ≡ next_state at.now waiting frames) }
 {
     match stack {
         Ok(stack) => Ok(FlowState::Live(Checkpoint {
