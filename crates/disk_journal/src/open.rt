@@ -10,6 +10,25 @@ use net_base::{Identity, RecordList};
 use outside::{Disk, Failed, write_synced};
 use std::alloc::Global;
 
+/// Reads all of the disk, and changes nothing of it.
+fn read_kept<D: Disk>(alloc: Global, disk: &mut D) -> Result<Vec<u8>, OpenFault>
+    ensures bytes { (D.seen disk.old).tells ≡ true → IfOk result (λ v. v.items ≡ (D.seen disk.old).state.kept) }
+    ensures same { (D.seen disk.new).state ≡ (D.seen disk.old).state }
+    ensures fuse { (D.seen disk.new).fuse ≡ (D.seen disk.old).fuse }
+    ensures power { (D.seen disk.new).power ≡ (D.seen disk.old).power }
+    ensures dark { (D.seen disk.old).power ≡ false → IsErrOf result OpenFault.Fault }
+    ensures only { IfErr result (λ why. GivesUp why) }
+    ensures later { (D.seen disk.old).faults ≤ (D.seen disk.new).faults }
+    ensures cause { IsErrOf result OpenFault.Fault → Rose (D.seen disk.old).faults (D.seen disk.new).faults }
+    ensures calm { (D.seen disk.old).calm ≡ true → ((D.seen disk.new).calm ≡ true) × (IsErrOf result OpenFault.Fault → ⊥) }
+    ensures rest { SameRest (D.seen disk.old) (D.seen disk.new) }
+{
+    let n = disk.length()?;
+    let mut bytes = vec![in alloc; 0u8; n as usize]?;
+    disk.read_at(0, &mut bytes)?;
+    Ok(bytes)
+}
+
 /// Syncs the disk and reads all of it.
 #[tactic(auto, using(outside::proofs::Moments::kept_image))]
 fn read_all<D: Disk>(alloc: Global, disk: &mut D) -> Result<Vec<u8>, OpenFault>
@@ -30,10 +49,7 @@ fn read_all<D: Disk>(alloc: Global, disk: &mut D) -> Result<Vec<u8>, OpenFault>
     ensures rest { SameRest (D.seen disk.old) (D.seen disk.new) }
 {
     disk.sync()?;
-    let n = disk.length()?;
-    let mut bytes = vec![in alloc; 0u8; n as usize]?;
-    disk.read_at(0, &mut bytes)?;
-    Ok(bytes)
+    read_kept(alloc, disk)
 }
 
 /// Writes bytes 1 to 16, and then the open format gate.

@@ -98,6 +98,7 @@ pub fn rebuild<F: Spelt + Drop>(
     let mut tables = NodeTables::new(alloc, party, nodes, notary);
     for (at, body) in list.into_vec() {
         if let Err(why) = take(&mut tables, alloc, at, body) {
+            let_go(tables);
             return Err(why);
         }
     }

@@ -26,6 +26,10 @@ pub fn value<T: Spelt>(alloc: Global, column: &str) -> Result<T>
     }
 }
 
+/// Lets a value go. What holds transactions, requests or records is let go of by this call, at one exit of a function: there a value
+/// of its own type would have the proof look at each kind of value that may stand in it, at each exit.
+pub fn let_go<T: Drop>(_value: T) {}
+
 /// The columns of a question, parted by single spaces.
 pub fn columns<'a>(alloc: Global, question: &'a str) -> Result<(&'a str, Vec<&'a str>)> {
     let mut parts = question.split(' ');

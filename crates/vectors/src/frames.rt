@@ -1,4 +1,4 @@
-use super::columns::bytes;
+use super::columns::{bytes, let_go};
 use anyhow::{Result, bail};
 use ledger_types::Value;
 use net_base::DecodeFault;
@@ -12,10 +12,16 @@ pub fn frame_of(alloc: Global, values: &[&str]) -> Result<String> {
     };
     let bytes = bytes(alloc, column)?;
     match Frame::decode(alloc, bytes.as_slice()) {
-        Ok(frame) if frame.encode(alloc)?.as_slice() == bytes.as_slice() => {
-            Ok(String::from_str(alloc, "spelt")?)
+        Ok(frame) => {
+            let spelt = frame.encode(alloc);
+            let_go(frame);
+            let answer = if spelt?.as_slice() == bytes.as_slice() {
+                "spelt"
+            } else {
+                "another spelling"
+            };
+            Ok(String::from_str(alloc, answer)?)
         }
-        Ok(_) => Ok(String::from_str(alloc, "another spelling")?),
         Err(DecodeFault::Malformed { at }) => Ok(format!(in alloc; "malformed {at}")?),
         Err(DecodeFault::Memory) => bail!("out of memory"),
     }
@@ -28,7 +34,10 @@ pub fn is_frame(alloc: Global, values: &[&str]) -> Result<String> {
     };
     let bytes = bytes(alloc, column)?;
     match Frame::decode(alloc, bytes.as_slice()) {
-        Ok(_) => Ok(String::from_str(alloc, "frame")?),
+        Ok(frame) => {
+            let_go(frame);
+            Ok(String::from_str(alloc, "frame")?)
+        }
         Err(DecodeFault::Malformed { .. }) => Ok(String::from_str(alloc, "garbled")?),
         Err(DecodeFault::Memory) => bail!("out of memory"),
     }
@@ -66,6 +75,14 @@ fn item(alloc: Global, body: &Body) -> Result<String> {
     }
 }
 
+/// What a copy of an item says.
+fn copied_item(alloc: Global, body: &Body) -> Result<String> {
+    let copy = body.copy(alloc)?;
+    let said = item(alloc, &copy);
+    let_go(copy);
+    said
+}
+
 /// What a frame says.
 fn said(alloc: Global, frame: &Frame) -> Result<String> {
     match frame {
@@ -78,7 +95,7 @@ fn said(alloc: Global, frame: &Frame) -> Result<String> {
             stamp,
             body,
         } => {
-            let item = item(alloc, &body.copy(alloc)?)?;
+            let item = copied_item(alloc, body)?;
             let (from, to, initiator, number) = (from.0, to.0, key.initiator.0, key.number);
             Ok(format!(in alloc;
                 "message {from} {to} {initiator} {number} {direction} {seq} {stamp} {item}"
@@ -103,5 +120,7 @@ pub fn said_by(alloc: Global, values: &[&str]) -> Result<String> {
         bail!("a frame has one value")
     };
     let frame = Frame::decode(alloc, bytes(alloc, column)?.as_slice())?;
-    said(alloc, &frame)
+    let said = said(alloc, &frame);
+    let_go(frame);
+    said
 }

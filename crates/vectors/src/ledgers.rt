@@ -4,15 +4,14 @@ ghost use Rattle.ledger_types.specs.States.{IsTxState};
 ghost use Rattle.ledger_types.specs.Txs.{IsTx, IsSignedTx};
 ghost use Rattle.ledger_types.specs.Requests.{IsEntry};
 
-use super::columns::{bytes, value};
-use anyhow::{Result, bail};
+use super::columns::{bytes, let_go, value};
+use anyhow::{Result, bail, ensure};
 use ledger_tables::LedgerTables;
 use ledger_types::{Entry, HeldList, LedgerChange, RefList, Resolved, SignedTx, Tx};
 use net_base::{Boxed, Party, Reader, Spelt, StateRef, Token, Writer, read_list, write_list};
 use std::alloc::{AllocError, Global};
-use std::mem::forget;
 use tx_store::{ResolveFault, Store};
-use vault::ReserveFault;
+use vault::{ReserveFault, Vault};
 
 /// The value that a column spells, `None` where it is `-`.
 fn optional<T: Spelt + Drop>(alloc: Global, column: &str) -> Result<Option<Boxed<T>>>
@@ -42,14 +41,19 @@ fn change_of(alloc: Global, values: &[&str]) -> Result<LedgerChange>
     let owner = owner.parse::<u32>()?;
     let locked = references(alloc, locked)?;
     let recorded = optional::<SignedTx>(alloc, recorded)?;
-    let booked = optional::<Entry>(alloc, booked)?;
-    Ok(LedgerChange {
-        recorded,
-        locked,
-        owner,
-        ended: *ended == "1",
-        booked,
-    })
+    match optional::<Entry>(alloc, booked) {
+        Ok(booked) => Ok(LedgerChange {
+            recorded,
+            locked,
+            owner,
+            ended: *ended == "1",
+            booked,
+        }),
+        Err(error) => {
+            let_go(recorded);
+            Err(error)
+        }
+    }
 }
 
 /// Applies a change where it may be applied, and tells whether.
@@ -65,7 +69,7 @@ fn apply(
     let room = tables.make_room(alloc, &change);
     let fits = tables.may_apply(notary, &change) && tables.store().count() < 99;
     if room.is_err() || !fits {
-        forget(change);
+        let_go(change);
         room?;
         return Ok(false);
     }
@@ -107,23 +111,41 @@ fn held_text(alloc: Global, list: &HeldList) -> Result<String> {
     Ok(texts.join(alloc, "+")?)
 }
 
+/// The states of a vault.
+fn unconsumed_text(alloc: Global, vault: &Vault) -> Result<String> {
+    let list = vault.unconsumed(alloc)?;
+    let text = held_text(alloc, &list);
+    let_go(list);
+    text
+}
+
+/// What a token's Cash is worth together.
+fn balance_text(alloc: Global, vault: &Vault, name: &str) -> Result<String> {
+    let balance = vault.balance(&value::<Token>(alloc, name)?);
+    Ok(format!(in alloc; "{balance}")?)
+}
+
 /// What a reservation names.
-fn reserved(alloc: Global, tables: &LedgerTables, name: &str, amount: &str) -> Result<String> {
+fn reserved(alloc: Global, vault: &Vault, name: &str, amount: &str) -> Result<String> {
     let token = value::<Token>(alloc, name)?;
-    match tables
-        .vault()
-        .reserve(alloc, &token, amount.parse::<u64>()?)
-    {
-        Ok(list) => held_text(alloc, &list),
+    match vault.reserve(alloc, &token, amount.parse::<u64>()?) {
+        Ok(list) => {
+            let text = held_text(alloc, &list);
+            let_go(list);
+            text
+        }
         Err(ReserveFault::Short { have }) => Ok(format!(in alloc; "short:{have}")?),
         Err(ReserveFault::Memory) => bail!("out of memory"),
     }
 }
 
 /// The ids that a transaction names and that aren't stored.
-fn missing_text(alloc: Global, store: &Store, tx: &Tx) -> Result<String> {
+fn missing_text(alloc: Global, store: &Store, column: &str) -> Result<String> {
+    let tx = value::<Tx>(alloc, column)?;
+    let missing = store.missing(alloc, &tx);
+    let_go(tx);
     let mut texts = Vec::new(alloc);
-    for id in store.missing(alloc, tx)?.as_slice() {
+    for id in missing?.as_slice() {
         texts.push(hex::encode(alloc, id.0)?)?;
     }
     Ok(texts.join(alloc, "+")?)
@@ -141,24 +163,50 @@ fn states_text(alloc: Global, states: &Resolved) -> Result<String>
     Ok(hex::encode(alloc, bytes.as_slice())?)
 }
 
+/// What is lacking of the states that a transaction names.
+fn lacking_text(alloc: Global, fault: ResolveFault) -> Result<String> {
+    match fault {
+        ResolveFault::Lacking { id } => {
+            let id = hex::encode(alloc, id.0)?;
+            Ok(format!(in alloc; "lacking:{id}")?)
+        }
+        ResolveFault::NoOutput { reference } => {
+            let reference = reference_text(alloc, &reference)?;
+            Ok(format!(in alloc; "no-output:{reference}")?)
+        }
+        ResolveFault::Memory => bail!("out of memory"),
+    }
+}
+
 /// The states that a transaction names, or which it lacks. The calls that take no memory have to say the same.
-fn resolved_text(alloc: Global, store: &Store, tx: &Tx) -> Result<String>
+fn states_of(alloc: Global, store: &Store, tx: &Tx) -> Result<String>
     requires { IsTx tx.now }
 {
     let had = store.has_states(tx);
     match store.resolve(alloc, tx) {
-        Ok(states) if had && store.resolves_to(tx, &states) => states_text(alloc, &states),
-        Err(ResolveFault::Lacking { id }) if !had => {
-            let id = hex::encode(alloc, id.0)?;
-            Ok(format!(in alloc; "lacking:{id}")?)
+        Ok(states) => {
+            let same = had && store.resolves_to(tx, &states);
+            let text = states_text(alloc, &states);
+            let_go(states);
+            ensure!(same, "whether states can be had is told twice");
+            text
         }
-        Err(ResolveFault::NoOutput { reference }) if !had => {
-            let reference = reference_text(alloc, &reference)?;
-            Ok(format!(in alloc; "no-output:{reference}")?)
+        Err(fault) => {
+            ensure!(
+                !had || fault == ResolveFault::Memory,
+                "whether states can be had is told twice"
+            );
+            lacking_text(alloc, fault)
         }
-        Err(ResolveFault::Memory) => bail!("out of memory"),
-        _ => bail!("whether states can be had is told twice"),
     }
+}
+
+/// The same of the transaction that a column spells.
+fn resolved_text(alloc: Global, store: &Store, column: &str) -> Result<String> {
+    let tx = value::<Tx>(alloc, column)?;
+    let text = states_of(alloc, store, &tx);
+    let_go(tx);
+    text
 }
 
 /// The id of the transaction at a place of the store; `-` where none stands there.
@@ -181,14 +229,11 @@ fn entries_text(alloc: Global, entries: &[Entry]) -> Result<String> {
 /// What the tables tell.
 fn told(alloc: Global, tables: &LedgerTables, verb: &str, values: &[&str]) -> Result<String> {
     match (verb, values) {
-        ("held", []) => held_text(alloc, &tables.vault().unconsumed(alloc)?),
-        ("balance", [name]) => {
-            let balance = tables.vault().balance(&value::<Token>(alloc, name)?);
-            Ok(format!(in alloc; "{balance}")?)
-        }
-        ("reserve", [name, amount]) => reserved(alloc, tables, name, amount),
-        ("missing", [tx]) => missing_text(alloc, tables.store(), &value::<Tx>(alloc, tx)?),
-        ("resolve", [tx]) => resolved_text(alloc, tables.store(), &value::<Tx>(alloc, tx)?),
+        ("held", []) => unconsumed_text(alloc, tables.vault()),
+        ("balance", [name]) => balance_text(alloc, tables.vault(), name),
+        ("reserve", [name, amount]) => reserved(alloc, tables.vault(), name, amount),
+        ("missing", [tx]) => missing_text(alloc, tables.store(), tx),
+        ("resolve", [tx]) => resolved_text(alloc, tables.store(), tx),
         ("stored", [place]) => stored_text(alloc, tables.store(), place),
         ("entries", []) => entries_text(alloc, tables.book().entries()),
         _ => bail!("nothing that tables tell"),
@@ -232,6 +277,6 @@ pub fn ledger_of(alloc: Global, values: &[&str]) -> Result<String> {
     let notary = Party(notary.parse::<u8>()?);
     let mut tables = LedgerTables::new(alloc, party);
     let answers = steps(alloc, &mut tables, notary, columns);
-    forget(tables);
+    let_go(tables);
     answers
 }

@@ -1,4 +1,4 @@
-use super::columns::bytes;
+use super::columns::{bytes, let_go};
 use anyhow::{Result, bail};
 use flow_machine::Stack;
 use net_base::DecodeFault;
@@ -13,8 +13,10 @@ pub fn record_of(alloc: Global, values: &[&str]) -> Result<String> {
     let bytes = bytes(alloc, column)?;
     let answer = match decode_record(alloc, bytes.as_slice()) {
         Ok((cause, effect)) => {
-            let spelt = encode_record(alloc, &cause, &effect)?;
-            if spelt.as_slice() == bytes.as_slice() {
+            let spelt = encode_record(alloc, &cause, &effect);
+            let_go(cause);
+            let_go(effect);
+            if spelt?.as_slice() == bytes.as_slice() {
                 "spelt"
             } else {
                 "another spelling"
@@ -32,12 +34,14 @@ pub fn told_by(alloc: Global, values: &[&str]) -> Result<String> {
     let [column] = values else {
         bail!("a record has one value")
     };
-    let (_, effect) = decode_record(alloc, bytes(alloc, column)?.as_slice())?;
+    let (cause, effect) = decode_record(alloc, bytes(alloc, column)?.as_slice())?;
     let (flow, over) = (effect.ledger.owner, u8::from(effect.ledger.ended));
     let came = u8::from(effect.session.came_key.is_some());
     let recorded = u8::from(effect.ledger.recorded.is_some());
     let locked = effect.ledger.locked.len();
     let booked = u8::from(effect.ledger.booked.is_some());
+    let_go(cause);
+    let_go(effect);
     Ok(format!(in alloc; "{flow} {over} {came} {recorded} {locked} {booked}")?)
 }
 

@@ -1,4 +1,4 @@
-use super::columns::value;
+use super::columns::{bytes, let_go, value};
 use anyhow::{Result, bail, ensure};
 use cash_contract::Cash;
 use contract_verify::{BoxedContract, ContractBook, Judge, LedgerContract};
@@ -11,12 +11,45 @@ use tx_rules::{check, missing_tags, needed_signers};
 
 /// The states that a column lists.
 fn states(alloc: Global, column: &str) -> Result<StateList> {
-    let bytes = super::columns::bytes(alloc, column)?;
+    let bytes = bytes(alloc, column)?;
     match read_list::<TxState>(alloc, &mut Reader::new(bytes.as_slice()), 64) {
         Ok(states) => Ok(states),
         Err(PartFault::Left(_)) => bail!("no list of states"),
         Err(PartFault::Memory) => bail!("out of memory"),
     }
+}
+
+/// The states that two columns list for the inputs and the references of a transaction.
+fn resolved(alloc: Global, inputs: &str, references: &str) -> Result<Resolved> {
+    let inputs = states(alloc, inputs)?;
+    match states(alloc, references) {
+        Ok(references) => Ok(Resolved { inputs, references }),
+        Err(error) => {
+            let_go(inputs);
+            Err(error)
+        }
+    }
+}
+
+/// The first structural rule that is broken, 0 where none is.
+fn first_broken(tx: &Tx, resolved: &Resolved) -> Result<u8> {
+    ensure!(
+        resolved.inputs.len() == tx.inputs.len()
+            && resolved.references.len() == tx.references.len(),
+        "a state for each input and each reference"
+    );
+    match check(tx, resolved) {
+        Ok(()) => Ok(0),
+        Err(broken) => Ok(broken.rule),
+    }
+}
+
+/// The same over the states that two columns list.
+fn first_broken_over(alloc: Global, tx: &Tx, inputs: &str, references: &str) -> Result<u8> {
+    let resolved = resolved(alloc, inputs, references)?;
+    let rule = first_broken(tx, &resolved);
+    let_go(resolved);
+    rule
 }
 
 /// `rule TRANSACTION INPUTS REFERENCES`: the first structural rule that is broken, 0 where none is.
@@ -25,19 +58,9 @@ pub fn rule_of(alloc: Global, values: &[&str]) -> Result<String> {
         bail!("a rule has three values")
     };
     let tx = value::<Tx>(alloc, tx)?;
-    let resolved = Resolved {
-        inputs: states(alloc, inputs)?,
-        references: states(alloc, references)?,
-    };
-    ensure!(
-        resolved.inputs.len() == tx.inputs.len()
-            && resolved.references.len() == tx.references.len(),
-        "a state for each input and each reference"
-    );
-    let rule = match check(&tx, &resolved) {
-        Ok(()) => 0,
-        Err(broken) => broken.rule,
-    };
+    let rule = first_broken_over(alloc, &tx, inputs, references);
+    let_go(tx);
+    let rule = rule?;
     Ok(format!(in alloc; "{rule}")?)
 }
 
@@ -46,7 +69,9 @@ pub fn needed_of(alloc: Global, values: &[&str]) -> Result<String> {
     let [tx] = values else {
         bail!("a transaction has one value")
     };
-    let needed = needed_signers(&value::<Tx>(alloc, tx)?).0;
+    let tx = value::<Tx>(alloc, tx)?;
+    let needed = needed_signers(&tx).0;
+    let_go(tx);
     Ok(format!(in alloc; "{needed}")?)
 }
 
@@ -55,8 +80,32 @@ pub fn missing_of(alloc: Global, values: &[&str]) -> Result<String> {
     let [signed] = values else {
         bail!("a signed transaction has one value")
     };
-    let missing = missing_tags(&value::<SignedTx>(alloc, signed)?, &KeyedDigest).0;
+    let signed = value::<SignedTx>(alloc, signed)?;
+    let missing = missing_tags(&signed, &KeyedDigest).0;
+    let_go(signed);
     Ok(format!(in alloc; "{missing}")?)
+}
+
+/// The clause by which the contract of a number refuses a transaction over these states.
+fn refusing(contract: &str, tx: &Tx, resolved: &Resolved) -> Result<Option<u8>> {
+    Ok(match contract {
+        "1" => Cash.verdict(tx, resolved),
+        "2" => Locks.verdict(tx, resolved),
+        "3" => Facts.verdict(tx, resolved),
+        "4" => Ious.verdict(tx, resolved),
+        _ => bail!("no contract of that number"),
+    })
+}
+
+/// The same over the states that a column lists for the inputs, with no reference.
+fn refusing_over(alloc: Global, contract: &str, tx: &Tx, inputs: &str) -> Result<Option<u8>> {
+    let resolved = Resolved {
+        inputs: states(alloc, inputs)?,
+        references: StateList::new(alloc),
+    };
+    let clause = refusing(contract, tx, &resolved);
+    let_go(resolved);
+    clause
 }
 
 /// `clause CONTRACT TRANSACTION INPUTS`: the clause by which the contract refuses, or `accepted`.
@@ -65,18 +114,9 @@ pub fn clause_of(alloc: Global, values: &[&str]) -> Result<String> {
         bail!("a clause has three values")
     };
     let tx = value::<Tx>(alloc, tx)?;
-    let resolved = Resolved {
-        inputs: states(alloc, inputs)?,
-        references: StateList::new(alloc),
-    };
-    let clause = match *contract {
-        "1" => Cash.verdict(&tx, &resolved),
-        "2" => Locks.verdict(&tx, &resolved),
-        "3" => Facts.verdict(&tx, &resolved),
-        "4" => Ious.verdict(&tx, &resolved),
-        _ => bail!("no contract of that number"),
-    };
-    match clause {
+    let clause = refusing_over(alloc, contract, &tx, inputs);
+    let_go(tx);
+    match clause? {
         Some(clause) => Ok(format!(in alloc; "{clause}")?),
         None => Ok(String::from_str(alloc, "accepted")?),
     }
@@ -84,6 +124,11 @@ pub fn clause_of(alloc: Global, values: &[&str]) -> Result<String> {
 
 /// The verdict of a book of the contracts of these numbers, in this order.
 fn judged(alloc: Global, numbers: &str, tx: &Tx, resolved: &Resolved) -> Result<Verdict> {
+    ensure!(
+        resolved.inputs.len() == tx.inputs.len()
+            && resolved.references.len() == tx.references.len(),
+        "a state for each input and each reference"
+    );
     let mut contracts: Vec<BoxedContract> = Vec::new(alloc);
     for number in numbers.bytes() {
         match number {
@@ -94,12 +139,21 @@ fn judged(alloc: Global, numbers: &str, tx: &Tx, resolved: &Resolved) -> Result<
             _ => {}
         }
     }
-    ensure!(
-        resolved.inputs.len() == tx.inputs.len()
-            && resolved.references.len() == tx.references.len(),
-        "a state for each input and each reference"
-    );
     Ok(ContractBook::new(contracts).judge(tx, resolved))
+}
+
+/// The same over the states that two columns list.
+fn judged_over(
+    alloc: Global,
+    numbers: &str,
+    tx: &Tx,
+    inputs: &str,
+    references: &str,
+) -> Result<Verdict> {
+    let resolved = resolved(alloc, inputs, references)?;
+    let verdict = judged(alloc, numbers, tx, &resolved);
+    let_go(resolved);
+    verdict
 }
 
 /// `verdict CONTRACTS TRANSACTION INPUTS REFERENCES`: the verdict of a book of these contracts.
@@ -108,11 +162,9 @@ pub fn verdict_of(alloc: Global, values: &[&str]) -> Result<String> {
         bail!("a verdict has four values")
     };
     let tx = value::<Tx>(alloc, tx)?;
-    let resolved = Resolved {
-        inputs: states(alloc, inputs)?,
-        references: states(alloc, references)?,
-    };
-    Ok(match judged(alloc, contracts, &tx, &resolved)? {
+    let verdict = judged_over(alloc, contracts, &tx, inputs, references);
+    let_go(tx);
+    Ok(match verdict? {
         Verdict::Accepted => String::from_str(alloc, "accepted")?,
         Verdict::Broken { rule } => format!(in alloc; "broken {rule}")?,
         Verdict::NoContract { id } => format!(in alloc; "no-contract {id}")?,
