@@ -1,11 +1,7 @@
 pub mod Count
-pub mod CountLaws
 pub mod Ping
-pub mod PingLaws
 pub mod Probe
-pub mod ProbeLaws
 pub mod Echo
-pub mod EchoLaws
 pub mod Shipped
 pub mod Meeting
 pub mod MeetingLaws

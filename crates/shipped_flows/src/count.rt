@@ -1,7 +1,6 @@
 ghost use Rattle.std.specs.Prelude.{◌≡◌, codes};
 ghost use Rattle.std.proofs.Common.{arith};
-ghost use Rattle.shipped_flows.specs.Count.{begins, sleeps, form, places, IsCount, count, count_at};
-ghost use Rattle.shipped_flows.specs.CountLaws.{count_laws, short, are_places, begins_within, is_form};
+ghost use Rattle.shipped_flows.specs.Count.{begins, sleeps, form, places, IsCount, count, count_at, count_laws, short, are_places, begins_within, is_form};
 
 use flow_forms::{End, Goes, Machine, Numbered, Then, Worded};
 use flow_machine::{Act, Place, Resumed};

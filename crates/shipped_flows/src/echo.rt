@@ -1,6 +1,5 @@
 ghost use Rattle.std.specs.Prelude.{◌≡◌};
-ghost use Rattle.shipped_flows.specs.Echo.{answers, receives, heard, form, places, IsEcho, echo, echo_at};
-ghost use Rattle.shipped_flows.specs.EchoLaws.{echo_laws, short, are_places, answers_within, is_form};
+ghost use Rattle.shipped_flows.specs.Echo.{answers, receives, heard, form, places, IsEcho, echo, echo_at, echo_laws, short, are_places, answers_within, is_form};
 
 use flow_forms::{Answers, Goes, Machine, Numbered};
 use flow_machine::{Act, Place, Resumed};

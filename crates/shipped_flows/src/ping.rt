@@ -1,7 +1,6 @@
 ghost use Rattle.std.specs.Prelude.{◌≡◌, codes};
 ghost use Rattle.std.proofs.Common.{arith};
-ghost use Rattle.shipped_flows.specs.Ping.{begins, opens, receives, counts, form, places, IsPing, ping, ping_at};
-ghost use Rattle.shipped_flows.specs.PingLaws.{ping_laws, short, are_places, begins_within, is_form};
+ghost use Rattle.shipped_flows.specs.Ping.{begins, opens, receives, counts, form, places, IsPing, ping, ping_at, ping_laws, short, are_places, begins_within, is_form};
 
 use flow_forms::{End, Goes, Machine, Numbered, Then, Worded, is_peer};
 use flow_machine::{Act, Place, Resumed};

@@ -1,7 +1,6 @@
 ghost use Rattle.std.specs.Prelude.{◌≡◌, codes};
 ghost use Rattle.std.proofs.Common.{arith};
-ghost use Rattle.shipped_flows.specs.Probe.{begins, form, places, IsProbe, probe, probe_at};
-ghost use Rattle.shipped_flows.specs.ProbeLaws.{probe_laws, short, are_places, begins_within, is_form};
+ghost use Rattle.shipped_flows.specs.Probe.{begins, form, places, IsProbe, probe, probe_at, probe_laws, short, are_places, begins_within, is_form};
 
 use flow_forms::{End, Goes, Machine, Numbered, Then, Worded, is_peer, load_of};
 use flow_machine::{Act, Place, Resumed};
@@ -28,9 +27,7 @@ pub struct Probe {
     pub key: Option<Key>,
 }
 
-type Gone = Goes<ProbePlace, Probe>;
-
-type Moved = Result<Gone, AllocError>;
+type Moved = Result<Goes<ProbePlace, Probe>, AllocError>;
 
 impl Numbered for ProbePlace {
     ghost places = { places };
