@@ -1,0 +1,7 @@
+pub mod Words
+pub mod Options
+pub mod Orders
+pub mod Payment
+pub mod Pay
+pub mod PayLaws
+pub mod Again

@@ -1,0 +1,16 @@
+//! Flows of cash: the payment.
+//!
+//! A payment reserves coins, moves them to another node by one transaction, has that made final, and returns its id. What its words are,
+//! which transaction it makes and how it goes on are definitions in `specs/`.
+#![tactic(auto)]
+
+mod laws;
+mod options;
+mod pay;
+mod payment;
+mod words;
+
+pub use laws::{begins_by_its_words, options_in_order};
+pub use options::PayOptions;
+pub use pay::{Pay, PayArgs, PayPlace};
+pub use words::Code;
