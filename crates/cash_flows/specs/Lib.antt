@@ -4,4 +4,6 @@ pub mod Orders
 pub mod Payment
 pub mod Pay
 pub mod PayLaws
+pub mod PayWords
 pub mod Again
+pub mod Conserved

@@ -1,16 +1,36 @@
-//! What the words of a payment come to.
+//! What words come to, and what a payment does to value: laws, each the contract of a function that does nothing.
 
+ghost use Rattle.std.specs.Prelude.{codes};
+ghost use Rattle.flow_forms.specs.Ways.{by_words};
+ghost use Rattle.cash_flows.specs.Pay.{begins};
+ghost use Rattle.cash_flows.specs.PayWords.{args_of, way};
 ghost use Rattle.cash_flows.specs.Again.{BeginsByItsWords};
 ghost use Rattle.cash_flows.specs.Orders.{TakenInOrder};
+ghost use Rattle.cash_flows.specs.Conserved.{PaysInFull};
+
+use crate::pay::{Pay, PayPlace};
+use flow_forms::Worded;
 
 /// Words behind the amount are taken exactly where they are `from T`, `until T` and `using ID INDEX`, each there or not, in this order,
-/// and each can be read. It does nothing; its contract is the law.
+/// and each can be read.
 pub fn options_in_order()
     ensures { TakenInOrder }
 {}
 
-/// The bytes that the words of a payment give begin a flow by the arguments of these words, where these are in range. It does nothing;
-/// its contract is the law.
-pub fn begins_by_its_words()
-    ensures { BeginsByItsWords }
+/// The bytes that the words of a class give begin a flow by the arguments of these words, where these are in range.
+pub fn begins_by_its_words<P, S: Worded<P>>()
+    ensures { BeginsByItsWords S.name S.Args.worded S.begins (by_words S.name S.CLASS S.Args.worded S.Args.spelling S.Args.reading S.begins) }
+{}
+
+/// The same of the payment, whose words are `pay P CODE ISSUER AMOUNT` and the options.
+pub fn pay_begins_by_its_words()
+    ensures { BeginsByItsWords (codes "pay") args_of begins way }
+{
+    begins_by_its_words::<PayPlace, Pay>();
+}
+
+/// A payment of coins that reach the amount pays out in full: the amount and the rest come to what the coins are worth, where the rest
+/// is an amount, below 2^64.
+pub fn pays_in_full()
+    ensures { PaysInFull }
 {}

@@ -63,11 +63,7 @@ fn using_of(words: &[String]) -> Option<Option<StateRef>>
     }
 }
 
-fn ends_at(
-    from: Option<Moment>,
-    until: Option<Moment>,
-    more: &[String],
-) -> Option<PayOptions>
+fn ends_at(from: Option<Moment>, until: Option<Moment>, more: &[String]) -> Option<PayOptions>
     ensures { result ≡ ends_at from until (map (λ s. string_bytes s) more.now) }
 {
     match until {
