@@ -1,5 +1,5 @@
 -- The bytes that words give are read again as the arguments of these words.
-use Rattle.std.specs.Prelude.{◌≡◌, ℕ, ◌≤◌, ◌==◌, nat_le, List, [], ◌++◌, length, Option, Some, None, Result, Ok, Err, Bool, true, false, refl, if◌then◌else◌}
+use Rattle.std.specs.Prelude.{◌≡◌, ℕ, ◌≤◌, ◌==◌, nat_le, List, [], length, Option, Some, None, Result, Ok, Err, Bool, true, refl, if◌then◌else◌}
 use Rattle.std.specs.Str.{bytes_eq}
 use Rattle.std.proofs.Common.{arith, ap, sym, subst, ◌∙◌}
 use Rattle.std.proofs.lemmas.Bool.{le-leb, eq-eqb}

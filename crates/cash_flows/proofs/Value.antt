@@ -1,12 +1,12 @@
 -- A payment keeps value.
-use Rattle.std.specs.Prelude.{◌≡◌, ℕ, ◌+◌, ◌<◌, ◌≤◌, ◌^◌, nat_lt, List, [], ◌∷◌, sum_by, Bool, true, false, refl, if◌then◌else◌}
+use Rattle.std.specs.Prelude.{◌≡◌, ℕ, ◌+◌, ◌<◌, ◌≤◌, ◌^◌, nat_lt, [], ◌∷◌, sum_by, Bool, true, false, refl, if◌then◌else◌}
 use Rattle.std.proofs.Common.{arith}
 use Rattle.std.proofs.lemmas.Bool.{ltb-true, ltb-false}
 use Rattle.net_base.specs.declared.names.Token.{Token}
 use Rattle.net_base.specs.declared.values.Party.{Party}
 use Rattle.ledger_types.specs.Vaults.{cash_amount}
 use Rattle.flow_machine.specs.declared.acts.Place.{Place}
-use Rattle.cash_flows.specs.Payment.{cash, left_of, worth, payment}
+use Rattle.cash_flows.specs.Payment.{cash, left_of, worth}
 use Rattle.cash_flows.specs.Conserved.{PaysInFull}
 
 rest_adds : (here : Place) (t : Token) (to : Party) (amount sum : ℕ) (test : Bool) → nat_lt amount sum ≡ test → amount ≤ sum → sum < amount + 2 ^ 64

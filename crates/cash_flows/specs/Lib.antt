@@ -7,3 +7,4 @@ pub mod PayLaws
 pub mod PayWords
 pub mod Again
 pub mod Conserved
+pub mod Accepted

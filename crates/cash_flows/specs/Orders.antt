@@ -1,6 +1,5 @@
 -- The options of a payment in the words' own order: what is taken is exactly `from T`, `until T` and `using ID INDEX`, each there or not.
-use Rattle.std.specs.Prelude.{◌≡◌, ◌↔◌, ℕ, List, [], ◌∷◌, ◌++◌, codes, Option, Some, None, IfSome, Bool, true, false, refl, if◌then◌else◌}
-use Rattle.std.specs.Str.{bytes_eq}
+use Rattle.std.specs.Prelude.{◌≡◌, ◌↔◌, ℕ, List, [], ◌∷◌, ◌++◌, codes, Option, Some, None, IfSome}
 use Rattle.net_base.specs.declared.values.Moment.{Moment}
 use Rattle.net_base.specs.declared.names.StateRef.{StateRef}
 use Rattle.cash_flows.specs.declared.options.PayOptions.{PayOptions}

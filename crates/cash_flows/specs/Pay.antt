@@ -1,8 +1,7 @@
 -- The payment, class 4: it reserves coins, pays them to another node of the network by one transaction, and returns its id.
-use Rattle.std.specs.Prelude.{ℕ, ◌<◌, ◌^◌, ◌==◌, ◌&&◌, not, nat_lt, List, [], ◌∷◌, ◌++◌, Bool, false, Option, Some, None, IfSome, Result, if◌then◌else◌, codes}
+use Rattle.std.specs.Prelude.{ℕ, ◌<◌, ◌^◌, ◌==◌, ◌&&◌, not, nat_lt, List, [], ◌∷◌, ◌++◌, Bool, false, Option, Some, None, IfSome, Result, if◌then◌else◌}
 use Rattle.std.specs.Int.{w64}
 use Rattle.net_base.specs.declared.names.StateRef.{StateRef}
-use Rattle.net_base.specs.declared.names.Tag.{Tag}
 use Rattle.net_base.specs.declared.names.Token.{Token}
 use Rattle.net_base.specs.declared.values.Hash32.{Hash32}
 use Rattle.net_base.specs.declared.values.Party.{Party}

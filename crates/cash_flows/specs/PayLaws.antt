@@ -23,7 +23,7 @@ use Rattle.ledger_types.specs.Txs.{IsWindow, window, window_laws, IsTx}
 use Rattle.ledger_types.specs.Vaults.{IsHeld}
 use Rattle.ledger_types.proofs.Sizes.{joined, code_fits, number64_fits}
 use Rattle.flow_machine.specs.declared.acts.Resumed.TheVariants as resumed
-use Rattle.flow_machine.specs.Limits.{IsResumed, IsPlace}
+use Rattle.flow_machine.specs.Limits.{IsPlace}
 use Rattle.flow_forms.specs.declared.forms.At.TheVariants as stands
 use Rattle.flow_forms.specs.Shared.{stops_owes}
 use Rattle.flow_forms.specs.Sizes.{option_fits, hash_fits}
@@ -34,8 +34,8 @@ use Rattle.cash_flows.specs.declared.pay.PayPlace.{PayPlace}
 use Rattle.cash_flows.specs.declared.pay.PayPlace.TheVariants.{Reserving, Paying}
 use Rattle.cash_flows.specs.Words.{IsCurrency}
 use Rattle.cash_flows.specs.Options.{ArePayOptions, window_fits, reference_fits}
-use Rattle.cash_flows.specs.Payment.{cash, worth, left_of, rest_of, listed, payment}
-use Rattle.cash_flows.specs.Pay.{PayArgs, is_peer, is_in_range, fields_of, begins, reserves, reserved, paid, moves, weight, form, IsPay, pay, pay_of, pay_at, places}
+use Rattle.cash_flows.specs.Payment.{cash, worth, left_of, listed, payment}
+use Rattle.cash_flows.specs.Pay.{PayArgs, is_peer, is_in_range, fields_of, begins, reserved, paid, moves, weight, form, IsPay, pay, pay_of, pay_at, places}
 
 -- its fields' laws
 pub pay_laws : Laws IsPay pay pay_at

@@ -11,7 +11,6 @@ use Rattle.net_base.specs.Reading.{number}
 use Rattle.net_base.specs.Values.{party}
 use Rattle.ledger_types.specs.declared.state.StateData.TheVariants.{Cash}
 use Rattle.ledger_types.specs.declared.state.TxState.{TxState}
-use Rattle.ledger_types.specs.declared.tx.Command.{Command}
 use Rattle.ledger_types.specs.declared.tx.Deed.TheVariants.{CashMove}
 use Rattle.ledger_types.specs.declared.tx.Tx.{Tx}
 use Rattle.ledger_types.specs.declared.held.Held.{Held}

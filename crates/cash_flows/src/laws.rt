@@ -7,6 +7,7 @@ ghost use Rattle.cash_flows.specs.PayWords.{args_of, way};
 ghost use Rattle.cash_flows.specs.Again.{BeginsByItsWords};
 ghost use Rattle.cash_flows.specs.Orders.{TakenInOrder};
 ghost use Rattle.cash_flows.specs.Conserved.{PaysInFull};
+ghost use Rattle.cash_flows.specs.Accepted.{AcceptedByCash};
 
 use crate::pay::{Pay, PayPlace};
 use flow_forms::Worded;
@@ -33,4 +34,10 @@ pub fn pay_begins_by_its_words()
 /// is an amount, below 2^64.
 pub fn pays_in_full()
     ensures { PaysInFull }
+{}
+
+/// No clause of the contract of cash refuses a payment of at least 1 by coins of the token that this party owns, which reach the amount
+/// and exceed it by less than 2^64.
+pub fn accepted_by_cash()
+    ensures { AcceptedByCash }
 {}

@@ -10,7 +10,9 @@ mod pay;
 mod payment;
 mod words;
 
-pub use laws::{begins_by_its_words, options_in_order, pay_begins_by_its_words, pays_in_full};
+pub use laws::{
+    accepted_by_cash, begins_by_its_words, options_in_order, pay_begins_by_its_words, pays_in_full,
+};
 pub use options::PayOptions;
 pub use pay::{Pay, PayArgs, PayPlace};
 pub use words::Code;
