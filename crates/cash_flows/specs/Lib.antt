@@ -8,3 +8,4 @@ pub mod PayWords
 pub mod Again
 pub mod Conserved
 pub mod Accepted
+pub mod Reserved

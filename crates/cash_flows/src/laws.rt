@@ -8,6 +8,7 @@ ghost use Rattle.cash_flows.specs.Again.{BeginsByItsWords};
 ghost use Rattle.cash_flows.specs.Orders.{TakenInOrder};
 ghost use Rattle.cash_flows.specs.Conserved.{PaysInFull};
 ghost use Rattle.cash_flows.specs.Accepted.{AcceptedByCash};
+ghost use Rattle.cash_flows.specs.Reserved.{ReservedIsAccepted};
 
 use crate::pay::{Pay, PayPlace};
 use flow_forms::Worded;
@@ -40,4 +41,10 @@ pub fn pays_in_full()
 /// and exceed it by less than 2^64.
 pub fn accepted_by_cash()
     ensures { AcceptedByCash }
+{}
+
+/// No clause of the contract of cash refuses a payment of at least 1 by the coins that a reservation of its amount names, in a vault of
+/// states that are relevant to this party.
+pub fn reserved_is_accepted()
+    ensures { ReservedIsAccepted }
 {}
