@@ -1,5 +1,5 @@
 -- The contract of cash accepts a payment by what a reservation names.
-use Rattle.std.specs.Prelude.{◌≡◌, ℕ, ◌+◌, ◌-◌, ◌<◌, ◌≤◌, ◌^◌, ◌==◌, ◌&&◌, ◌⊎◌, List, [], ◌∷◌, take, option_map, bytes_eq, Bool, true, false, cond, Option, Some, None, refl, if◌then◌else◌}
+use Rattle.std.specs.Prelude.{◌≡◌, ℕ, ◌+◌, ◌-◌, ◌<◌, ◌≤◌, ◌^◌, ◌==◌, ◌⊎◌, List, [], ◌∷◌, take, option_map, bytes_eq, Bool, true, false, cond, Option, Some, None, refl, if◌then◌else◌}
 use Rattle.std.specs.List.{AllByRecursion}
 use Rattle.std.proofs.Common.{arith, sym, subst, inl, inr}
 use Rattle.std.proofs.lemmas.Bool.{and_parts, eqb-true, eqb-false, cases_lt}
@@ -13,7 +13,7 @@ use Rattle.ledger_types.specs.declared.state.StateData.{StateData}
 use Rattle.ledger_types.specs.declared.state.StateData.TheVariants.{Cash}
 use Rattle.ledger_types.specs.Names.{party_eq, token_eq}
 use Rattle.ledger_types.specs.States.{IsStateData}
-use Rattle.ledger_types.specs.Vaults.{IsHeld, is_relevant, is_cash_of, is_coin_of, is_free, cash_amount, coins_of, least_prefix, reserved}
+use Rattle.ledger_types.specs.Vaults.{IsHeld, is_relevant, is_cash_of, is_coin_of, is_free, cash_amount, coins_of, least_prefix}
 use Rattle.cash_flows.specs.Payment.{worth}
 use Rattle.cash_flows.specs.Accepted.{IsOwn}
 use Rattle.cash_flows.specs.Reserved.{ReservedIsAccepted}

@@ -8,7 +8,7 @@ ghost use Rattle.cash_flows.specs.PayLaws.{pay_laws, are_places, short, is_form,
 use crate::options::PayOptions;
 use crate::payment::payment;
 use crate::words::Code;
-use flow_forms::{Call, Goes, Machine, Numbered, Then, Worded};
+use flow_forms::{ByWords, Call, Frame, Goes, Machine, Numbered, Then, Worded};
 use flow_machine::{Act, Place, Resumed};
 use ledger_types::{Held, Value, Window};
 use net_base::{
@@ -16,8 +16,12 @@ use net_base::{
 };
 use std::alloc::{AllocError, Global};
 
-/// The arguments of a payment, in the order of their words: the payee, the code, the issuer, the amount, and the options.
+/// The arguments of a payment, in the order of their words: the payee, the code, the issuer, the amount, and the options. A flow begins where the payee
+/// is another node of the network, the issuer is at most 15 and the amount at least 1.
 pub type PayArgs = Then<u8, Then<Code, Then<u8, Then<u64, PayOptions>>>>;
+
+/// A payment's frame, as a flow set has it: its flows begin by words.
+pub type PayFrame = Frame<PayPlace, Pay, ByWords>;
 
 /// Where a payment waits.
 #[derive(Clone, Copy, Debug, PartialEq, Eq)]
