@@ -31,7 +31,7 @@ given number class spelling (Some a) bytes e =
 
 pub begins_again : {A S : Type 0} {argued : A → Type 0} {exact : Type 0} (name : List ℕ) (number most : ℕ) (words : List (List ℕ) → Option A) (spelling : A → List ℕ) (reading : List ℕ → Result (A × List ℕ) ℕ) (begins : A → Place → Option S)
     → LawsIf exact argued spelling reading → ((given : List (List ℕ)) (a : A) → words given ≡ Some a → argued a) → ((a : A) → argued a → length (spelling a) ≤ most) → most ≤ 65535
-    → BeginsByItsWords name words begins (by_words name number words spelling reading begins)
+    → BeginsByItsWords name number words spelling reading begins
 begins_again {A} {S} name number most words spelling reading begins laws are few fit asked class bytes here e =
     let named : bytes_eq name name ≡ true = (bytes_eq-Decides name name).1 refl in
     let unnamed : Result (ℕ × List ℕ) WordFault = Err word.UnknownClass in

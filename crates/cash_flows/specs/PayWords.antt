@@ -1,16 +1,13 @@
 -- The words of a payment, `pay P CODE ISSUER AMOUNT` and options, and the bytes of its arguments.
-use Rattle.std.specs.Prelude.{ℕ, ◌^◌, List, [], ◌∷◌, ◌++◌, codes, Option, Result}
+use Rattle.std.specs.Prelude.{ℕ, ◌^◌, List, [], ◌∷◌, ◌++◌, Option, Result}
 use Rattle.std.specs.Int.{w64}
 use Rattle.net_base.specs.Reading.{number}
 use Rattle.net_base.specs.Forms.{byte_at, number_at}
 use Rattle.net_base.specs.Combining.{mapped_at, pair_at}
 use Rattle.flow_forms.specs.Arguments.{then_of, then_words, word_below}
-use Rattle.flow_forms.specs.Ways.{by_words}
-use Rattle.flow_forms.specs.Usual.{Way}
-use Rattle.cash_flows.specs.declared.pay.Pay.{Pay}
 use Rattle.cash_flows.specs.Words.{code_of_word, code, code_at}
 use Rattle.cash_flows.specs.Options.{options_of, pay_options, pay_options_at}
-use Rattle.cash_flows.specs.Pay.{PayArgs, begins}
+use Rattle.cash_flows.specs.Pay.{PayArgs}
 
 -- `P CODE ISSUER AMOUNT`, and the options
 abbrev pub args_of : List (List ℕ) → Option PayArgs
@@ -23,7 +20,3 @@ args a = (a.first ∷ []) ++ (code a.rest.first ++ ((a.rest.rest.first ∷ []) +
 -- reading them
 abbrev pub args_at : List ℕ → Result (PayArgs × List ℕ) ℕ
 args_at bytes = mapped_at then_of (pair_at byte_at (mapped_at then_of (pair_at code_at (mapped_at then_of (pair_at byte_at (mapped_at then_of (pair_at (number_at w64) pay_options_at))))))) bytes
-
--- class 4, `pay`
-abbrev pub way : Way Pay
-way = by_words (codes "pay") 4 args_of args args_at begins

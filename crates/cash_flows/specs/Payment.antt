@@ -42,6 +42,10 @@ left_of sum amount = min (sum - amount) (2 ^ 64 - 1)
 abbrev pub rest_of : Place → Token → ℕ → ℕ → List TxState
 rest_of here token amount sum = if nat_lt amount sum then cash here token (left_of sum amount) here.me ∷ [] else []
 
+-- the amount for the payee, and the rest
+abbrev pub outputs_of : Pay → ℕ → Place → List TxState
+outputs_of p sum here = cash here p.token p.amount p.to ∷ rest_of here p.token p.amount sum
+
 -- a reference that is named, as a list
 abbrev pub listed : Option StateRef → List StateRef
 listed None = []
@@ -52,7 +56,7 @@ abbrev pub payment : Pay → List Held → Place → Tx
 payment p coins here = record {
   salt = salt_of here;
   inputs = map (λ h. h.reference) coins;
-  outputs = cash here p.token p.amount p.to ∷ rest_of here p.token p.amount (worth coins);
+  outputs = outputs_of p (worth coins) here;
   commands = record { deed = CashMove; signers = alone here.me } ∷ [];
   attachments = [];
   notary = Some here.notary;

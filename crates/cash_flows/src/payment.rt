@@ -5,7 +5,7 @@ ghost use Rattle.ledger_types.specs.declared.tx.Deed.TheVariants.{CashMove};
 ghost use Rattle.net_base.specs.Values.{IsParty};
 ghost use Rattle.flow_machine.specs.Limits.{IsPlace};
 ghost use Rattle.ledger_types.specs.Vaults.{cash_amount};
-ghost use Rattle.cash_flows.specs.Payment.{salt_of, alone, cash, worth, left_of, rest_of, listed, payment};
+ghost use Rattle.cash_flows.specs.Payment.{salt_of, alone, cash, worth, left_of, outputs_of, listed, payment};
 
 use crate::pay::Pay;
 use component_merkle::digest;
@@ -97,7 +97,7 @@ fn references(alloc: Global, coins: &[Held]) -> Result<RefList, AllocError>
 
 /// The amount for the payee, and the rest for this party where there is one.
 fn outputs(alloc: Global, pay: &Pay, sum: u128, here: &Place) -> Result<StateList, AllocError>
-    ensures { IfOk result (λ l. l ≡ cash here.entry.now pay.now.token pay.now.amount pay.now.to ∷ rest_of here.entry.now pay.now.token pay.now.amount sum) }
+    ensures { IfOk result (λ l. l ≡ outputs_of pay.now sum here.entry.now) }
 {
     let paid = cash(here, pay.token, pay.amount, pay.to);
     if (pay.amount as u128) < sum {
