@@ -13,7 +13,7 @@ use Rattle.flow_machine.specs.declared.flow_set.MakeFault.{MakeFault}
 use Rattle.flow_machine.specs.declared.flow_set.MakeFault.TheVariants as make
 use Rattle.flow_forms.specs.Arguments.{spelt_in}
 use Rattle.flow_forms.specs.Ways.{words_of, fields_of, begins_of, by_words}
-use Rattle.cash_flows.specs.Again.{BeginsByItsWords}
+use Rattle.cash_flows.specs.Again.{BeginsByWords}
 
 -- arguments within their limits, which are short, are read from their bytes
 read_again : {A : Type 0} {argued : A → Type 0} {exact : Type 0} (spelling : A → List ℕ) (reading : List ℕ → Result (A × List ℕ) ℕ) (a : A) → LawsIf exact argued spelling reading → argued a → length (spelling a) ≤ 65535 → spelt_in reading (spelling a) ≡ Ok a
@@ -31,7 +31,7 @@ given number class spelling (Some a) bytes e =
 
 pub begins_again : {A S : Type 0} {argued : A → Type 0} {exact : Type 0} (name : List ℕ) (number most : ℕ) (words : List (List ℕ) → Option A) (spelling : A → List ℕ) (reading : List ℕ → Result (A × List ℕ) ℕ) (begins : A → Place → Option S)
     → LawsIf exact argued spelling reading → ((given : List (List ℕ)) (a : A) → words given ≡ Some a → argued a) → ((a : A) → argued a → length (spelling a) ≤ most) → most ≤ 65535
-    → BeginsByItsWords name number words spelling reading begins
+    → BeginsByWords name number words spelling reading begins
 begins_again {A} {S} name number most words spelling reading begins laws are few fit asked class bytes here e =
     let named : bytes_eq name name ≡ true = (bytes_eq-Decides name name).1 refl in
     let unnamed : Result (ℕ × List ℕ) WordFault = Err word.UnknownClass in

@@ -3,7 +3,7 @@
 ghost use Rattle.std.specs.Prelude.{codes};
 ghost use Rattle.cash_flows.specs.Pay.{begins};
 ghost use Rattle.cash_flows.specs.PayWords.{args_of, args, args_at};
-ghost use Rattle.cash_flows.specs.Again.{BeginsByItsWords};
+ghost use Rattle.cash_flows.specs.Again.{BeginsByWords};
 ghost use Rattle.cash_flows.specs.Orders.{TakenInOrder};
 ghost use Rattle.cash_flows.specs.Conserved.{PaysInFull};
 ghost use Rattle.cash_flows.specs.Accepted.{AcceptedByCash};
@@ -20,12 +20,12 @@ pub fn options_in_order()
 
 /// The bytes that the words of a class give begin a flow by the arguments of these words, where these are in range.
 pub fn begins_by_its_words<P, S: Worded<P>>()
-    ensures { BeginsByItsWords S.name S.CLASS S.Args.worded S.Args.spelling S.Args.reading S.begins }
+    ensures { BeginsByWords S.name S.CLASS S.Args.worded S.Args.spelling S.Args.reading S.begins }
 {}
 
 /// The same of the payment, whose words are `pay P CODE ISSUER AMOUNT` and the options.
 pub fn pay_begins_by_its_words()
-    ensures { BeginsByItsWords (codes "pay") 4 args_of args args_at begins }
+    ensures { BeginsByWords (codes "pay") 4 args_of args args_at begins }
 {
     begins_by_its_words::<PayPlace, Pay>();
 }
