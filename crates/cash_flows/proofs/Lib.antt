@@ -1,0 +1,5 @@
+pub mod Taken
+pub mod Given
+pub mod Value
+pub mod Accepting
+pub mod Reserving

@@ -1,0 +1,11 @@
+pub mod Words
+pub mod Options
+pub mod Orders
+pub mod Payment
+pub mod Pay
+pub mod PayLaws
+pub mod PayWords
+pub mod Again
+pub mod Conserved
+pub mod Accepted
+pub mod Reserved

@@ -1,0 +1,49 @@
+//! What words come to, and what a payment does to value: laws, each the contract of a function that does nothing.
+
+ghost use Rattle.std.specs.Prelude.{codes};
+ghost use Rattle.cash_flows.specs.Pay.{begins};
+ghost use Rattle.cash_flows.specs.PayWords.{args_of, args, args_at};
+ghost use Rattle.cash_flows.specs.Again.{BeginsByWords};
+ghost use Rattle.cash_flows.specs.Orders.{TakenInOrder};
+ghost use Rattle.cash_flows.specs.Conserved.{PaysInFull};
+ghost use Rattle.cash_flows.specs.Accepted.{AcceptedByCash};
+ghost use Rattle.cash_flows.specs.Reserved.{ReservedIsAccepted};
+
+use crate::pay::{Pay, PayPlace};
+use flow_forms::Worded;
+
+/// Words behind the amount are taken exactly where they are `from T`, `until T` and `using ID INDEX`, each there or not, in this order,
+/// and each can be read.
+pub fn options_in_order()
+    ensures { TakenInOrder }
+{}
+
+/// The bytes that the words of a class give begin a flow by the arguments of these words, where these are in range.
+pub fn begins_by_its_words<P, S: Worded<P>>()
+    ensures { BeginsByWords S.name S.CLASS S.Args.worded S.Args.spelling S.Args.reading S.begins }
+{}
+
+/// The same of the payment, whose words are `pay P CODE ISSUER AMOUNT` and the options.
+pub fn pay_begins_by_its_words()
+    ensures { BeginsByWords (codes "pay") 4 args_of args args_at begins }
+{
+    begins_by_its_words::<PayPlace, Pay>();
+}
+
+/// A payment of coins that reach the amount pays out in full: the amount and the rest come to what the coins are worth, where the rest
+/// is an amount, below 2^64.
+pub fn pays_in_full()
+    ensures { PaysInFull }
+{}
+
+/// No clause of the contract of cash refuses a payment of at least 1 by coins of the token that this party owns, which reach the amount
+/// and exceed it by less than 2^64.
+pub fn accepted_by_cash()
+    ensures { AcceptedByCash }
+{}
+
+/// No clause of the contract of cash refuses a payment of at least 1 by the coins that a reservation of its amount names, in a vault of
+/// states that are relevant to this party.
+pub fn reserved_is_accepted()
+    ensures { ReservedIsAccepted }
+{}

@@ -1,0 +1,264 @@
+//! The payment.
+
+ghost use Rattle.std.specs.Prelude.{◌≡◌, IfOk};
+ghost use Rattle.flow_machine.specs.Limits.{IsPlace};
+ghost use Rattle.cash_flows.specs.Pay.{is_peer, is_in_range, fields_of, begins, reserves, pays, reserved, paid, moves, weight, form, IsPay, pay, pay_at, places};
+ghost use Rattle.cash_flows.specs.PayLaws.{pay_laws, are_places, short, is_form, begins_within};
+
+use crate::options::PayOptions;
+use crate::payment::payment;
+use crate::words::Code;
+use flow_forms::{ByWords, Call, Frame, Goes, Machine, Numbered, Then, Worded};
+use flow_machine::{Act, Place, Resumed};
+use ledger_types::{Held, Value, Window};
+use net_base::{
+    Boxed, Hash32, ListOf, PartFault, Party, Reader, Spelt, StateRef, Token, TryCopy, Writer,
+};
+use std::alloc::{AllocError, Global};
+
+/// The arguments of a payment, in the order of their words: the payee, the code, the issuer, the amount, and the options. A flow begins where the payee
+/// is another node of the network, the issuer is at most 15 and the amount at least 1.
+pub type PayArgs = Then<u8, Then<Code, Then<u8, Then<u64, PayOptions>>>>;
+
+/// A payment's frame, as a flow set has it: its flows begin by words.
+pub type PayFrame = Frame<PayPlace, Pay, ByWords>;
+
+/// Where a payment waits.
+#[derive(Clone, Copy, Debug, PartialEq, Eq)]
+pub enum PayPlace {
+    /// On the reservation of coins.
+    Reserving,
+    /// On finality, which it called.
+    Paying,
+}
+
+/// The payment, class 4, `pay P CODE ISSUER AMOUNT` and options: it reserves coins of the token, pays the amount to another node of the
+/// network and the rest to this one, and returns the transaction's id. It fails with 47 where there are too few coins.
+#[derive(Clone, Copy, Debug, PartialEq, Eq)]
+pub struct Pay {
+    /// The payee.
+    pub to: Party,
+    pub token: Token,
+    /// At least 1 in each payment that words begin.
+    pub amount: u64,
+    /// The window of the transaction.
+    pub window: Option<Window>,
+    /// A state that the transaction refers to and leaves.
+    pub reference: Option<StateRef>,
+    /// The transaction, once it is final.
+    pub id: Option<Hash32>,
+}
+
+type Gone = Goes<PayPlace, Pay>;
+
+type Moved = Result<Gone, AllocError>;
+
+fn is_peer(to: u8, here: &Place) -> bool
+    ensures { result ≡ is_peer to here.entry.now }
+{
+    to < here.nodes && to != here.me.0
+}
+
+fn is_in_range(args: &PayArgs, here: &Place) -> bool
+    ensures { result ≡ is_in_range args.now here.entry.now }
+{
+    let issuer = args.rest.rest.first;
+    let amount = args.rest.rest.rest.first;
+    is_peer(args.first, here) && (issuer < 16 && amount > 0)
+}
+
+fn fields_of(args: &PayArgs) -> Pay
+    ensures { result ≡ fields_of args.now }
+{
+    let options = &args.rest.rest.rest.rest;
+    Pay {
+        to: Party(args.first),
+        token: Token {
+            issuer: Party(args.rest.rest.first),
+            code: args.rest.first.0,
+        },
+        amount: args.rest.rest.rest.first,
+        window: options.window,
+        reference: options.reference,
+        id: None,
+    }
+}
+
+impl Pay {
+    fn reserves(self) -> Gone
+        ensures { result ≡ reserves self }
+    {
+        let act = Act::Reserve {
+            token: self.token,
+            amount: self.amount,
+        };
+        Goes::on(PayPlace::Reserving, self, act)
+    }
+
+    fn pays(self, alloc: Global, coins: &[Held], here: &Place) -> Moved
+        requires { IsPlace here.now }
+        ensures { IfOk result (λ g. g ≡ pays self coins.now here.entry.now) }
+    {
+        let frame = Call::Finality {
+            tx: Boxed::new(alloc, payment(alloc, &self, coins, here)?)?,
+            peers: ListOf::from_slice(alloc, &[self.to])?,
+        };
+        Ok(Goes::on(PayPlace::Paying, self, Act::Sub { frame }))
+    }
+
+    fn reserved(self, alloc: Global, with: &Resumed, here: &Place) -> Moved
+        requires { IsPlace here.now }
+        ensures { IfOk result (λ g. g ≡ reserved self with.now here.entry.now) }
+    {
+        match with {
+            Resumed::Coins { list } => self.pays(alloc, list.as_slice(), here),
+            Resumed::Short { .. } => Ok(Goes::stops(self, 47)),
+            _ => Ok(Goes::unnamed(self, with)),
+        }
+    }
+
+    fn paid(self, with: &Resumed) -> Gone
+        ensures { result ≡ paid self with.now }
+    {
+        match with {
+            Resumed::Returned {
+                value: Value::Id(id),
+            } => Goes::ends(
+                Pay {
+                    id: Some(*id),
+                    ..self
+                },
+                Value::Id(*id),
+            ),
+            _ => Goes::unnamed(self, with),
+        }
+    }
+}
+
+impl Numbered for PayPlace {
+    ghost places = { places };
+
+    ghost are_places = { are_places };
+
+    fn number(self) -> u8 {
+        match self {
+            PayPlace::Reserving => 1,
+            PayPlace::Paying => 2,
+        }
+    }
+
+    fn all() -> &'static [PayPlace] {
+        &[PayPlace::Reserving, PayPlace::Paying]
+    }
+
+    fn last() -> u8 {
+        3
+    }
+
+    fn callable() -> bool {
+        false
+    }
+}
+
+#[tactic(auto, unfolding(crate::specs::Pay::pay_at))]
+impl Spelt for Pay {
+    ghost spelling = { pay };
+
+    ghost within = { IsPay };
+
+    ghost reading = { pay_at };
+
+    ghost laws = { pay_laws };
+
+    fn read_part(alloc: Global, from: &mut Reader) -> Result<Pay, PartFault> {
+        Ok(Pay {
+            to: Spelt::read_part(alloc, from)?,
+            token: Spelt::read_part(alloc, from)?,
+            amount: Spelt::read_part(alloc, from)?,
+            window: Spelt::read_part(alloc, from)?,
+            reference: Spelt::read_part(alloc, from)?,
+            id: Spelt::read_part(alloc, from)?,
+        })
+    }
+
+    fn write_part(&self, alloc: Global, out: &mut Writer) -> Result<(), AllocError> {
+        self.to.write_part(alloc, out)?;
+        self.token.write_part(alloc, out)?;
+        self.amount.write_part(alloc, out)?;
+        self.window.write_part(alloc, out)?;
+        self.reference.write_part(alloc, out)?;
+        self.id.write_part(alloc, out)?;
+        Ok(())
+    }
+}
+
+impl TryCopy for Pay {
+    fn try_copy(&self, _alloc: Global) -> Result<Pay, AllocError> {
+        Ok(*self)
+    }
+}
+
+impl Machine<PayPlace> for Pay {
+    ghost form = { form };
+
+    ghost MACHINE = { 4 };
+
+    ghost is_form = { is_form };
+
+    ghost short = { short };
+
+    const MACHINE: u8 = 4;
+
+    fn start(self, _alloc: Global, _here: &Place) -> Moved {
+        Ok(self.reserves())
+    }
+
+    fn resume(self, alloc: Global, place: PayPlace, with: &Resumed, here: &Place) -> Moved {
+        match place {
+            PayPlace::Reserving => self.reserved(alloc, with, here),
+            PayPlace::Paying => Ok(self.paid(with)),
+        }
+    }
+
+    fn weight(&self, place: PayPlace) -> u64 {
+        match place {
+            PayPlace::Reserving => 4873,
+            PayPlace::Paying => 1,
+        }
+    }
+
+    fn called(&self) -> u64 {
+        4874
+    }
+}
+
+impl Worded<PayPlace> for Pay {
+    ghost use Rattle.std.specs.Prelude.{codes};
+    ghost use Rattle.std.proofs.Common.{arith};
+
+    type Args = PayArgs;
+
+    ghost name = { codes "pay" };
+
+    ghost CLASS = { 4 };
+
+    ghost begins = { begins };
+
+    ghost args_fit = { omega arith };
+
+    ghost begins_within = { begins_within };
+
+    const CLASS: u16 = 4;
+
+    fn is_named(word: &str) -> bool {
+        word == "pay"
+    }
+
+    fn begin(args: PayArgs, here: &Place) -> Option<Pay> {
+        if is_in_range(&args, here) {
+            Some(fields_of(&args))
+        } else {
+            None
+        }
+    }
+}
