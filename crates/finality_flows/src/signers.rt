@@ -49,12 +49,7 @@ fn others_below(
 
 /// The signers beside these two, ascending.
 #[tactic(auto, unfolding(net_base::specs::Parties::members))]
-fn others(
-    alloc: Global,
-    signers: PartySet,
-    me: Party,
-    notary: Party,
-) -> Result<Vec<u8>, AllocError>
+fn others(alloc: Global, signers: PartySet, me: Party, notary: Party) -> Result<Vec<u8>, AllocError>
     ensures { IfOk result (λ v. v.items ≡ filter (λ p. not (p == me.0) && not (p == notary.0)) (members signers)) }
 {
     others_below(alloc, signers, me, notary, 16)

@@ -41,11 +41,7 @@ pub(crate) fn with_tag(alloc: Global, tag: Tag, tags: &TagList) -> Result<TagLis
 {
     let mut all = tags_below(alloc, tag.by, tags.as_slice())?;
     all.push(tag)?;
-    Ok(ListOf::from_vec(push_above(
-        all,
-        tag.by,
-        tags.as_slice(),
-    )?))
+    Ok(ListOf::from_vec(push_above(all, tag.by, tags.as_slice())?))
 }
 
 /// The tag of the party.

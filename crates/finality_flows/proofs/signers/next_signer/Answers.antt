@@ -1,4 +1,4 @@
-use Rattle.std.proofs.Common.{◌≡◌, ◌==◌, ◌&&◌, not, filter, slice_get, ℕ, List, ap, ◌∙◌}
+use Rattle.std.proofs.Common.{◌==◌, ◌&&◌, not, filter, slice_get, ℕ, List, ap, ◌∙◌}
 use Rattle.finality_flows.specs.Finality.{others}
 use Rattle.finality_flows.proofs.signers.next_signer.Goals as goal
 

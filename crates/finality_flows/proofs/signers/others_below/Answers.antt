@@ -1,4 +1,4 @@
-use Rattle.std.proofs.Common.{◌≡◌, ◌==◌, ◌&&◌, not, cond, List, ℕ, [], ◌∷◌, ◌++◌, sym, ◌∙◌}
+use Rattle.std.proofs.Common.{◌==◌, ◌&&◌, not, cond, [], ◌∷◌, ◌++◌, sym, ◌∙◌}
 use Rattle.net_base.specs.Parties.{has_party}
 use Rattle.finality_flows.proofs.Ranges.{others_more}
 use Rattle.finality_flows.proofs.signers.others_below.Goals as goal

@@ -1,4 +1,4 @@
-use Rattle.std.proofs.Common.{◌≡◌, slice_get, IfOk, Option, ℕ, ap, sym, subst, ◌∙◌}
+use Rattle.std.proofs.Common.{◌≡◌, slice_get, IfOk, Option, ℕ, ap, subst, ◌∙◌}
 use Rattle.ledger_types.specs.declared.tx.SignedTx.{SignedTx}
 use Rattle.finality_flows.specs.Finality.{others, asks_signer}
 use Rattle.finality_flows.proofs.finality.Finality.signs_on.Goals as goal
