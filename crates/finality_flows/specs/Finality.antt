@@ -47,9 +47,13 @@ begins f = On Verifying f (act.Verify f.stx.tx)
 abbrev pub tagged : Tag → Finality → Finality
 tagged t f = record f { stx = record f.stx { tags = with_tag t f.stx.tags } }
 
+-- whether the party is neither of the two
+abbrev pub is_neither : Party → Party → ℕ → Bool
+is_neither me notary p = not (p == me.0) && not (p == notary.0)
+
 -- the parties that have to sign beside this one and the notary, ascending
 unfoldable pub others : Tx → Place → List ℕ
-others tx here = filter (λ p. not (p == here.me.0) && not (p == here.notary.0)) (needed tx)
+others tx here = filter (is_neither here.me here.notary) (needed tx)
 
 -- to place 6: the transaction is recorded
 abbrev pub records : Finality → Goes FinalityPlace Finality

@@ -48,7 +48,7 @@ use Rattle.finality_flows.specs.declared.finality.Finality.{Finality}
 use Rattle.finality_flows.specs.declared.finality.FinalityPlace.{FinalityPlace}
 use Rattle.finality_flows.specs.declared.finality.FinalityPlace.TheVariants.{Verifying, Signing, OpeningSigner, ReceivingTags, Notarising, Recording, OpeningPeer, Serving, LookingUp, SendingTx}
 use Rattle.finality_flows.specs.Tagging.{with_tag, with_within, with_passes, range_below, needed_few}
-use Rattle.finality_flows.specs.Finality.{first, tagged, others, records, asks_notary_with, notarises, asks_signer, signs_on, verified, signed, signer_opened, is_asked_for, collected, answered, notarised, peer_at, tells_peer, recorded, serves, peer_opened, looks_up, served, sends, looked_up, sent, moves, serving, signing, weight, tags, form, IsFinality, finality, finality_of, finality_at, places}
+use Rattle.finality_flows.specs.Finality.{first, tagged, is_neither, others, records, asks_notary_with, notarises, asks_signer, signs_on, verified, signed, signer_opened, is_asked_for, collected, answered, notarised, peer_at, tells_peer, recorded, serves, peer_opened, looks_up, served, sends, looked_up, sent, moves, serving, signing, weight, tags, form, IsFinality, finality, finality_of, finality_at, places}
 
 -- its fields' laws
 pub finality_laws : Laws IsFinality finality finality_at
@@ -83,11 +83,11 @@ torn_within tx h = built_within tx (tx_id tx) (torn_from tx.salt.0 0 (groups tx)
 -- the other signers are parties, at most sixteen
 others_are : (tx : Tx) (here : Place) → AllByRecursion (λ p. p < 16) (others tx here)
 unfolding others
-others_are tx here = all_kept (λ p. p < 16) (λ p. not (p == here.me.0) && not (p == here.notary.0)) (needed tx) (all_kept (λ p. p < 16) (needs tx) (range_with_len 0 16) (range_below 16 0 16 (omega arith)))
+others_are tx here = all_kept (λ p. p < 16) (is_neither here.me here.notary) (needed tx) (all_kept (λ p. p < 16) (needs tx) (range_with_len 0 16) (range_below 16 0 16 (omega arith)))
 
 others_few : (tx : Tx) (here : Place) → length (others tx here) ≤ 16
 unfolding others
-others_few tx here = omega (arith, filter_length (λ p. not (p == here.me.0) && not (p == here.notary.0)) (needed tx), needed_few tx)
+others_few tx here = omega (arith, filter_length (is_neither here.me here.notary) (needed tx), needed_few tx)
 
 -- the next one is before the sixteenth
 next_few : (tx : Tx) (here : Place) (n p : ℕ) → slice_get (others tx here) n ≡ Some p → n < 16

@@ -119,7 +119,7 @@ impl Finality {
         requires place { IsPlace here.now }
         ensures { IfOk result (λ g. g ≡ signs_on self here.entry.now) }
     {
-        let signer = next_signer(alloc, &self.stx.get().tx, self.asked, here)?;
+        let signer = next_signer(&self.stx.get().tx, self.asked, here);
         self.asks_signer(alloc, signer, here)
     }
 
@@ -253,7 +253,7 @@ impl Finality {
         requires place { IsPlace here.now }
         ensures { IfOk result (λ g. g ≡ collects tag self here.entry.now) }
     {
-        let signer = next_signer(alloc, &self.stx.get().tx, self.asked, here)?;
+        let signer = next_signer(&self.stx.get().tx, self.asked, here);
         if self.is_asked_for(signer, &tag) {
             let asked = self.asked.saturating_add(1);
             let tagged = self.tagged(alloc, tag)?;

@@ -7,5 +7,5 @@ pub returns : goal.returns
 returns c =
     let f = c.args.self in
     let here = c.args.here.now in
-    let e : c.in_ok-signer.signer ≡ slice_get (others f.stx.tx here) f.asked = c.in_ok-signer.ensures ∙ ap (λ (s : SignedTx). slice_get (others s.tx here) f.asked) c.get.ensures in
+    let e : c.next_signer-signer.result ≡ slice_get (others f.stx.tx here) f.asked = c.next_signer-signer.ensures ∙ ap (λ (s : SignedTx). slice_get (others s.tx here) f.asked) c.get.ensures in
     subst (λ (o : Option ℕ). IfOk c.asks_signer.result (λ g. g ≡ asks_signer o f here)) e c.asks_signer.ensures
