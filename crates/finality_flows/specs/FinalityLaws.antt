@@ -1,5 +1,5 @@
 -- The laws of finality.
-use Rattle.std.specs.Prelude.{◌≡◌, ℕ, ◌+◌, ◌-◌, ◌≤◌, ◌<◌, ◌==◌, ◌&&◌, List, [], ◌∷◌, ◌++◌, length, find, slice_get, Bool, true, false, not, refl, Option, Some, None, IfSome, nat_lt, nat_le, if◌then◌else◌}
+use Rattle.std.specs.Prelude.{◌≡◌, ℕ, ◌+◌, ◌-◌, ◌≤◌, ◌<◌, ◌==◌, List, [], ◌∷◌, ◌++◌, length, find, slice_get, Bool, true, false, refl, Option, Some, None, IfSome, nat_lt, nat_le, if◌then◌else◌}
 use Rattle.std.specs.List.{list_all, AllByRecursion, range_with_len}
 use Rattle.std.specs.Int.{w16}
 use Rattle.std.proofs.Common.{arith, subst}

@@ -20,34 +20,34 @@ use std::alloc::{AllocError, Global};
 #[derive(Clone, Copy, Debug, PartialEq, Eq)]
 pub enum FinalityPlace {
     /// On the verdict.
-    Verifying,
+    Verifying = 1,
     /// On this party's tag.
-    Signing,
+    Signing = 2,
     /// On a session with the signer that is asked next, by class 22.
-    OpeningSigner,
+    OpeningSigner = 3,
     /// On that signer's tag.
-    ReceivingTags,
+    ReceivingTags = 4,
     /// On the notary's answer, by the notary client.
-    Notarising,
+    Notarising = 5,
     /// On the transaction being recorded.
-    Recording,
+    Recording = 6,
     /// On a session with the peer that is told next, by class 21.
-    OpeningPeer,
+    OpeningPeer = 7,
     /// On the id of a transaction that the peer lacks, or on its end.
-    Serving,
+    Serving = 8,
     /// On that transaction.
-    LookingUp,
+    LookingUp = 9,
     /// On its being sent.
-    SendingTx,
+    SendingTx = 10,
 }
 
-/// The fields of the finality flow. It has the transaction judged, signs it, has it signed by each other party that has to sign, in
-/// ascending order, and by the notary, records it, and shows it to the peers in their order; to each it sends the transactions that it
-/// asks for. It returns the id.
+/// The fields of the finality flow (Corda 4 documentation, "Flow library", `FinalityFlow`). It has the transaction judged, signs it, has
+/// it signed by each other party that has to sign, in ascending order, and by the notary, records it, and shows it to the peers in their
+/// order; to each it sends the transactions that it asks for. It returns the id.
 ///
 /// It fails with 31 to 33 where the transaction is not accepted, 35 where a peer asks for what is not recorded here, 41 to 45 where the
-/// notary refuses, 50 to 52 where a session goes wrong, 54 where an answer is not what was asked for, and 62 after 512 requests. What
-/// was recorded stays recorded then.
+/// notary refuses, 50 to 52 where a session goes wrong, 62 at the 513th request, by the reason of an act that was refused, and else 54.
+/// What was recorded stays recorded then.
 #[derive(Debug, Drop)]
 pub struct Finality {
     /// The transaction with the tags so far.
@@ -97,18 +97,7 @@ impl Numbered for FinalityPlace {
     ghost are_places = { are_places };
 
     fn number(self) -> u8 {
-        match self {
-            FinalityPlace::Verifying => 1,
-            FinalityPlace::Signing => 2,
-            FinalityPlace::OpeningSigner => 3,
-            FinalityPlace::ReceivingTags => 4,
-            FinalityPlace::Notarising => 5,
-            FinalityPlace::Recording => 6,
-            FinalityPlace::OpeningPeer => 7,
-            FinalityPlace::Serving => 8,
-            FinalityPlace::LookingUp => 9,
-            FinalityPlace::SendingTx => 10,
-        }
+        self as u8
     }
 
     fn all() -> &'static [FinalityPlace] {

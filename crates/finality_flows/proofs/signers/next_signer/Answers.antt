@@ -1,4 +1,4 @@
-use Rattle.std.proofs.Common.{◌≡◌, filter, slice_get, ℕ, List, ap, ◌∙◌}
+use Rattle.std.proofs.Common.{filter, slice_get, ℕ, List, ap, ◌∙◌}
 use Rattle.std.specs.List.{range_with_len}
 use Rattle.net_base.specs.Parties.{has_party, members}
 use Rattle.finality_flows.specs.Finality.{is_neither, others}

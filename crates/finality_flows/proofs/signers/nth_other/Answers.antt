@@ -1,4 +1,4 @@
-use Rattle.std.proofs.Common.{◌≡◌, ◌&&◌, ℕ, List, filter, slice_get, rules, tests, arith, ap, sym, ◌∙◌}
+use Rattle.std.proofs.Common.{◌&&◌, ℕ, filter, slice_get, rules, tests, arith, ap, sym, ◌∙◌}
 use Rattle.std.specs.List.{range_with_len}
 use Rattle.std.proofs.lemmas.Iterator.{YieldsList-from_range}
 use Rattle.std.proofs.lemmas.Iterator.Adapters.{option_map_id}
