@@ -1,14 +1,17 @@
 -- Finality: the transaction is judged, signed by all who have to sign it, notarised, recorded, and shown to the peers.
 use Rattle.std.specs.Prelude.{ℕ, ◌+◌, ◌*◌, ◌-◌, ◌<◌, ◌==◌, ◌&&◌, ◌^◌, List, [], ◌∷◌, ◌++◌, length, filter, find, slice_get, Bool, true, false, not, Option, Some, None, Result, IfSome, nat_lt, nat_le, if◌then◌else◌}
 use Rattle.std.specs.Int.{w16}
+use Rattle.std.specs.List.{range_with_len}
 use Rattle.net_base.specs.declared.names.Key.{Key}
 use Rattle.net_base.specs.declared.names.Tag.{Tag}
+use Rattle.net_base.specs.declared.parties.PartySet.{PartySet}
 use Rattle.net_base.specs.declared.values.Hash32.{Hash32}
 use Rattle.net_base.specs.declared.values.Party.{Party}
 use Rattle.net_base.specs.Reading.{number}
 use Rattle.net_base.specs.Forms.{byte_at, number_at, option_of, option_at, list8, list8_at, ListWithin}
 use Rattle.net_base.specs.Combining.{mapped_at, pair_at}
 use Rattle.net_base.specs.Names.{IsKey, key, key_at, by_of}
+use Rattle.net_base.specs.Parties.{has_party}
 use Rattle.net_base.specs.Values.{IsParty, party, party_at}
 use Rattle.ledger_types.specs.declared.notary.NotaryAnswer.{NotaryAnswer}
 use Rattle.ledger_types.specs.declared.notary.NotaryAnswer.TheVariants as answer
@@ -50,6 +53,10 @@ tagged t f = record f { stx = record f.stx { tags = with_tag t f.stx.tags } }
 -- whether the party is neither of the two
 abbrev pub is_neither : Party → Party → ℕ → Bool
 is_neither me notary p = not (p == me.0) && not (p == notary.0)
+
+-- the parties of a set below a number beside these two, ascending
+abbrev pub others_below : PartySet → Party → Party → ℕ → List ℕ
+others_below set me notary count = filter (λ p. has_party set p && is_neither me notary p) (range_with_len 0 count)
 
 -- the parties that have to sign beside this one and the notary, ascending
 unfoldable pub others : Tx → Place → List ℕ

@@ -4,7 +4,7 @@ ghost use Rattle.std.specs.Prelude.{◌≡◌, ◌<◌, ◌&&◌, filter, slice_
 ghost use Rattle.std.specs.List.{range_with_len};
 ghost use Rattle.net_base.specs.Parties.{has_party};
 ghost use Rattle.ledger_types.specs.Signatures.{needs};
-ghost use Rattle.finality_flows.specs.Finality.{is_neither, others};
+ghost use Rattle.finality_flows.specs.Finality.{is_neither, others, others_below};
 
 use flow_machine::Place;
 use ledger_types::Tx;
@@ -20,7 +20,7 @@ fn is_other(signers: PartySet, p: u8, me: Party, notary: Party) -> bool
 
 /// The n-th signer below `count` beside these two, counted from 0.
 fn nth_other(signers: PartySet, me: Party, notary: Party, count: u8, n: u8) -> Option<u8>
-    ensures { result ≡ slice_get (filter (λ p. has_party signers p && is_neither me notary p) (range_with_len 0 count)) n }
+    ensures { result ≡ slice_get (others_below signers me notary count) n }
 {
     (0..count)
         .filter(|p| is_other(signers, *p, me, notary))
