@@ -3,9 +3,8 @@
 ghost use Rattle.std.specs.Prelude.{◌≡◌, IfOk};
 ghost use Rattle.flow_forms.specs.Calls.{call_weight};
 ghost use Rattle.flow_forms.specs.declared.calls.Call.TheVariants as call;
-ghost use Rattle.flow_machine.specs.Limits.{IsResumed, IsPlace};
 ghost use Rattle.finality_flows.specs.Finality.{first, form, IsFinality, finality, finality_at, places};
-ghost use Rattle.finality_flows.specs.FinalityLaws.{finality_laws, are_places, short, is_form, call_weighs};
+ghost use Rattle.finality_flows.specs.FinalityLaws.{finality_laws, are_places, short, is_form};
 
 use crate::steps::Moved;
 use flow_forms::{Machine, Numbered, copy_option};

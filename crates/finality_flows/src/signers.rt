@@ -1,7 +1,6 @@
 //! Who is asked to sign.
 
-ghost use Rattle.std.specs.Prelude.{◌≡◌, ◌<◌, ◌&&◌, filter, slice_get};
-ghost use Rattle.std.specs.List.{range_with_len};
+ghost use Rattle.std.specs.Prelude.{◌≡◌, ◌<◌, ◌&&◌, slice_get};
 ghost use Rattle.net_base.specs.Parties.{has_party};
 ghost use Rattle.ledger_types.specs.Signatures.{needs};
 ghost use Rattle.finality_flows.specs.Finality.{is_neither, others, others_below};
