@@ -1,15 +1,16 @@
 -- The laws of finality.
-use Rattle.std.specs.Prelude.{◌≡◌, ℕ, ◌+◌, ◌*◌, ◌-◌, ◌≤◌, ◌<◌, ◌==◌, ◌&&◌, ◌^◌, List, [], ◌∷◌, ◌++◌, length, find, filter, slice_get, Bool, true, false, not, refl, Option, Some, None, IfSome, nat_lt, if◌then◌else◌}
+use Rattle.std.specs.Prelude.{◌≡◌, ℕ, ◌+◌, ◌-◌, ◌≤◌, ◌<◌, ◌==◌, List, [], ◌∷◌, ◌++◌, length, find, slice_get, Bool, true, false, refl, Option, Some, None, IfSome, nat_lt, nat_le, if◌then◌else◌}
 use Rattle.std.specs.List.{list_all, AllByRecursion, range_with_len}
 use Rattle.std.specs.Int.{w16}
 use Rattle.std.proofs.Common.{arith, subst}
-use Rattle.std.proofs.lemmas.Bool.{ltb-true}
+use Rattle.std.proofs.lemmas.Bool.{ltb-true, leb-true}
 use Rattle.std.proofs.lemmas.Option.{slice_get_within}
 use Rattle.net_base.specs.declared.names.Key.{Key}
 use Rattle.net_base.specs.declared.names.Tag.{Tag}
+use Rattle.net_base.specs.declared.values.Hash32.{Hash32}
 use Rattle.net_base.specs.declared.values.Party.{Party}
 use Rattle.net_base.specs.Reading.{number}
-use Rattle.net_base.specs.Forms.{option_of, list8, ListWithin}
+use Rattle.net_base.specs.Forms.{option_of, list8}
 use Rattle.net_base.specs.Laws.{Laws}
 use Rattle.net_base.specs.Combining.{pair_laws, iso_laws}
 use Rattle.net_base.specs.Fields.{byte_laws, u16_laws, option_laws, list8_laws}
@@ -32,24 +33,22 @@ use Rattle.tx_tear.specs.Tearing.{tear_of, torn_from}
 use Rattle.tx_tear.proofs.Limits.{built_within}
 use Rattle.tx_tear.proofs.Groups.{truncated}
 use Rattle.flow_machine.specs.declared.acts.Act.TheVariants as act
-use Rattle.flow_machine.specs.declared.acts.Place.{Place}
-use Rattle.flow_machine.specs.declared.acts.Resumed.{Resumed}
 use Rattle.flow_machine.specs.declared.acts.Resumed.TheVariants as resumed
-use Rattle.flow_machine.specs.Limits.{IsResumed, IsPlace}
+use Rattle.flow_machine.specs.Limits.{IsResumed}
 use Rattle.flow_machine.specs.Tags.{resumed_tags}
+use Rattle.flow_forms.specs.declared.calls.Call.TheVariants as call
 use Rattle.flow_forms.specs.declared.forms.At.TheVariants as stands
 use Rattle.flow_forms.specs.declared.forms.Goes.{Goes}
 use Rattle.flow_forms.specs.declared.forms.Goes.TheVariants.{On, Stops}
-use Rattle.flow_forms.specs.Forms.{Owes, IsForm}
-use Rattle.flow_forms.specs.Bytes.{ArePlaces, IsAt}
-use Rattle.flow_forms.specs.FormLaws.{unnamed_owes}
-use Rattle.flow_forms.specs.Shared.{Keeps, same, fails_owes, owes_if, raised, tags_in, parts_pass, joined_pass, both_pass}
+use Rattle.flow_forms.specs.Calls.{IsCall, call_weight}
+use Rattle.flow_forms.specs.Shared.{Keeps, same, fails_owes}
 use Rattle.flow_forms.specs.Sizes.{option_fits, list_fits, key_fits}
+use Rattle.flow_forms.specs.Usual.{Place, Resumed, Owes, IsForm, unnamed_owes, ArePlaces, IsAt, raised, tags_in, owes_if, joined_pass, parts_pass}
 use Rattle.finality_flows.specs.declared.finality.Finality.{Finality}
 use Rattle.finality_flows.specs.declared.finality.FinalityPlace.{FinalityPlace}
 use Rattle.finality_flows.specs.declared.finality.FinalityPlace.TheVariants.{Verifying, Signing, OpeningSigner, ReceivingTags, Notarising, Recording, OpeningPeer, Serving, LookingUp, SendingTx}
 use Rattle.finality_flows.specs.Tagging.{with_tag, with_within, with_passes, range_below, needed_few}
-use Rattle.finality_flows.specs.Finality.{tagged, others, records, asks_notary_with, notarises, asks_signer, signs_on, begins, verified, signed, signer_opened, is_asked_for, collected, answered, notarised, peer_at, tells_peer, tells, recorded, serves, peer_opened, served, sends, looked_up, sent, moves, serving, signing, weight, tags, form, IsFinality, finality, finality_of, finality_at, place_number, places}
+use Rattle.finality_flows.specs.Finality.{first, tagged, is_neither, others, records, asks_notary_with, notarises, asks_signer, signs_on, verified, signed, signer_opened, is_asked_for, collected, answered, notarised, peer_at, tells_peer, recorded, serves, peer_opened, looks_up, served, sends, looked_up, sent, moves, serving, signing, weight, tags, form, IsFinality, finality, finality_of, finality_at, places}
 
 -- its fields' laws
 pub finality_laws : Laws IsFinality finality finality_at
@@ -84,11 +83,11 @@ torn_within tx h = built_within tx (tx_id tx) (torn_from tx.salt.0 0 (groups tx)
 -- the other signers are parties, at most sixteen
 others_are : (tx : Tx) (here : Place) → AllByRecursion (λ p. p < 16) (others tx here)
 unfolding others
-others_are tx here = all_kept (λ p. p < 16) (λ p. not (p == here.me.0) && not (p == here.notary.0)) (needed tx) (all_kept (λ p. p < 16) (needs tx) (range_with_len 0 16) (range_below 16 0 16 (omega arith)))
+others_are tx here = all_kept (λ p. p < 16) (is_neither here.me here.notary) (needed tx) (all_kept (λ p. p < 16) (needs tx) (range_with_len 0 16) (range_below 16 0 16 (omega arith)))
 
 others_few : (tx : Tx) (here : Place) → length (others tx here) ≤ 16
 unfolding others
-others_few tx here = omega (arith, filter_length (λ p. not (p == here.me.0) && not (p == here.notary.0)) (needed tx), needed_few tx)
+others_few tx here = omega (arith, filter_length (is_neither here.me here.notary) (needed tx), needed_few tx)
 
 -- the next one is before the sixteenth
 next_few : (tx : Tx) (here : Place) (n p : ℕ) → slice_get (others tx here) n ≡ Some p → n < 16
@@ -221,15 +220,17 @@ peer_opened_owes : (f : Finality) (with : Resumed) (here : Place) → Owed (weig
 peer_opened_owes f (resumed.Opened key) here = serves_owes (weight OpeningPeer f) f (record f { key = Some key }) (resumed.Opened key) here (record { limits = λ h small place. (h.0, (h.1.0, (h.1.1.0, (h.1.1.1.0, (h.1.1.1.1.0, (small, h.1.1.1.1.1.1)))))); passes = λ test old given. old }) (omega arith) (Some key) (λ h small. small)
 peer_opened_owes f other here = unnamed_owes form IsFinality (weight OpeningPeer f) f other here (omega arith)
 
-served_owes : (f : Finality) (with : Resumed) (here : Place) → Owed (weight Serving f) f with here (served f with)
-served_owes f (resumed.Got (value.Id x)) here =
+looks_up_owes : (x : Hash32) (f g : Finality) (here : Place) → Came f g (resumed.Got (value.Id x)) here → (length g.peers ≡ length f.peers) × ((g.told ≡ f.told) × (g.served ≡ raised 65535 f.served)) → Owed (weight Serving f) f (resumed.Got (value.Id x)) here (looks_up x g)
+looks_up_owes x f g here k is =
     let most = weight Serving f in
     let came = resumed.Got (value.Id x) in
-    owes_if form IsFinality most f came here (nat_lt f.served 512) (On LookingUp (record f { served = f.served + 1 }) (act.Lookup x)) (Stops (record f { served = raised 65535 f.served }) 62)
-    (λ less.
-        let few = ltb-true f.served 512 less in
-        record { limits = λ h small place. ((h.0, (h.1.0, (h.1.1.0, (h.1.1.1.0, (omega (arith, few), h.1.1.1.1.1))))), small); tags = λ test old given. (old, refl); falls = omega (arith, few); asks = refl })
-    (λ _. fails_owes form IsFinality most f (record f { served = raised 65535 f.served }) came here 62 (record { limits = λ h small place. (h.0, (h.1.0, (h.1.1.0, (h.1.1.1.0, (omega arith, h.1.1.1.1.1))))); passes = λ test old given. old }) (omega arith) (omega arith))
+    owes_if form IsFinality most f came here (nat_le g.served 512) (On LookingUp g (act.Lookup x)) (Stops g 62)
+    (λ few. let le = leb-true g.served 512 few in record { limits = λ h small place. (k.limits h small place, small); tags = λ test old given. (k.passes test old given, refl); falls = omega (arith, le, is.0, is.1.0, is.1.1); asks = refl })
+    (λ _. fails_owes form IsFinality most f g came here 62 k (omega arith) (omega arith))
+
+served_owes : (f : Finality) (with : Resumed) (here : Place) → Owed (weight Serving f) f with here (served f with)
+served_owes f (resumed.Got (value.Id x)) here =
+    looks_up_owes x f (record f { served = raised 65535 f.served }) here (record { limits = λ h small place. (h.0, (h.1.0, (h.1.1.0, (h.1.1.1.0, (omega arith, h.1.1.1.1.1))))); passes = λ test old given. old }) (refl, (refl, refl))
 served_owes f resumed.Ended here =
     let g = record f { told = raised 255 f.told } in
     tells_peer_owes (weight Serving f) f g resumed.Ended here (record { limits = λ h small place. (h.0, (h.1.0, (h.1.1.0, (omega arith, h.1.1.1.1)))); passes = λ test old given. old }) (omega arith) (λ few. omega (arith, few)) (peer_at g.told g.peers) refl
@@ -274,3 +275,17 @@ is_form = record {
   starts = λ f here. record { limits = λ h small place. (h, h.0.0); tags = λ test old given. (old, refl); falls = omega arith; asks = refl };
   moves = moves_owe;
 }
+
+-- ---- the frame of a call
+
+-- it may cause what is said of the call
+pub call_weighs : (tx : Tx) (peers : List Party) → form.called (first tx peers) ≡ call_weight (call.Finality tx peers)
+call_weighs tx peers = omega arith
+
+-- it has no tag
+pub call_bare : (tx : Tx) (peers : List Party) → form.tags (first tx peers) ≡ []
+call_bare tx peers = refl
+
+-- it is within its limits
+pub call_fits : (tx : Tx) (peers : List Party) → IsCall (call.Finality tx peers) → IsFinality (first tx peers)
+call_fits tx peers h = ((h.0, (omega arith, (tt, tt))), (h.1, (omega arith, (omega arith, (omega arith, (tt, tt))))))

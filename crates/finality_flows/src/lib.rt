@@ -1,8 +1,9 @@
-//! Finality: a transaction is signed by all who have to sign it, notarised, recorded, and shown to the peers; and the flow that signs.
+//! Finality: the flow that has a transaction signed by all who have to sign it, notarised and recorded, and shows it to the peers.
 #![tactic(auto)]
 
 mod finality;
 mod signers;
+mod steps;
 mod tagging;
 
 pub use finality::{Finality, FinalityPlace};

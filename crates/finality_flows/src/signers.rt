@@ -1,82 +1,36 @@
 //! Who is asked to sign.
 
-ghost use Rattle.std.specs.Prelude.{◌≡◌, ◌==◌, ◌<◌, ◌&&◌, ◌++◌, ◌∷◌, [], not, filter, IfOk, OnOk, slice_get, cond};
-ghost use Rattle.std.specs.List.{range_with_len};
-ghost use Rattle.net_base.specs.Parties.{has_party, members};
+ghost use Rattle.std.specs.Prelude.{◌≡◌, ◌<◌, ◌&&◌, slice_get};
+ghost use Rattle.net_base.specs.Parties.{has_party};
 ghost use Rattle.ledger_types.specs.Signatures.{needs};
-ghost use Rattle.finality_flows.specs.Finality.{others};
+ghost use Rattle.finality_flows.specs.Finality.{is_neither, others, others_below};
 
 use flow_machine::Place;
 use ledger_types::Tx;
 use net_base::{Party, PartySet};
-use std::alloc::{AllocError, Global};
 use tx_rules::needed_signers;
 
 /// Whether the party signs and is neither of the two.
 fn is_other(signers: PartySet, p: u8, me: Party, notary: Party) -> bool
-    ensures { result ≡ (has_party signers p && (not (p == me.0) && not (p == notary.0))) }
+    ensures { result ≡ (has_party signers p && is_neither me notary p) }
 {
     signers.contains(Party(p)) && (p != me.0 && p != notary.0)
 }
 
-/// Adds the number at the end where it is asked to.
-fn push_if(yes: bool, p: u8, to: &mut Vec<u8>) -> Result<(), AllocError>
-    ensures { OnOk result (to.new.items ≡ to.old.items ++ cond yes (p ∷ []) []) }
+/// The n-th signer below `count` beside these two, counted from 0.
+fn nth_other(signers: PartySet, me: Party, notary: Party, count: u8, n: u8) -> Option<u8>
+    ensures { result ≡ slice_get (others_below signers me notary count) n }
 {
-    if yes {
-        to.push(p)?;
-    }
-    Ok(())
-}
-
-/// The signers below `count` beside these two, ascending.
-fn others_below(
-    alloc: Global,
-    signers: PartySet,
-    me: Party,
-    notary: Party,
-    count: u8,
-) -> Result<Vec<u8>, AllocError>
-    ensures { IfOk result (λ v. v.items ≡ filter (λ p. not (p == me.0) && not (p == notary.0)) (filter (λ p. has_party signers p) (range_with_len 0 count))) }
-{
-    let mut others = Vec::new(alloc);
-    for p in 0..count {
-        let yes = is_other(signers, p, me, notary);
-        push_if(yes, p, &mut others)?;
-    }
-    Ok(others)
-}
-
-/// The signers beside these two, ascending.
-#[tactic(auto, unfolding(net_base::specs::Parties::members))]
-fn others(
-    alloc: Global,
-    signers: PartySet,
-    me: Party,
-    notary: Party,
-) -> Result<Vec<u8>, AllocError>
-    ensures { IfOk result (λ v. v.items ≡ filter (λ p. not (p == me.0) && not (p == notary.0)) (members signers)) }
-{
-    others_below(alloc, signers, me, notary, 16)
-}
-
-fn nth(list: &[u8], n: u8) -> Option<u8>
-    ensures { result ≡ slice_get list.now n }
-{
-    list.get(usize::from(n)).copied()
+    (0..count)
+        .filter(|p| is_other(signers, *p, me, notary))
+        .nth(usize::from(n))
 }
 
 /// The next signer beside this node's party and the notary.
-pub(crate) fn next_signer(
-    alloc: Global,
-    tx: &Tx,
-    asked: u8,
-    here: &Place,
-) -> Result<Option<u8>, AllocError>
-    ensures { IfOk result (λ p. p ≡ slice_get (others tx.now here.entry.now) asked) }
+pub(crate) fn next_signer(tx: &Tx, asked: u8, here: &Place) -> Option<u8>
+    ensures { result ≡ slice_get (others tx.now here.entry.now) asked }
 {
-    let all = others(alloc, needed_signers(tx), here.me, here.notary)?;
-    Ok(nth(all.as_slice(), asked))
+    nth_other(needed_signers(tx), here.me, here.notary, 16, asked)
 }
 
 /// Whether the notary has to sign.

@@ -12,26 +12,20 @@ use std::alloc::{AllocError, Global};
 fn tags_below(alloc: Global, by: Party, tags: &[Tag]) -> Result<Vec<Tag>, AllocError>
     ensures { IfOk result (λ v. v.items ≡ filter (λ u. nat_lt (by_of u) by.0) tags.now) }
 {
-    let mut kept = Vec::new(alloc);
-    for tag in tags {
-        if tag.by.0 < by.0 {
-            kept.push(*tag)?;
-        }
-    }
-    Ok(kept)
+    tags.iter()
+        .copied()
+        .filter(|tag| tag.by.0 < by.0)
+        .collect(alloc)
 }
 
-/// These tags and those of the parties above.
-fn push_above(kept: Vec<Tag>, by: Party, tags: &[Tag]) -> Result<Vec<Tag>, AllocError>
-    ensures { IfOk result (λ v. v.items ≡ kept.items ++ filter (λ u. nat_lt by.0 (by_of u)) tags.now) }
+/// The tags of the parties above.
+fn tags_above(alloc: Global, by: Party, tags: &[Tag]) -> Result<Vec<Tag>, AllocError>
+    ensures { IfOk result (λ v. v.items ≡ filter (λ u. nat_lt by.0 (by_of u)) tags.now) }
 {
-    let mut all = kept;
-    for tag in tags {
-        if by.0 < tag.by.0 {
-            all.push(*tag)?;
-        }
-    }
-    Ok(all)
+    tags.iter()
+        .copied()
+        .filter(|tag| by.0 < tag.by.0)
+        .collect(alloc)
 }
 
 /// The tags with one more, in the place of one by the same party.
@@ -41,11 +35,9 @@ pub(crate) fn with_tag(alloc: Global, tag: Tag, tags: &TagList) -> Result<TagLis
 {
     let mut all = tags_below(alloc, tag.by, tags.as_slice())?;
     all.push(tag)?;
-    Ok(ListOf::from_vec(push_above(
-        all,
-        tag.by,
-        tags.as_slice(),
-    )?))
+    let mut above = tags_above(alloc, tag.by, tags.as_slice())?;
+    all.append(&mut above)?;
+    Ok(ListOf::from_vec(all))
 }
 
 /// The tag of the party.
