@@ -19,7 +19,7 @@ use std::marker::{Model, PhantomData};
 
 /// The frames of calls in a part.
 pub trait Opens<F: Flows> {
-    ghost use Rattle.std.specs.Prelude.{◌≡◌, true};
+    ghost use Rattle.std.specs.Prelude.{◌≡◌, true, IfOk};
     ghost use Rattle.flow_forms.specs.declared.calls.Call.{Call};
     ghost use Rattle.flow_forms.specs.Bytes.{distinct};
     ghost use Rattle.flow_forms.specs.Closing.{Opens};
@@ -27,8 +27,13 @@ pub trait Opens<F: Flows> {
     /// The frame of a call.
     ghost see: { Call → F };
 
-    fn open(alloc: Global, call: Call) -> F
-        ensures { result ≡ see call };
+    /// The frame of the call.
+    ///
+    /// # Errors
+    ///
+    /// `AllocError` for want of memory.
+    fn open(alloc: Global, call: Call) -> Result<F, AllocError>
+        ensures { IfOk result (λ f. f ≡ see call) };
 
     /// No machine's number stands twice in the part.
     ghost unlike: { distinct F.kinds ≡ true };
@@ -174,7 +179,7 @@ impl<F: Flows, C: Opens<F>> FlowSet for Closed<F, C> {
         at: &Place,
     ) -> Result<(Closed<F, C>, Act<Closed<F, C>>), MakeFault> {
         let (frame, act) = F::make(alloc, class, args, at)?;
-        Ok((Closed::new(frame), act_in(alloc, act)))
+        Ok((Closed::new(frame), act_in(alloc, act)?))
     }
 
     fn initiated(
@@ -184,7 +189,7 @@ impl<F: Flows, C: Opens<F>> FlowSet for Closed<F, C> {
         at: &Place,
     ) -> Result<(Closed<F, C>, Act<Closed<F, C>>), MakeFault> {
         let (frame, act) = F::initiated(alloc, class, key, at)?;
-        Ok((Closed::new(frame), act_in(alloc, act)))
+        Ok((Closed::new(frame), act_in(alloc, act)?))
     }
 
     fn resume(
@@ -194,7 +199,7 @@ impl<F: Flows, C: Opens<F>> FlowSet for Closed<F, C> {
         at: &Place,
     ) -> Result<(Closed<F, C>, Act<Closed<F, C>>), AllocError> {
         let (frame, act) = self.frame.next(alloc, with, at)?;
-        Ok((Closed::new(frame), act_in(alloc, act)))
+        Ok((Closed::new(frame), act_in(alloc, act)?))
     }
 
     fn weight(&self) -> u64 {
@@ -203,17 +208,20 @@ impl<F: Flows, C: Opens<F>> FlowSet for Closed<F, C> {
 }
 
 /// The act with the called frame put in.
-fn act_in<F: Flows, C: Opens<F>>(alloc: Global, act: Act<Call>) -> Act<Closed<F, C>>
-    ensures { result ≡ act_with C.see act }
+fn act_in<F: Flows, C: Opens<F>>(
+    alloc: Global,
+    act: Act<Call>,
+) -> Result<Act<Closed<F, C>>, AllocError>
+    ensures { IfOk result (λ a. a ≡ act_with C.see act) }
 {
-    match act {
+    Ok(match act {
         Act::Open { to, class, first } => Act::Open { to, class, first },
         Act::Send { key, value } => Act::Send { key, value },
         Act::Receive { key } => Act::Receive { key },
         Act::ReceiveBy { key, until } => Act::ReceiveBy { key, until },
         Act::Sleep { until } => Act::Sleep { until },
         Act::Sub { frame } => Act::Sub {
-            frame: Closed::new(C::open(alloc, frame)),
+            frame: Closed::new(C::open(alloc, frame)?),
         },
         Act::Verify { tx } => Act::Verify { tx },
         Act::Reserve { token, amount } => Act::Reserve { token, amount },
@@ -224,5 +232,5 @@ fn act_in<F: Flows, C: Opens<F>>(alloc: Global, act: Act<Call>) -> Act<Closed<F,
         Act::Record { stx } => Act::Record { stx },
         Act::Return { value } => Act::Return { value },
         Act::Fail { code } => Act::Fail { code },
-    }
+    })
 }

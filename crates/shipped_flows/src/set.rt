@@ -5,7 +5,7 @@ use crate::echo::{Echo, EchoPlace};
 use crate::ping::{Ping, PingPlace};
 use crate::probe::{Probe, ProbePlace};
 use flow_forms::{ByInit, ByWords, Call, Closed, Frame, Opens, Sum};
-use std::alloc::Global;
+use std::alloc::{AllocError, Global};
 
 /// The machines of the set, by number: 1 counts, 2 pings, 10 probes, and 11 is the echo.
 pub type Shipped = Sum<
@@ -31,9 +31,9 @@ impl Opens<Shipped> for NoCalls {
 
     ghost opens = { record { weight = calls_cost; over = λ c. refl; tags = λ test c h. refl; limits = λ c h. (refl, (omega arith, omega arith)) } };
 
-    fn open(_alloc: Global, _call: Call) -> Shipped {
+    fn open(_alloc: Global, _call: Call) -> Result<Shipped, AllocError> {
         let fields = Count { left: 0, all: 0 };
-        Sum::First(Frame::asking(CountPlace::Sleeping, fields))
+        Ok(Sum::First(Frame::asking(CountPlace::Sleeping, fields)))
     }
 }
 
