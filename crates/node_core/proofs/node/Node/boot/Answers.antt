@@ -1,5 +1,4 @@
-use Rattle.std.proofs.Common.{◌≡◌, Result, sym, ◌∙◌, ap, subst}
-use Rattle.node_core.specs.declared.faults.BootFault.{BootFault}
+use Rattle.std.proofs.Common.{◌≡◌, sym, ◌∙◌, ap, subst}
 use Rattle.node_core.specs.States.{seen_in, seen_over}
 use Rattle.node_core.specs.Seen.{NodeSeen, BootsAs}
 use Rattle.node_core.proofs.Nodes.{is_down, down_seen}
