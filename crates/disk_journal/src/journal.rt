@@ -107,7 +107,10 @@ impl<D: Disk> Journal<D> {
 
         // No call of it brings power back, and where a fuse ends within its calls, it fails.
         ensures burns { (D.seen disk).tells ≡ true → IfOk result (λ r. Burns (opening_calls (D.seen disk).state.kept) (D.seen disk) r.0.disk) }
-        ensures no_more { MatchResult result (λ r. BurnsUpTo 7 (D.seen disk) r.0.disk) (λ r. BurnsUpTo 7 (D.seen disk) (D.seen r.disk)) }
+        ensures refused_burns { IfErr result (λ r. (r.why ≡ OpenFault.Fault → ⊥) → Burns 1 (D.seen disk) (D.seen r.disk)) }
+        ensures no_more { MatchResult result
+            (λ r. BurnsUpTo 7 (D.seen disk) r.0.disk)
+            (λ r. BurnsUpTo 7 (D.seen disk) (D.seen r.disk)) }
 
         // What was kept as the call began was one of the images then.
         ensures was { (D.seen disk).tells ≡ true → IsImage (D.seen disk).state.now (D.seen disk).state.kept }

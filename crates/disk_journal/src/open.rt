@@ -181,6 +181,7 @@ pub fn prepare<D: Disk>(alloc: Global, disk: &mut D, id: &Identity) -> Result<Re
 
     // No call of it brings power back.
     ensures burns { (D.seen disk.old).tells ≡ true → OnOk result (Burns (opening_calls (D.seen disk.old).state.kept) (D.seen disk.old) (D.seen disk.new)) }
+    ensures refused_burns { IfErr result (λ why. (why ≡ OpenFault.Fault → ⊥) → Burns 1 (D.seen disk.old) (D.seen disk.new)) }
     ensures no_more { BurnsUpTo 7 (D.seen disk.old) (D.seen disk.new) }
 
     // What is kept was one of the images.
