@@ -300,13 +300,14 @@ impl<D: Bay, F: Spelt + Drop> Node<D, F> {
         Ok(())
     }
 
-    /// Ends a cut of the disk's power, and disarms a fuse.
+    /// Ends a cut of the disk's power, and disarms a fuse. A disk in memory is calm afterwards, and a file that was calm stays so.
     pub fn restore_power(&mut self)
         requires { self.old.journal ≡ None }
         ensures journal { self.new.journal ≡ None }
         ensures identity { self.new.identity ≡ self.old.identity }
         ensures disk { self.new.disk ≡ record self.old.disk { power = true; fuse = None; calm = self.new.disk.calm } }
         ensures calm { self.old.disk.of_file ≡ false → self.new.disk.calm ≡ true }
+        ensures stays_calm { self.old.disk.calm ≡ true → self.new.disk.calm ≡ true }
     {
         match &mut self.state {
             State::Down { disk } => disk.restore_power(),
