@@ -1,5 +1,5 @@
 ghost use Rattle.std.specs.Prelude.{◌≡◌, ◌≤◌, ◌<◌, ◌+◌, ◌++◌, ◌∷◌, [], ◌↔◌, ℕ, length, true, Some, false, OnOk, OnErr, IsErr, IsErrOf, IfOk, IfErr, MatchResult, None, List, ◌⊎◌, vec_capacity, ◌^◌};
-ghost use Rattle.outside.specs.Disk.{EachImage, IfTold, SameRest, IsImage, clean, burnt, burnt_by};
+ghost use Rattle.outside.specs.Disk.{EachImage, IfTold, SameRest, IsImage, clean, burnt, burnt_by, Burns, BurnsUpTo};
 ghost use Rattle.outside.specs.Faults.{Rose};
 ghost use Rattle.net_base.specs.Names.{IsIdentity};
 ghost use Rattle.disk_journal.specs.Journal.{IsReady, HasRoom, IsSound, IsYoung, IsOldOrNew, GivesUp, WasSpelt, journal_of, is_full_at, entry, refusal, placed, size_of, is_unformatted, formatted, opening_calls};
@@ -105,6 +105,13 @@ impl<D: Disk> Journal<D> {
         ensures refused_fuse { IfErr result (λ r. (r.why ≡ OpenFault.Fault → ⊥) → (D.seen r.disk).fuse ≡ burnt (D.seen disk).fuse) }
         ensures refused_power { IfErr result (λ r. (r.why ≡ OpenFault.Fault → ⊥) → ((D.seen disk).power ≡ true) × ((D.seen r.disk).power ≡ true)) }
 
+        // No call of it brings power back, and where a fuse ends within its calls, it fails.
+        ensures burns { (D.seen disk).tells ≡ true → IfOk result (λ r. Burns (opening_calls (D.seen disk).state.kept) (D.seen disk) r.0.disk) }
+        ensures refused_burns { IfErr result (λ r. (r.why ≡ OpenFault.Fault → ⊥) → Burns 1 (D.seen disk) (D.seen r.disk)) }
+        ensures no_more { MatchResult result
+            (λ r. BurnsUpTo 7 (D.seen disk) r.0.disk)
+            (λ r. BurnsUpTo 7 (D.seen disk) (D.seen r.disk)) }
+
         // What was kept as the call began was one of the images then.
         ensures was { (D.seen disk).tells ≡ true → IsImage (D.seen disk).state.now (D.seen disk).state.kept }
 
@@ -203,6 +210,10 @@ impl<D: Disk> Journal<D> {
         ensures counts { OnOk result ((self.new.length ≡ self.old.length + 5 + length body.now) × (self.new.count ≡ self.old.count + 1)) }
         ensures fuse { OnOk result (self.new.disk.fuse ≡ burnt_by 4 self.old.disk.fuse) }
         ensures power { OnOk result ((self.old.disk.power ≡ true) × (self.new.disk.power ≡ true)) }
+
+        // No call of it brings power back, and where a fuse ends within its calls, it fails.
+        ensures burns { OnOk result (Burns 4 self.old.disk self.new.disk) }
+        ensures no_more { BurnsUpTo 4 self.old.disk self.new.disk }
 
         // At each moment each image spells the old records or these with the new one, and is sound.
         ensures moments { IfTold self.old.disk self.new.disk (λ d e. EachImage d e (λ c. IsOldOrNew (journal_of d.kept) body.now c × IsSound self.old.of c)) }

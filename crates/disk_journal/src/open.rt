@@ -1,5 +1,5 @@
 ghost use Rattle.std.specs.Prelude.{◌^◌, ◌≡◌, ◌≤◌, ◌<◌, ◌+◌, ◌-◌, ◌⊎◌, ◌++◌, ◌∷◌, [], ℕ, List, length, drop, true, false, Some, None, IfOk, IfErr, slice_index, ◌≢◌, OnOk, IsOk, IsErrOf};
-ghost use Rattle.outside.specs.Disk.{EachImage, IfTold, SameRest, IsImage, clean, burnt, burnt_by};
+ghost use Rattle.outside.specs.Disk.{EachImage, IfTold, SameRest, IsImage, clean, burnt, burnt_by, Burns, BurnsUpTo};
 ghost use Rattle.outside.specs.Faults.{Rose, HasCause};
 ghost use Rattle.net_base.specs.Names.{IsIdentity};
 ghost use Rattle.disk_journal.specs.Journal.{GivesUp, WasSpelt, IsSound, IsYoung, header, journal_of, is_unformatted, refusal, placed, size_of, record_limit, extent, Opened, formatted, is_shut, formatting_calls, opening_calls};
@@ -42,6 +42,7 @@ fn read_all<D: Disk>(alloc: Global, disk: &mut D) -> Result<Vec<u8>, OpenFault>
     ensures power { OnOk result (((D.seen disk.old).power ≡ true) × ((D.seen disk.new).power ≡ true)) }
     ensures memory_fuse { IsErrOf result OpenFault.Memory → (D.seen disk.new).fuse ≡ burnt (D.seen disk.old).fuse }
     ensures memory_power { IsErrOf result OpenFault.Memory → ((D.seen disk.old).power ≡ true) × ((D.seen disk.new).power ≡ true) }
+    ensures burns { Burns 1 (D.seen disk.old) (D.seen disk.new) }
     ensures only { IfErr result (λ why. GivesUp why) }
     ensures later { (D.seen disk.old).faults ≤ (D.seen disk.new).faults }
     ensures cause { IsErrOf result OpenFault.Fault → Rose (D.seen disk.old).faults (D.seen disk.new).faults }
@@ -63,6 +64,8 @@ fn finish<D: Disk>(disk: &mut D, id: &Identity) -> Result<(), Failed>
     ensures kept { IfTold (D.seen disk.old) (D.seen disk.new) (λ d e. length e.kept ≤ 17) }
     ensures fuse { OnOk result ((D.seen disk.new).fuse ≡ burnt_by 4 (D.seen disk.old).fuse) }
     ensures power { OnOk result (((D.seen disk.old).power ≡ true) × ((D.seen disk.new).power ≡ true)) }
+    ensures burns { OnOk result (Burns 4 (D.seen disk.old) (D.seen disk.new)) }
+    ensures no_more { BurnsUpTo 4 (D.seen disk.old) (D.seen disk.new) }
     ensures calm { (D.seen disk.old).calm ≡ true → IsOk result × ((D.seen disk.new).calm ≡ true) }
     ensures cause { HasCause (D.seen disk.old).faults (D.seen disk.new).faults result }
     ensures rest { SameRest (D.seen disk.old) (D.seen disk.new) }
@@ -107,6 +110,8 @@ fn format<D: Disk>(disk: &mut D, id: &Identity, is_shut: bool) -> Result<(), Fai
     ensures kept { IfTold (D.seen disk.old) (D.seen disk.new) (λ d e. length e.kept ≤ 17) }
     ensures fuse { OnOk result ((D.seen disk.new).fuse ≡ burnt_by (formatting_calls is_shut) (D.seen disk.old).fuse) }
     ensures power { OnOk result (((D.seen disk.old).power ≡ true) × ((D.seen disk.new).power ≡ true)) }
+    ensures burns { OnOk result (Burns (formatting_calls is_shut) (D.seen disk.old) (D.seen disk.new)) }
+    ensures no_more { BurnsUpTo 6 (D.seen disk.old) (D.seen disk.new) }
     ensures calm { (D.seen disk.old).calm ≡ true → IsOk result × ((D.seen disk.new).calm ≡ true) }
     ensures cause { HasCause (D.seen disk.old).faults (D.seen disk.new).faults result }
     ensures rest { SameRest (D.seen disk.old) (D.seen disk.new) }
@@ -158,6 +163,8 @@ fn begin<D: Disk>(alloc: Global, disk: &mut D, id: &Identity, bytes: &[u8]) -> R
     ensures power { OnOk result (((D.seen disk.old).power ≡ true) × ((D.seen disk.new).power ≡ true)) }
     ensures memory_fuse { IsErrOf result OpenFault.Memory → (D.seen disk.new).fuse ≡ (D.seen disk.old).fuse }
     ensures memory_power { IsErrOf result OpenFault.Memory → (D.seen disk.new).power ≡ (D.seen disk.old).power }
+    ensures burns { OnOk result (Burns (formatting_calls (is_shut bytes.now)) (D.seen disk.old) (D.seen disk.new)) }
+    ensures no_more { BurnsUpTo 6 (D.seen disk.old) (D.seen disk.new) }
     ensures only { IfErr result (λ why. GivesUp why) }
     ensures later { (D.seen disk.old).faults ≤ (D.seen disk.new).faults }
     ensures cause { IsErrOf result OpenFault.Fault → Rose (D.seen disk.old).faults (D.seen disk.new).faults }
@@ -187,6 +194,11 @@ pub fn prepare<D: Disk>(alloc: Global, disk: &mut D, id: &Identity) -> Result<Re
     ensures power { OnOk result (((D.seen disk.old).power ≡ true) × ((D.seen disk.new).power ≡ true)) }
     ensures refused_fuse { IfErr result (λ why. (why ≡ OpenFault.Fault → ⊥) → (D.seen disk.new).fuse ≡ burnt (D.seen disk.old).fuse) }
     ensures refused_power { IfErr result (λ why. (why ≡ OpenFault.Fault → ⊥) → ((D.seen disk.old).power ≡ true) × ((D.seen disk.new).power ≡ true)) }
+
+    // No call of it brings power back.
+    ensures burns { (D.seen disk.old).tells ≡ true → OnOk result (Burns (opening_calls (D.seen disk.old).state.kept) (D.seen disk.old) (D.seen disk.new)) }
+    ensures refused_burns { IfErr result (λ why. (why ≡ OpenFault.Fault → ⊥) → Burns 1 (D.seen disk.old) (D.seen disk.new)) }
+    ensures no_more { BurnsUpTo 7 (D.seen disk.old) (D.seen disk.new) }
 
     // What is kept was one of the images.
     ensures was { (D.seen disk.old).tells ≡ true → IsImage (D.seen disk.old).state.now (D.seen disk.old).state.kept }

@@ -177,8 +177,11 @@ module _ {F : Type 0} (e : Environment F) (p : ℕ) (n mid k : NodeSeen) (x : No
   calm_mid : x.file ≡ false → mid.disk.calm ≡ true
   calm_mid memory = restored.calm (sym shows.file_is ∙ memory)
 
+  calm_stays : x.calm ≡ true → mid.disk.calm ≡ true
+  calm_stays calm = restored.stays_calm (sym shows.calm_is ∙ calm)
+
   stays_down : (y : NodeWorld) → y.waiting ≡ x.waiting → Unmoved z y k → (mid.disk.calm ≡ true → k.disk.calm ≡ true) → StaysDown x y
-  stays_down y waits u calm = record { was_down = u.was_down; down = u.down; lists = u.lists; later = u.later; calm = λ memory. u.calm_is ∙ calm (calm_mid memory); file = u.file; openable = u.openable; acked = u.acked; waiting = waits }
+  stays_down y waits u calm = record { was_down = u.was_down; down = u.down; lists = u.lists; later = u.later; calm = λ memory. u.calm_is ∙ calm (calm_mid memory); stays_calm = λ on. u.calm_is ∙ calm (calm_stays on); file = u.file; openable = u.openable; acked = u.acked; waiting = waits }
 
   -- what a fault of the opening says
   fault_of : Unopened mid.identity mid.disk boot_fault.Fault k.disk ⊎ Unfit e.frame_at mid.identity mid.disk boot_fault.Fault k.disk → Rose mid.disk.faults k.disk.faults × (mid.disk.calm ≡ true → ⊥)
@@ -213,12 +216,12 @@ module _ {F : Type 0} (e : Environment F) (p : ℕ) (n mid k : NodeSeen) (x : No
   boots : (answer : Result (Unit {0}) BootFault) → BootsAs e.frame_at mid answer k → Goes e p x k (λ y. WorldBoots e x (boot_outcome answer) y)
   boots (Ok u) s =
       let to = booted_world e p mid k z shows_mid restored.journal s.0 s.1 s.2 s.3 s.4 in
-      (to.0, to.1, to.2, record { was_down = rw down at shows.journal; after = to.3.0; later = to.3.1; calm = λ memory. to.3.2 ∙ s.4.opens.calm (calm_mid memory) })
+      (to.0, to.1, to.2, record { was_down = rw down at shows.journal; after = to.3.0; later = to.3.1; calm = λ memory. to.3.2 ∙ s.4.opens.calm (calm_mid memory); stays_calm = λ on. to.3.2 ∙ s.4.opens.calm (calm_stays on) })
   boots (Err boot_fault.Fault) s =
       let to = unbooted boot_fault.Fault s.0 s.1 s.2 s.3 in
       let c = fault_of s.3.cause in
       let rose : Rose x.faults to.0.faults = subst (λ (i : ℕ). Rose i to.0.faults) (sym shows_mid.counts) (subst (λ (i : ℕ). Rose mid.disk.faults i) (sym to.3.faults_are) c.0) in
-      (to.0, to.1, to.2, (stays_down to.0 to.2 to.3 s.3.calm, rose, is_file x.file refl c.1))
+      (to.0, to.1, to.2, (stays_down to.0 to.2 to.3 s.3.calm, rose, is_file x.file refl c.1, false_from_ne_true x.calm (λ on. c.1 (calm_stays on))))
   boots (Err boot_fault.Memory) s = refused boot_fault.Memory (λ is. cc) s.0 s.1 s.2 s.3
   boots (Err boot_fault.NotAJournal) s = foreign boot_fault.NotAJournal (λ g. g) (λ is. cc) s.0 s.1 s.2 s.3
   boots (Err (boot_fault.WrongNode found)) s = foreign (boot_fault.WrongNode found) (λ g. g) (λ is. cc) s.0 s.1 s.2 s.3

@@ -91,6 +91,7 @@ pub record Restored (old new : NodeSeen) : Type 0 where
   pub identity : new.identity ≡ old.identity
   pub disk : new.disk ≡ record old.disk { power = true; fuse = None; calm = new.disk.calm }
   pub calm : old.disk.of_file ≡ false → new.disk.calm ≡ true
+  pub stays_calm : old.disk.calm ≡ true → new.disk.calm ≡ true
 
 -- a node that is down has its power back, and is booted
 abbrev pub DownBoots : {F E : Type 0} → Reads F → NodeSeen → Result Outcome E → NodeSeen → Type 0

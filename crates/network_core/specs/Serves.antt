@@ -148,6 +148,7 @@ pub record StaysDown (x y : NodeWorld) : Type 0 where
   pub lists : (l : List (List ℕ)) → MaySpell y l → MaySpell x l
   pub later : x.faults ≤ y.faults
   pub calm : x.file ≡ false → y.calm ≡ true
+  pub stays_calm : x.calm ≡ true → y.calm ≡ true
   pub file : y.file ≡ x.file
   pub openable : y.openable ≡ x.openable
   pub acked : y.acked ≡ []
@@ -159,12 +160,13 @@ pub record ComesUp {F : Type 0} (e : Environment F) (x y : NodeWorld) : Type 0 w
   pub after : y ≡ record { up = true; journal = x.journal; other = None; faults = y.faults; calm = y.calm; file = x.file; openable = true; acked = acks_over e [] x.journal; waiting = x.waiting }
   pub later : x.faults ≤ y.faults
   pub calm : x.file ≡ false → y.calm ≡ true
+  pub stays_calm : x.calm ≡ true → y.calm ≡ true
 
--- what a boot makes of a node, and its outcome: only a file fails, and only a disk that had an image which the opening refuses is refused with 13
+-- what a boot makes of a node, and its outcome: only a file that isn't calm fails, and only a disk that had an image which the opening refuses is refused with 13
 abbrev pub WorldBoots : {F : Type 0} → Environment F → NodeWorld → Option Outcome → NodeWorld → Type 0
 WorldBoots e x None y = StaysDown x y × (y.journal ≡ x.journal)
 WorldBoots e x (Some outcome.Booted) y = ComesUp e x y
-WorldBoots e x (Some outcome.Fault) y = StaysDown x y × Rose x.faults y.faults × (x.file ≡ true)
+WorldBoots e x (Some outcome.Fault) y = StaysDown x y × Rose x.faults y.faults × (x.file ≡ true) × (x.calm ≡ false)
 WorldBoots e x (Some (outcome.Refused code)) y = ((code ≡ 4) × (x.up ≡ true) × (y ≡ x)) ⊎ ((code ≡ 13) × (x.openable ≡ false) × StaysDown x y × (y.journal ≡ x.journal))
 WorldBoots e x (Some outcome.Fine) y = ⊥
 WorldBoots e x (Some (outcome.Started f)) y = ⊥

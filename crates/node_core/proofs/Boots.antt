@@ -1,11 +1,11 @@
 -- How a journal is opened.
 use Rattle.std.proofs.Common.{◌≡◌, ◌⊎◌, inl, inr, ⊎_elim, ℕ, ◌+◌, ◌≤◌, List, [], ◌∷◌, length, Some, None, Err, true, false, refl, sym, ◌∙◌, ap, subst, arith}
 use Rattle.std.proofs.lemmas.List.{length-map}
-use Rattle.outside.specs.Disk.{DiskView, IsImage, EachImage, IfTold, clean}
+use Rattle.outside.specs.Disk.{DiskView, IsImage, EachImage, IfTold, Burns, BurnsUpTo, clean}
 use Rattle.outside.specs.Faults.{Rose}
 use Rattle.outside.proofs.Moments.{at_now}
 use Rattle.net_base.specs.declared.names.Identity.{Identity}
-use Rattle.disk_journal.specs.Journal.{JournalView, IsReady, IsSound, IsYoung, GivesUp, WasSpelt, journal_of, is_unformatted, formatted, refusal, placed, size_of}
+use Rattle.disk_journal.specs.Journal.{JournalView, IsReady, IsSound, IsYoung, GivesUp, WasSpelt, journal_of, is_unformatted, formatted, opening_calls, refusal, placed, size_of}
 use Rattle.disk_journal.specs.declared.fault.OpenFault.{OpenFault}
 use Rattle.disk_journal.specs.declared.fault.OpenFault.TheVariants as open_fault
 use Rattle.node_tables.specs.declared.boot.RebuildFault.{RebuildFault}
@@ -17,6 +17,7 @@ use Rattle.node_core.specs.Journals.{bytes_of}
 use Rattle.node_core.specs.Disks.{roomless}
 use Rattle.node_core.specs.Seen.{Tied, Opens, Refuses, Unfit, Unbooted, GaveUp, boot_by, boot_of}
 use Rattle.node_core.proofs.Commits.{tied_holds}
+use Rattle.node_core.proofs.Power.{burns_roomless, up_to_roomless}
 
 -- ---- a list with places
 
@@ -47,6 +48,9 @@ pub record Opening (id : Identity) (old : DiskView) (journal : JournalView) (lis
   pub sound : IfTold old journal.disk (λ d e. ((c : List ℕ) → IsImage d.now c → IsSound id c) → EachImage d e (IsSound id))
   pub later : old.faults ≤ journal.disk.faults
   pub calm : old.calm ≡ true → journal.disk.calm ≡ true
+  pub power : (old.power ≡ true) × (journal.disk.power ≡ true)
+  pub burns : old.tells ≡ true → Burns (opening_calls old.state.kept) old journal.disk
+  pub no_more : BurnsUpTo 7 old journal.disk
   pub rest : (journal.disk.of_file ≡ old.of_file) × (journal.disk.tells ≡ old.tells)
 
 pub opening_tied : (id : Identity) (old : DiskView) (journal : JournalView) (list : List (ℕ × List ℕ)) (bodies : List (List ℕ)) → Opening id old journal list → bodies ≡ bodies_in list → Tied id journal bodies
@@ -82,6 +86,9 @@ opening_opens id old journal list o = record {
   left = o.left;
   same = o.same;
   calm = o.calm;
+  power = o.power;
+  burns = λ told. burns_roomless (opening_calls old.state.kept) old journal.disk (o.burns told);
+  no_more = up_to_roomless 7 old journal.disk o.no_more;
 }
 
 -- all that an opening says of the disk that it gives back
@@ -97,6 +104,9 @@ pub record Closing (id : Identity) (old : DiskView) (why : OpenFault) (new : Dis
   pub cause : why ≡ open_fault.Fault → Rose old.faults new.faults
   pub later : old.faults ≤ new.faults
   pub calm : old.calm ≡ true → (new.calm ≡ true) × (why ≡ open_fault.Fault → ⊥)
+  pub power : (why ≡ open_fault.Fault → ⊥) → (old.power ≡ true) × (new.power ≡ true)
+  pub burns : (why ≡ open_fault.Fault → ⊥) → Burns 1 old new
+  pub no_more : BurnsUpTo 7 old new
   pub rest : (new.of_file ≡ old.of_file) × (new.tells ≡ old.tells)
 
 refuses : (id : Identity) (old new : DiskView) (why : OpenFault) → Closing id old why new → Refuses id why old new
@@ -127,6 +137,9 @@ unopened f id old new why c = record {
   same = λ other. c.kept (λ is. other (ap boot_of is));
   bytes = λ other told journal. (c.bytes (λ is. other (ap boot_of is)) told).0;
   calm = λ calm. (c.calm calm).0;
+  no_more = up_to_roomless 7 old new c.no_more;
+  power = λ other. c.power (λ is. other (ap boot_of is));
+  burns = λ other. inl (burns_roomless 1 old new (c.burns (λ is. other (ap boot_of is))));
   cause = inl (why, refl, refuses_roomless id old new why (refuses id old new why c));
   begun = λ told young. inl (gave_up why (c.begun told (young old.state.kept (c.was told))));
 }
@@ -142,4 +155,16 @@ formatted_stays id x is = rw is refl
 pub unbooted : {F : Type 0} (f : Reads F) (id : Identity) (old : DiskView) (journal : JournalView) (list : List (ℕ × List ℕ)) (why : RebuildFault) → Opening id old journal list → RebuildsAs f id.notary id.nodes id.party list (Err why) → Unbooted f id (roomless old) (boot_by why) (roomless journal.disk)
 unbooted f id old journal list why o said =
     let opens = opening_opens id old journal list o in
-    record { moves = opens.moves; form = opens.form; same = λ other. opens.same; bytes = λ other told is. opens.left told ∙ formatted_stays id old.state.kept is; calm = opens.calm; cause = inr (unfit f id (roomless old) (roomless journal.disk) list why said opens); begun = λ told young. inr (unfit f id (roomless old) (roomless journal.disk) list why said opens) }
+    let unfits = unfit f id (roomless old) (roomless journal.disk) list why said opens in
+    record {
+      moves = opens.moves;
+      form = opens.form;
+      same = λ other. opens.same;
+      bytes = λ other told is. opens.left told ∙ formatted_stays id old.state.kept is;
+      calm = opens.calm;
+      no_more = opens.no_more;
+      power = λ other. opens.power;
+      burns = λ other. inr unfits;
+      cause = inr unfits;
+      begun = λ told young. inr unfits;
+    }

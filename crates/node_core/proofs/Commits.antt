@@ -122,6 +122,7 @@ module _ {F : Type 0} (w : Environment F) (id : Identity) (now : ℕ) (within : 
             form = subst (λ i. KeepsForm i (roomless old.disk) (roomless new.disk)) of said.3;
             holds = tied_holds id new (bodies ++ body ∷ []) tied;
             calm = said.4;
+            power = said.5;
           },
           longer,
           acks,
@@ -153,6 +154,7 @@ module _ {F : Type 0} (w : Environment F) (id : Identity) (now : ℕ) (within : 
         form = subst (λ i. KeepsForm i (roomless old.disk) (roomless new.disk)) of said.3;
         rose = said.4;
         calm = said.5;
+        burns = said.6;
       },
     )
 

@@ -4,3 +4,4 @@ pub mod Items
 pub mod Kept
 pub mod Logs
 pub mod Nodes
+pub mod Power

@@ -1,6 +1,6 @@
 -- What an append of a record makes of a journal.
 use Rattle.std.proofs.Common.{◌≡◌, ◌⊎◌, inr, ℕ, ◌+◌, ◌≤◌, List, [], ◌∷◌, ◌++◌, length, Some, Ok, Err, true, sym, ◌∙◌, ap, subst, arith, length-append}
-use Rattle.outside.specs.Disk.{DiskView, EachImage, IfTold, SameRest}
+use Rattle.outside.specs.Disk.{DiskView, EachImage, IfTold, SameRest, BurnsUpTo}
 use Rattle.outside.specs.Faults.{Rose}
 use Rattle.outside.proofs.Moments.{weaker}
 use Rattle.net_model.specs.State.{Record}
@@ -10,7 +10,8 @@ use Rattle.node_core.specs.declared.faults.CommitFault.TheVariants as commit_fau
 use Rattle.node_tables.specs.Journals.{Reads}
 use Rattle.node_core.specs.Journals.{bytes_of}
 use Rattle.node_core.specs.Disks.{roomless, Moves, KeepsForm, OldOrMore}
-use Rattle.node_core.specs.Seen.{Tied, LogsAs}
+use Rattle.node_core.specs.Seen.{Tied, LogsAs, AppendsWithPower}
+use Rattle.node_core.proofs.Power.{up_to_roomless, powered_roomless}
 
 pub bytes_push : (bs : List (List ℕ)) (b : List ℕ) → bytes_of (bs ++ b ∷ []) ≡ bytes_of bs + (5 + length b)
 bytes_push [] b = omega arith
@@ -63,8 +64,8 @@ tied_same old new bodies tied is ready =
 
 module _ {F : Type 0} (f : Reads F) (r : Record F) (bodies : List (List ℕ)) (body : List ℕ) (reads : record_of f body ≡ Some r) where
   logged : (old new : JournalView) → Tied old.of old bodies → Stays old new body → IsReady new → IfTold old.disk new.disk (λ d e. journal_of e.kept ≡ journal_of d.kept ++ body ∷ [])
-      → (new.length ≡ old.length + 5 + length body) × (new.count ≡ old.count + 1) → (old.disk.calm ≡ true → new.disk.calm ≡ true) → LogsAs f r bodies old (Ok body) new
-  logged old new tied stays ready done counts calm = (
+      → (new.length ≡ old.length + 5 + length body) × (new.count ≡ old.count + 1) → (old.disk.calm ≡ true → new.disk.calm ≡ true) → AppendsWithPower old.disk new.disk → LogsAs f r bodies old (Ok body) new
+  logged old new tied stays ready done counts calm power = (
     reads,
     record {
       of = stays.rest.1;
@@ -76,21 +77,22 @@ module _ {F : Type 0} (f : Reads F) (r : Record F) (bodies : List (List ℕ)) (b
     stays_moves old new bodies body tied stays,
     stays_form old new body stays,
     calm,
+    powered_roomless old.disk new.disk power,
   )
 
-  failed : (old new : JournalView) → Tied old.of old bodies → Stays old new body → Rose old.disk.faults new.disk.faults → (old.disk.calm ≡ true → ⊥) → LogsAs f r bodies old (Err commit_fault.Fault) new
-  failed old new tied stays rose calm = (body, reads, stays_moves old new bodies body tied stays, stays_form old new body stays, rose, calm)
+  failed : (old new : JournalView) → Tied old.of old bodies → Stays old new body → Rose old.disk.faults new.disk.faults → (old.disk.calm ≡ true → ⊥) → BurnsUpTo 4 old.disk new.disk → LogsAs f r bodies old (Err commit_fault.Fault) new
+  failed old new tied stays rose calm burns = (body, reads, stays_moves old new bodies body tied stays, stays_form old new body stays, rose, calm, up_to_roomless 4 old.disk new.disk burns)
 
   -- an append after room was made
   pub logs : (old roomy new : JournalView) → Tied old.of old bodies → SameButRoom old roomy → IsReady roomy → Stays roomy new body → IsReady new → IfTold roomy.disk new.disk (λ d e. journal_of e.kept ≡ journal_of d.kept ++ body ∷ [])
-      → (new.length ≡ roomy.length + 5 + length body) × (new.count ≡ roomy.count + 1) → (roomy.disk.calm ≡ true → new.disk.calm ≡ true) → LogsAs f r bodies old (Ok body) new
-  logs old roomy new tied is first stays ready done counts calm =
+      → (new.length ≡ roomy.length + 5 + length body) × (new.count ≡ roomy.count + 1) → (roomy.disk.calm ≡ true → new.disk.calm ≡ true) → AppendsWithPower roomy.disk new.disk → LogsAs f r bodies old (Ok body) new
+  logs old roomy new tied is first stays ready done counts calm power =
       let same = same_whole old roomy is in
       let t : Tied roomy.of roomy bodies = subst (λ id. Tied id roomy bodies) (sym (ap (λ (j : JournalView). j.of) same)) (tied_same old roomy bodies tied is first) in
-      subst (λ (j : JournalView). LogsAs f r bodies j (Ok body) new) same (logged roomy new t stays ready done counts calm)
+      subst (λ (j : JournalView). LogsAs f r bodies j (Ok body) new) same (logged roomy new t stays ready done counts calm power)
 
-  pub fails : (old roomy new : JournalView) → Tied old.of old bodies → SameButRoom old roomy → IsReady roomy → Stays roomy new body → Rose roomy.disk.faults new.disk.faults → (roomy.disk.calm ≡ true → ⊥) → LogsAs f r bodies old (Err commit_fault.Fault) new
-  fails old roomy new tied is first stays rose calm =
+  pub fails : (old roomy new : JournalView) → Tied old.of old bodies → SameButRoom old roomy → IsReady roomy → Stays roomy new body → Rose roomy.disk.faults new.disk.faults → (roomy.disk.calm ≡ true → ⊥) → BurnsUpTo 4 roomy.disk new.disk → LogsAs f r bodies old (Err commit_fault.Fault) new
+  fails old roomy new tied is first stays rose calm burns =
       let same = same_whole old roomy is in
       let t : Tied roomy.of roomy bodies = subst (λ id. Tied id roomy bodies) (sym (ap (λ (j : JournalView). j.of) same)) (tied_same old roomy bodies tied is first) in
-      subst (λ (j : JournalView). LogsAs f r bodies j (Err commit_fault.Fault) new) same (failed roomy new t stays rose calm)
+      subst (λ (j : JournalView). LogsAs f r bodies j (Err commit_fault.Fault) new) same (failed roomy new t stays rose calm burns)

@@ -21,7 +21,7 @@ use Rattle.node_core.specs.declared.faults.TakeFault.{TakeFault}
 use Rattle.node_core.specs.declared.faults.TakeFault.TheVariants as take_fault
 use Rattle.node_core.specs.Journals.{is_full}
 use Rattle.node_core.specs.Disks.{roomless, OneOf, CutsNow}
-use Rattle.node_core.specs.States.{disk_in, journal_in, acked_in, IsDown, seen_up, seen_down, seen_after, is_fault}
+use Rattle.node_core.specs.States.{disk_in, journal_in, acked_in, IsDown, IsWhole, seen_in, seen_over, seen_up, seen_down, seen_after, is_fault}
 use Rattle.node_core.specs.Seen.{UpSeen, Tied, flow_count, after_cut, acks_after_cut, CommitsAs, CutsDisk, CutAnswers, StartAnswers}
 use Rattle.node_core.proofs.Boots.{kept_image}
 
@@ -68,6 +68,15 @@ arms id calls outcome old calm some memory synced = record {
   armed = λ later. refl;
   faults = refl;
 }
+
+-- a node without a journal is down
+pub is_down : {D F : Type 0} (id : Identity) (state : State D F) → IsWhole id state → journal_in state ≡ None → IsDown state
+is_down id (Down disk) whole none = tt
+is_down id (Up up) whole none = cc
+is_down id Moved whole none = absurd whole
+
+pub down_seen : {D F : Type 0} (seen : D → DiskView) (id : Identity) (state : State D F) (disk : D) → state ≡ Down disk → seen_in seen id state ≡ seen_over id (seen disk)
+down_seen seen id state disk is = ap (seen_in seen id) is
 
 down_journal : {D F : Type 0} (state : State D F) → IsDown state → journal_in state ≡ None
 down_journal (Down disk) h = refl

@@ -1,6 +1,6 @@
 -- What contracts see of a node, and what its calls answer.
 use Rattle.std.specs.Prelude.{◌≡◌, ◌⊎◌, ℕ, zero, suc, ◌+◌, ◌<◌, ◌≤◌, true, false, MatchOption, List, [], ◌∷◌, ◌++◌, length, map, Option, Some, None, Result, Ok, Err, IsOk, IfSome, ⊤}
-use Rattle.outside.specs.Disk.{DiskView, IfTold, IsImage}
+use Rattle.outside.specs.Disk.{DiskView, IfTold, IsImage, Burns, BurnsUpTo}
 use Rattle.outside.specs.Faults.{Rose}
 use Rattle.net_base.specs.declared.names.Identity.{Identity}
 use Rattle.net_base.specs.declared.causes.Event.{Event}
@@ -13,7 +13,7 @@ use Rattle.net_model.specs.Environment.{Environment}
 use Rattle.net_model.specs.State.{Record, Effect}
 use Rattle.net_model.specs.Steps.{place, body_in, stamp_in, node_step, next_cause}
 use Rattle.net_model.specs.Enabled.{picked}
-use Rattle.disk_journal.specs.Journal.{JournalView, IsReady, IsYoung, WasSpelt, journal_of, is_unformatted, formatted, refusal, placed}
+use Rattle.disk_journal.specs.Journal.{JournalView, IsReady, IsYoung, WasSpelt, journal_of, is_unformatted, formatted, opening_calls, refusal, placed}
 use Rattle.disk_journal.specs.declared.fault.OpenFault.{OpenFault}
 use Rattle.disk_journal.specs.declared.fault.OpenFault.TheVariants as open_fault
 use Rattle.flow_records.specs.declared.step.Step.{Step}
@@ -76,6 +76,12 @@ pub record Pends {F : Type 0} (w : Environment F) (me now : ℕ) (bodies : List 
   pub reads : record_of w.frame_at body ≡ Some (record { cause = next_cause (state_of w.frame_at bodies) now event item; effect = effect })
   pub step : node_step w me (state_of w.frame_at bodies) (next_cause (state_of w.frame_at bodies) now event item) item ≡ Some (state_of w.frame_at (bodies ++ body ∷ []), effect)
 
+-- an append is four writes and syncs, with power to the end: a fuse that ends within them fails it
+pub record AppendsWithPower (old new : DiskView) : Type 0 where
+  pub burns : Burns 4 old new
+  pub before : old.power ≡ true
+  pub after : new.power ≡ true
+
 -- one record was appended, and every image has it
 pub record Appended {F : Type 0} (w : Environment F) (id : Identity) (now : ℕ) (bodies : List (List ℕ)) (event : Event) (item : Option Sent) (body : List ℕ) (old new : DiskView) : Type 0 where
   pub pends : Pends w id.party.0 now bodies event item body
@@ -84,6 +90,7 @@ pub record Appended {F : Type 0} (w : Environment F) (id : Identity) (now : ℕ)
   pub form : KeepsForm id old new
   pub holds : Holds id new (bodies ++ body ∷ [])
   pub calm : old.calm ≡ true → new.calm ≡ true
+  pub power : AppendsWithPower old new
 
 -- the disk failed: each image has the old bodies, or these and the one pending
 pub record Failing {F : Type 0} (w : Environment F) (id : Identity) (now : ℕ) (bodies : List (List ℕ)) (event : Event) (item : Option Sent) (body : List ℕ) (old new : DiskView) : Type 0 where
@@ -93,13 +100,15 @@ pub record Failing {F : Type 0} (w : Environment F) (id : Identity) (now : ℕ) 
   pub form : KeepsForm id old new
   pub rose : Rose old.faults new.faults
   pub calm : old.calm ≡ true → ⊥
+  -- no call of it brings power back
+  pub burns : BurnsUpTo 4 old new
 
 -- what an append of a record answers: every image has it; nothing changed but the room; or it may stand or not
 abbrev pub LogsAs : {F : Type 0} → Reads F → Record F → List (List ℕ) → JournalView → Result (List ℕ) CommitFault → JournalView → Type 0
-LogsAs frame_at r bodies old (Ok body) new = (record_of frame_at body ≡ Some r) × Tied old.of new (bodies ++ body ∷ []) × Moves (roomless old.disk) (roomless new.disk) (OldOrMore bodies body) × KeepsForm old.of (roomless old.disk) (roomless new.disk) × (old.disk.calm ≡ true → new.disk.calm ≡ true)
+LogsAs frame_at r bodies old (Ok body) new = (record_of frame_at body ≡ Some r) × Tied old.of new (bodies ++ body ∷ []) × Moves (roomless old.disk) (roomless new.disk) (OldOrMore bodies body) × KeepsForm old.of (roomless old.disk) (roomless new.disk) × (old.disk.calm ≡ true → new.disk.calm ≡ true) × AppendsWithPower (roomless old.disk) (roomless new.disk)
 LogsAs frame_at r bodies old (Err commit_fault.Full) new = ⊥
 LogsAs frame_at r bodies old (Err commit_fault.Memory) new = (roomless new.disk ≡ roomless old.disk) × Tied old.of new bodies
-LogsAs frame_at r bodies old (Err commit_fault.Fault) new = (body : List ℕ) × (record_of frame_at body ≡ Some r) × Moves (roomless old.disk) (roomless new.disk) (OldOrMore bodies body) × KeepsForm old.of (roomless old.disk) (roomless new.disk) × Rose old.disk.faults new.disk.faults × (old.disk.calm ≡ true → ⊥)
+LogsAs frame_at r bodies old (Err commit_fault.Fault) new = (body : List ℕ) × (record_of frame_at body ≡ Some r) × Moves (roomless old.disk) (roomless new.disk) (OldOrMore bodies body) × KeepsForm old.of (roomless old.disk) (roomless new.disk) × Rose old.disk.faults new.disk.faults × (old.disk.calm ≡ true → ⊥) × BurnsUpTo 4 (roomless old.disk) (roomless new.disk)
 
 -- the acknowledged numbers once a journal has these bodies: those of new sessions are 0
 abbrev pub acks_over : {F : Type 0} → Environment F → List ℕ → List (List ℕ) → List ℕ
@@ -208,6 +217,10 @@ pub record Opens (id : Identity) (old new : DiskView) (list : List (ℕ × List 
   pub left : IfTold old new (λ d e. e.kept ≡ formatted id d.kept)
   pub same : IfTold old new (λ d e. journal_of e.kept ≡ journal_of d.kept)
   pub calm : old.calm ≡ true → new.calm ≡ true
+  pub power : (old.power ≡ true) × (new.power ≡ true)
+  -- a fuse that ends within its writes and syncs fails it
+  pub burns : old.tells ≡ true → Burns (opening_calls old.state.kept) old new
+  pub no_more : BurnsUpTo 7 old new
 
 -- why an opening was refused, and what it left
 abbrev pub Refuses : Identity → OpenFault → DiskView → DiskView → Type 0
@@ -244,6 +257,11 @@ pub record Unbooted {F : Type 0} (frame_at : Reads F) (id : Identity) (old : Dis
   pub same : (why ≡ boot_fault.Fault → ⊥) → IfTold old new (λ d e. journal_of e.kept ≡ journal_of d.kept)
   pub bytes : (why ≡ boot_fault.Fault → ⊥) → IfTold old new (λ d e. is_unformatted d.kept ≡ false → e.kept ≡ d.kept)
   pub calm : old.calm ≡ true → new.calm ≡ true
+  -- no call of it brings power back, and a refusal that is no fault leaves it on
+  pub no_more : BurnsUpTo 7 old new
+  pub power : (why ≡ boot_fault.Fault → ⊥) → (old.power ≡ true) × (new.power ≡ true)
+  -- such a refusal comes after one sync, but where the records that were read don't fit
+  pub burns : (why ≡ boot_fault.Fault → ⊥) → Burns 1 old new ⊎ Unfit frame_at id old why new
   pub cause : Unopened id old why new ⊎ Unfit frame_at id old why new
   pub begun : old.tells ≡ true → ((c : List ℕ) → IsImage old.state.now c → IsYoung id c) → GaveUp why ⊎ Unfit frame_at id old why new
 

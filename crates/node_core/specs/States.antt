@@ -47,6 +47,14 @@ IsDown (Down disk) = ⊤
 IsDown (Up up) = ⊥
 IsDown Moved = ⊥
 
+-- what contracts see of a node in this state
+abbrev pub seen_in : {D F : Type 0} → (D → DiskView) → Identity → State D F → NodeSeen
+seen_in seen id state = record { identity = id; disk = disk_in seen state; journal = journal_in state; acked = acked_in state }
+
+-- a node that is down over this disk, as contracts see it
+abbrev pub seen_over : Identity → DiskView → NodeSeen
+seen_over id disk = record { identity = id; disk = roomless disk; journal = None; acked = [] }
+
 -- a node that is up, as contracts see it
 abbrev pub seen_up : Identity → UpSeen → NodeSeen
 seen_up id up = record { identity = id; disk = roomless up.journal.disk; journal = Some up.bodies; acked = up.acked }

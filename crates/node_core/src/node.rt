@@ -1,12 +1,13 @@
 //! A node: up on its journal, or down with its disk.
 
 ghost use Rattle.std.specs.Prelude.{◌≡◌, ◌↔◌, ◌<◌, ◌≤◌, true, false, IsTrue, IsSome, MatchOption, List, [], ℕ, Some, None};
+ghost use Rattle.net_base.specs.Names.{IsIdentity};
 ghost use Rattle.net_model.specs.Environment.{environment};
 ghost use Rattle.node_ledger.specs.Ledgered.{HoldsLedger, ledger_in};
 ghost use Rattle.node_tables.specs.Journals.{state_of, causes_of};
 ghost use Rattle.node_core.specs.Disks.{roomless, CutsNow};
 ghost use Rattle.node_core.specs.Seen.{StartAnswers, TurnAnswers, CutAnswers, BootsAs, IsBy, IsMember};
-ghost use Rattle.node_core.specs.States.{disk_in, journal_in, is_fault, IsDown};
+ghost use Rattle.node_core.specs.States.{disk_in, journal_in, is_fault, seen_in, seen_over, IsDown, IsWhole};
 ghost use Rattle.node_core.specs.Takes.{TakeAnswers, SendAnswers};
 
 use super::faults::CommitFault;
@@ -164,19 +165,10 @@ impl<D: Disk, F: Spelt + Drop> Node<D, F> {
         requires { self.old.journal ≡ None }
         ensures { BootsAs F.reading self.old result self.new }
     {
-        match mem::replace(&mut self.state, State::Moved) {
-            State::Down { disk } => match Up::open(alloc, disk, self.identity) {
-                Ok(up) => {
-                    self.state = State::Up { up };
-                    Ok(())
-                }
-                Err(refused) => {
-                    self.state = State::Down { disk: refused.disk };
-                    Err(refused.why)
-                }
-            },
-            _ => unreachable!(),
-        }
+        let disk = take_disk(&mut self.state);
+        let (state, answer) = opened(alloc, disk, self.identity);
+        put(&mut self.state, state);
+        answer
     }
 }
 
@@ -257,9 +249,7 @@ impl<D: Disk, F: FlowSet> Node<D, F> {
             }
         }
     }
-}
 
-impl<D: Disk, F: FlowSet> Node<D, F> {
     /// Takes the frame that the bytes are, at a moment that is no less than that of the last cause. An item that comes next of its
     /// session is committed, by which a flow may begin; its stamp is no greater than the record's. An acknowledgement is noted until the
     /// node goes down. With `Took` and `Again` comes an acknowledgement to send.
@@ -310,13 +300,14 @@ impl<D: Bay, F: Spelt + Drop> Node<D, F> {
         Ok(())
     }
 
-    /// Ends a cut of the disk's power, and disarms a fuse.
+    /// Ends a cut of the disk's power, and disarms a fuse. A disk in memory is calm afterwards, and a file that was calm stays so.
     pub fn restore_power(&mut self)
         requires { self.old.journal ≡ None }
         ensures journal { self.new.journal ≡ None }
         ensures identity { self.new.identity ≡ self.old.identity }
         ensures disk { self.new.disk ≡ record self.old.disk { power = true; fuse = None; calm = self.new.disk.calm } }
         ensures calm { self.old.disk.of_file ≡ false → self.new.disk.calm ≡ true }
+        ensures stays_calm { self.old.disk.calm ≡ true → self.new.disk.calm ≡ true }
     {
         match &mut self.state {
             State::Down { disk } => disk.restore_power(),
@@ -357,12 +348,51 @@ fn go_down<D: Disk, F: Spelt + Drop>(state: &mut State<D, F>)
     ensures disk { disk_in D.seen state.new ≡ disk_in D.seen state.old }
     ensures down { IsDown state.new }
 {
+    let disk = take_up(state).into_disk();
+    put(state, State::Down { disk });
+}
+
+/// Takes out what is up.
+fn take_up<D: Disk, F: Spelt + Drop>(state: &mut State<D, F>) -> Up<D, F>
+    requires { IsSome (journal_in state.old) }
+    ensures { state.old ≡ State.Up result }
+{
     match mem::replace(state, State::Moved) {
-        State::Up { up } => {
-            *state = State::Down {
-                disk: up.into_disk(),
-            };
-        }
+        State::Up { up } => up,
         _ => unreachable!(),
     }
+}
+
+/// Takes out the disk of a node that is down.
+fn take_disk<D: Disk, F: Spelt + Drop>(state: &mut State<D, F>) -> D
+    requires { IsDown state.old }
+    ensures { state.old ≡ State.Down result }
+{
+    match mem::replace(state, State::Moved) {
+        State::Down { disk } => disk,
+        _ => unreachable!(),
+    }
+}
+
+/// What a boot makes of a disk: it is up on its journal, or down as before.
+fn opened<D: Disk, F: Spelt + Drop>(
+    alloc: Global,
+    disk: D,
+    identity: Identity,
+) -> (State<D, F>, Result<(), BootFault>)
+    requires { IsIdentity identity }
+    ensures whole { IsWhole identity result.0 }
+    ensures boots { BootsAs F.reading (seen_over identity (D.seen disk)) result.1 (seen_in D.seen identity result.0) }
+{
+    match Up::open(alloc, disk, identity) {
+        Ok(up) => (State::Up { up }, Ok(())),
+        Err(refused) => (State::Down { disk: refused.disk }, Err(refused.why)),
+    }
+}
+
+/// Puts a value where another one was, which is let go.
+fn put<T: Drop>(place: &mut T, value: T)
+    ensures { place.new ≡ value }
+{
+    *place = value;
 }

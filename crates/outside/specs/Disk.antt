@@ -2,7 +2,7 @@
 --
 -- Between two syncs each range that was written, and what lies past the old end, may hold any bytes after a power cut.
 -- The length then lies between the one at the sync and the greatest written end, and all other bytes stay.
-use Rattle.std.specs.Prelude.{◌≡◌, ◌⊎◌, ℕ, zero, suc, ◌+◌, ◌-◌, ◌<◌, ◌≤◌, ◌==◌, max, List, [], ◌∷◌, ◌++◌, length, take, drop, slice_index, Contains, Option, Some, None, Bool, true, false, if◌then◌else◌}
+use Rattle.std.specs.Prelude.{◌≡◌, ◌⊎◌, ℕ, zero, suc, ◌+◌, ◌-◌, ◌<◌, ◌≤◌, ◌==◌, ◌&&◌, ◌||◌, not, max, List, [], ◌∷◌, ◌++◌, length, take, drop, slice_index, Contains, Option, Some, None, Bool, true, false, if◌then◌else◌}
 
 -- what stood at the last sync, and the ranges that were written since and are pending, each by its place and length
 pub record Durable : Type 0 where
@@ -159,6 +159,20 @@ burnt_by (suc n) fuse = burnt_by n (burnt fuse)
 abbrev pub blows : Option (ℕ × ℕ) → Bool
 blows None = false
 blows (Some f) = f.0 == 1
+
+-- one of so many writes and syncs more takes the power
+abbrev pub blows_within : ℕ → Option (ℕ × ℕ) → Bool
+blows_within zero fuse = false
+blows_within (suc n) fuse = blows fuse || blows_within n (burnt fuse)
+
+-- what so many writes and syncs do to power and fuse: with power each burns the fuse, which takes the power as it ends; without power nothing changes, and no call brings power back
+pub record Burns (calls : ℕ) (old new : DiskView) : Type 0 where
+  pub fuse : new.fuse ≡ (if old.power then burnt_by calls old.fuse else old.fuse)
+  pub power : new.power ≡ (old.power && not (blows_within calls old.fuse))
+
+-- what at most so many do
+abbrev pub BurnsUpTo : ℕ → DiskView → DiskView → Type 0
+BurnsUpTo most old new = (calls : ℕ) × (calls ≤ most) × Burns calls old new
 
 -- what no call but `make_room` and those of a bay changes
 pub record SameRest (old new : DiskView) : Type 0 where

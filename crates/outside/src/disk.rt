@@ -1,5 +1,5 @@
 ghost use Rattle.std.specs.Prelude.{◌≡◌, ◌≤◌, ◌<◌, ◌+◌, ◌⊎◌, ◌&&◌, not, ℕ, true, false, length, take, drop, IfOk, OnOk, OnErr, IsOk, IsErr, Some, if◌then◌else◌};
-ghost use Rattle.outside.specs.Disk.{IsImage, EachImage, KeepsImage, CutsPower, FailsSyncing, FailsSyncingUncut, FailsWriting, FailsWritingUncut, Syncs, SameRest, IfTold, overwritten, clean, with_range, written, blows, burnt, burnt_by};
+ghost use Rattle.outside.specs.Disk.{IsImage, EachImage, KeepsImage, CutsPower, FailsSyncing, FailsSyncingUncut, FailsWriting, FailsWritingUncut, Syncs, SameRest, IfTold, overwritten, clean, with_range, written, blows, burnt, burnt_by, Burns, BurnsUpTo};
 ghost use Rattle.outside.specs.Faults.{HasCause};
 
 use crate::fault::Failed;
@@ -113,6 +113,8 @@ pub fn write_synced<D: Disk>(disk: &mut D, at: u64, from: &[u8]) -> Result<(), F
     // The fuse counts both calls, and the power is there as before.
     ensures fuse { OnOk result ((D.seen disk.new).fuse ≡ burnt_by 2 (D.seen disk.old).fuse) }
     ensures power { OnOk result (((D.seen disk.old).power ≡ true) × ((D.seen disk.new).power ≡ true)) }
+    ensures burns { OnOk result (Burns 2 (D.seen disk.old) (D.seen disk.new)) }
+    ensures no_more { BurnsUpTo 2 (D.seen disk.old) (D.seen disk.new) }
     ensures calm { (D.seen disk.old).calm ≡ true → IsOk result × ((D.seen disk.new).calm ≡ true) }
     ensures cause { HasCause (D.seen disk.old).faults (D.seen disk.new).faults result }
 {

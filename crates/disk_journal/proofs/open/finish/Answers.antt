@@ -5,6 +5,7 @@ use Rattle.std.proofs.lemmas.List.{drop_all, append-nil}
 use Rattle.disk_journal.specs.Journal.{header, IsYoung}
 use Rattle.outside.proofs.Writes.{length-overwritten, back-overwritten}
 use Rattle.disk_journal.proofs.Young.{by_parts, shut_young, tail_step, gate_step}
+use Rattle.outside.proofs.Burning.{then_up_to}
 use Rattle.disk_journal.proofs.open.finish.Goals as goal
 
 pub returns-clause-moments : goal.returns-clause-moments
@@ -46,3 +47,6 @@ returns-clause-young g c tells is =
     ∙ ap (λ (l : List ℕ). drop 1 l) c.tail.ensures in
     then d m e (IsYoung id) first
     (by_parts m e 0 (1 ∷ []) (IsYoung id) done.1 (omega arith) (inr (inl (len, inr good))) (λ x parts. gate_step id m.kept x len good parts) (c.write_synced-2.ensures.moments too))
+
+pub returns-clause-no_more : goal.returns-clause-no_more
+returns-clause-no_more g c = then_up_to 2 2 (g.D.Disk.seen c.args.disk.now) (g.D.Disk.seen c.write_synced.new.disk) (g.D.Disk.seen c.write_synced-2.new.disk) c.in_ok-write_synced.ensures.burns c.write_synced-2.ensures.no_more

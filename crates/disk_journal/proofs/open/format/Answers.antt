@@ -3,6 +3,7 @@ use Rattle.outside.proofs.Moments.{then}
 use Rattle.disk_journal.proofs.Opens.{short_write}
 use Rattle.disk_journal.specs.Journal.{IsYoung}
 use Rattle.disk_journal.proofs.Young.{by_parts, first_step}
+use Rattle.outside.proofs.Burning.{then_up_to}
 use Rattle.disk_journal.proofs.open.format.Goals as goal
 
 pub returns-clause-moments : goal.returns-clause-moments
@@ -34,3 +35,6 @@ returns-clause-young g c tells not_yet young =
     (λ x parts. first_step c.args.id.now d.kept x young not_yet (start.2 c.if-is_shut.false) parts) (c.write_synced.ensures.moments tells) in
     let shut_now : get_or m.kept 0 0 ≡ 0 = ap (λ (l : List ℕ). get_or l 0 0) (c.in_ok-write_synced.ensures.done tells).0 in
     then d m e (IsYoung c.args.id.now) first (c.finish-2.ensures.young too shut_now)
+
+pub returns-clause-no_more : goal.returns-clause-no_more
+returns-clause-no_more g c = then_up_to 2 4 (g.D.Disk.seen c.args.disk.now) (g.D.Disk.seen c.write_synced.new.disk) (g.D.Disk.seen c.finish-2.new.disk) c.in_ok-write_synced.ensures.burns c.finish-2.ensures.no_more

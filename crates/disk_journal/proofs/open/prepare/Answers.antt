@@ -4,6 +4,7 @@ use Rattle.disk_journal.specs.Journal.{is_unformatted, IsYoung, placed}
 use Rattle.outside.proofs.Moments.{then, weaker}
 use Rattle.disk_journal.proofs.Fresh.{unformatted_short, short_spells, refusal_unformatted}
 use Rattle.disk_journal.proofs.Opens.{known, begun, spelt_short, never_sound, opens_fresh}
+use Rattle.outside.proofs.Burning.{then_up_to}
 use Rattle.disk_journal.proofs.open.prepare.Goals as goal
 
 pub begin-requires-clause-short : goal.begin-requires-clause-short
@@ -183,3 +184,9 @@ returns-clause-young g c tells all =
     let d = (g.D.Disk.seen c.args.disk.now).state in
     let m = (g.D.Disk.seen c.read_all.new.disk).state in
     weaker d m (IsImage d.now) (IsYoung c.args.id.now) all (c.read_all.ensures.moments tells)
+
+pub returns-in_err-begin-clause-no_more : goal.returns-in_err-begin-clause-no_more
+returns-in_err-begin-clause-no_more g c = then_up_to 1 6 (g.D.Disk.seen c.args.disk.now) (g.D.Disk.seen c.read_all.new.disk) (g.D.Disk.seen c.begin.new.disk) c.read_all.ensures.burns c.begin.ensures.no_more
+
+pub returns-then-is_unformatted-clause-no_more : goal.returns-then-is_unformatted-clause-no_more
+returns-then-is_unformatted-clause-no_more g c = then_up_to 1 6 (g.D.Disk.seen c.args.disk.now) (g.D.Disk.seen c.read_all.new.disk) (g.D.Disk.seen c.begin.new.disk) c.read_all.ensures.burns c.begin.ensures.no_more

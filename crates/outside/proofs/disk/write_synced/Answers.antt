@@ -1,6 +1,8 @@
-use Rattle.std.proofs.Common.{◌≡◌, ◌⊎◌, ℕ, List, length, Result, Ok, Err, OnOk, OnErr, true, subst, ◌∙◌}
+use Rattle.std.proofs.Common.{◌≡◌, ◌⊎◌, ℕ, List, length, Result, Ok, Err, OnOk, OnErr, true, subst, ◌∙◌, arith}
 use Rattle.outside.specs.Disk.{DiskState, DiskView, IsImage, KeepsImage, FailsSyncing, Syncs, IfTold, overwritten, clean, with_range, written}
 use Rattle.outside.proofs.Moments.{failed_write, sync_leaves, settled_kept, sync_kept, kept_image}
+use Rattle.outside.specs.Disk.{Burns}
+use Rattle.outside.proofs.Burning.{burns_one, burns_then, up_to, where_done}
 use Rattle.outside.proofs.disk.write_synced.Goals as goal
 
 pub returns-in_err-write_at-clause-moments : goal.returns-in_err-write_at-clause-moments
@@ -36,3 +38,26 @@ returns-clause-done g c = done_all (g.D.Disk.seen c.args.disk.now) (g.D.Disk.see
 
 pub returns-clause-failed : goal.returns-clause-failed
 returns-clause-failed g c = failed_all (g.D.Disk.seen c.args.disk.now) (g.D.Disk.seen c.write_at.new.self) (g.D.Disk.seen c.sync.new.self) c.args.at c.args.from.now c.sync.result c.write_at.ensures.rest.tells c.in_ok-write_at.ensures.done c.sync.ensures.kept c.sync.ensures.failed
+
+pub returns-in_err-write_at-clause-no_more : goal.returns-in_err-write_at-clause-no_more
+returns-in_err-write_at-clause-no_more g c =
+    let old = g.D.Disk.seen c.args.disk.now in
+    let new = g.D.Disk.seen c.write_at.new.self in
+    up_to 1 2 old new (omega arith) (burns_one old new c.write_at.ensures.fuse c.write_at.ensures.power)
+
+both : (old mid new : DiskView) → Burns 1 old mid → Burns 1 mid new → Burns 2 old new
+both old mid new first next = burns_then 1 1 old mid new first next
+
+pub returns-clause-burns : goal.returns-clause-burns
+returns-clause-burns g c =
+    let old = g.D.Disk.seen c.args.disk.now in
+    let mid = g.D.Disk.seen c.write_at.new.self in
+    let new = g.D.Disk.seen c.sync.new.self in
+    where_done c.sync.result (both old mid new (burns_one old mid c.write_at.ensures.fuse c.write_at.ensures.power) (burns_one mid new c.sync.ensures.fuse c.sync.ensures.power))
+
+pub returns-clause-no_more : goal.returns-clause-no_more
+returns-clause-no_more g c =
+    let old = g.D.Disk.seen c.args.disk.now in
+    let mid = g.D.Disk.seen c.write_at.new.self in
+    let new = g.D.Disk.seen c.sync.new.self in
+    up_to 2 2 old new (omega arith) (both old mid new (burns_one old mid c.write_at.ensures.fuse c.write_at.ensures.power) (burns_one mid new c.sync.ensures.fuse c.sync.ensures.power))

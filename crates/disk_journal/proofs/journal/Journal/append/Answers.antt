@@ -1,8 +1,9 @@
 use Rattle.std.proofs.Common.{◌≡◌, ◌⊎◌, ◌≤◌, ◌<◌, ◌+◌, ◌-◌, ◌∷◌, [], ℕ, List, length, Bool, true, false, vec_capacity, subst, sym, ◌∙◌, ap, arith, inr}
-use Rattle.outside.specs.Disk.{DiskState, IsImage, EachImage, overwritten, clean, with_range}
+use Rattle.outside.specs.Disk.{DiskState, IsImage, EachImage, BurnsUpTo, overwritten, clean, with_range}
 use Rattle.outside.proofs.Moments.{Either}
 use Rattle.disk_journal.specs.Journal.{JournalView, Stands, journal_of, entry, record_limit, is_full_at}
 use Rattle.disk_journal.proofs.Appends.{not_full, stays, first, first_kept, first_within, second_kept, second_within, both, stands}
+use Rattle.outside.proofs.Burning.{then_up_to}
 use Rattle.disk_journal.proofs.journal.Journal.append.Goals as goal
 
 fewer : (j : JournalView) (d : DiskState) (full : Bool) → Stands j d → full ≡ is_full_at j.count j.length → full ≡ false → length (journal_of d.kept) < record_limit
@@ -158,3 +159,13 @@ returns-clause-ready g c too_new =
     let k : JournalView = record { disk = g.D.Disk.seen c.write_synced-2.new.disk; of = c.self.inside.of; length = c.self.inside.length + (5 + length body); count = c.self.inside.count + 1; buffer = vec_capacity c.spell.new.buffer } in
     let s = stands old d body st c.requires.small few m kept done.1 e k kept_two done_two.1 (ap (λ (x : JournalView). x.of) c.self.view_is) (ap (λ (x : JournalView). x.length + (5 + length body)) c.self.view_is) (ap (λ (x : JournalView). x.count + 1) c.self.view_is) in
     s.0
+
+pub returns-in_err-write_synced-2-clause-no_more : goal.returns-in_err-write_synced-2-clause-no_more
+returns-in_err-write_synced-2-clause-no_more g c =
+    let new = g.D.Disk.seen c.write_synced-2.new.disk in
+    subst (λ (x : JournalView). BurnsUpTo 4 x.disk new) c.self.view_is (then_up_to 2 2 (g.D.Disk.seen c.self.inside.disk) (g.D.Disk.seen c.write_synced.new.disk) new c.in_ok-write_synced.ensures.burns c.write_synced-2.ensures.no_more)
+
+pub returns-clause-no_more : goal.returns-clause-no_more
+returns-clause-no_more g c =
+    let new = g.D.Disk.seen c.write_synced-2.new.disk in
+    subst (λ (x : JournalView). BurnsUpTo 4 x.disk new) c.self.view_is (then_up_to 2 2 (g.D.Disk.seen c.self.inside.disk) (g.D.Disk.seen c.write_synced.new.disk) new c.in_ok-write_synced.ensures.burns c.write_synced-2.ensures.no_more)
