@@ -32,7 +32,7 @@ Serve e step.Drain w o v = WorldDrains e w o v
 pub data Links {W : Type 0} (serve : Step → W → Option Outcome → W → Type 0) : List Step → List Outcome → W → W → Type 0 where
   none : {steps : List Step} {outcomes : List Outcome} {w v : W} → steps ≡ [] → outcomes ≡ [] → v ≡ w → Links serve steps outcomes w v
   more : {steps all : List Step} {outcomes longer : List Outcome} {w u v : W} (s : Step) (o : Outcome) → Links serve steps outcomes w u → serve s u (Some o) v → all ≡ steps ++ s ∷ [] → longer ≡ outcomes ++ o ∷ []
-    → Links serve all longer w v
+      → Links serve all longer w v
 
 -- all steps have their outcome, or the first ones have, and want of memory ended the next one
 abbrev pub LeadTo : {W : Type 0} → (Step → W → Option Outcome → W → Type 0) → List Step → List Outcome → Bool → W → W → Type 0
