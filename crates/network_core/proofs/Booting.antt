@@ -1,8 +1,8 @@
 -- What a boot makes of the world.
-use Rattle.std.proofs.Common.{◌≡◌, ◌⊎◌, inl, inr, ⊎_elim, ℕ, max, ◌<◌, ◌≤◌, Bool, true, false, List, [], map, Option, Some, None, Result, Ok, Err, refl, sym, ◌∙◌, ap, subst, arith, slice_set}
+use Rattle.std.proofs.Common.{◌≡◌, ◌⊎◌, inl, inr, ⊎_elim, ℕ, max, ◌≤◌, Bool, true, false, List, [], map, Option, Some, None, Result, Ok, Err, refl, sym, ◌∙◌, ap, subst, arith, slice_set}
 use Rattle.std.specs.List.{slice_get, AllByRecursion}
-use Rattle.std.specs.Option.{MatchOption}
-use Rattle.std.proofs.lemmas.Bool.{cases_lt, false_from_ne_true}
+use Rattle.std.specs.Option.{MatchOption, option_and_then}
+use Rattle.std.proofs.lemmas.Bool.{false_from_ne_true}
 use Rattle.std.proofs.lemmas.Option.{same_Some, none-some}
 use Rattle.network_core.proofs.Loops.{by_later, by_last}
 use Rattle.outside.specs.Disk.{DiskView, IsImage}
@@ -23,7 +23,8 @@ use Rattle.node_core.specs.Seen.{NodeSeen, BootsAs, Booted, Unbooted, Unopened, 
 use Rattle.network_core.specs.declared.steps.Outcome.{Outcome}
 use Rattle.network_core.specs.declared.steps.Outcome.TheVariants as outcome
 use Rattle.network_core.specs.Worlds.{NodeWorld, World, NetSeen, MaySpell, ShowsJournal, NodeShows, NodeCoherent, Shows, Coherent, KeepsWorld}
-use Rattle.network_core.specs.Answers.{said, boot_outcome, Restored, BootServes, BootClock, AtPlace}
+use Rattle.network_core.specs.Answers.{said, boot_outcome, Restored, BootServes, BootClock, AtPlace, booted_at, journal_at, last_moment}
+use Rattle.network_core.specs.Begins.{IsLast}
 use Rattle.network_core.specs.Serves.{WorldPlace, WorldBoots, StaysDown}
 use Rattle.network_core.proofs.Agreeing.{boot_coherent}
 use Rattle.network_core.proofs.Stands.{Goes, AreYoung, shows_down, images_now, young_now}
@@ -247,13 +248,25 @@ at_mid : {E : Type 0} (p : ℕ) (old new : NetSeen) (result : Result Outcome E) 
 at_mid p old new result serves (inl (past, is, same)) = inl (past, is, ap (λ (z : NetSeen). record { nodes = z.nodes; waiting = z.waiting; now = old.now }) same)
 at_mid p old new result serves (inr r) = inr r
 
-too_late : {F : Type 0} (e : Environment F) (p : ℕ) (old new : NetSeen) (v : World) → Shows e (record { nodes = new.nodes; waiting = new.waiting; now = old.now }) v → Coherent e v → (k : NodeSeen) (bodies : List (List ℕ)) → slice_get new.nodes p ≡ Some k → k.journal ≡ Some bodies → old.now < (state_of e.frame_at bodies).moment → ⊥
-too_late e p old new v shows coherent k bodies at here late =
-    let found = get_beside new.nodes v.nodes p k (sym shows.count) at in
-    let by = by_of e p v.now k found.0 bodies (shows.each p k found.0 at found.1) (coherent.each p found.0 found.1) here in
-    omega (arith, by, shows.clock, late)
+-- no journal of a coherent world's network is later than its moment
+module _ {F : Type 0} (e : Environment F) (p : ℕ) (net : NetSeen) (v : World) (shows : Shows e net v) (coherent : Coherent e v) where
+  last_by : (k : NodeSeen) → slice_get net.nodes p ≡ Some k → (journal : Option (List (List ℕ))) → k.journal ≡ journal → last_moment e.frame_at journal ≤ net.now
+  last_by k at None here = omega arith
+  last_by k at (Some b) here =
+      let found = get_beside net.nodes v.nodes p k (sym shows.count) at in
+      let by = by_of e p v.now k found.0 b (shows.each p k found.0 at found.1) (coherent.each p found.0 found.1) here in
+      omega (arith, by, shows.clock)
 
-pub boot_world : {F E : Type 0} (m : Machine F) (f : Reads F) (p : ℕ) (old new : NetSeen) (result : Result Outcome E) → BootClock f p old new → AtPlace p old result new (λ n r k. BootServes f n r k) → KeepsWorld m f old new (λ e w v. WorldPlace p w (said result) v (λ x o y. WorldBoots e x o y))
+  last_at : (found : Option NodeSeen) → slice_get net.nodes p ≡ found → last_moment e.frame_at (option_and_then (λ k. k.journal) found) ≤ net.now
+  last_at None at = omega arith
+  last_at (Some k) at = last_by k at k.journal refl
+
+-- a boot leaves a moment that no journal is later than
+clock_stays : {F : Type 0} (f : Reads F) (now : ℕ) (o : Option Outcome) (journal : Option (List (List ℕ))) → last_moment f journal ≤ now → booted_at f now o journal ≡ now
+clock_stays f now (Some outcome.Booted) journal le = omega (arith, le)
+clock_stays f now other journal le = refl
+
+pub boot_world : {F E : Type 0} (m : Machine F) (f : Reads F) (p : ℕ) (old new : NetSeen) (result : Result Outcome E) → BootClock f p old result new → AtPlace p old result new (λ n r k. BootServes f n r k) → KeepsWorld m f old new (λ e w v. WorldPlace p w (said result) v (λ x o y. WorldBoots e x o y))
 boot_world m f p old new result clock at id w shows coherent =
     let e = environment m f id in
     let mid : NetSeen = record { nodes = new.nodes; waiting = new.waiting; now = old.now } in
@@ -262,7 +275,9 @@ boot_world m f p old new result clock at id w shows coherent =
     (λ id t n k x s c b. boot_any (environment m f id) p n k x result s (coherent_fits m f id p t x c) b)
     (λ id w v c h. boot_coherent (environment m f id) p w v (said result) c h)
     refl (at_mid p old new result (λ n r k. BootServes f n r k) at) id w shows coherent in
-    let same : new ≡ mid = ⊎_elim (λ s. ap (λ t. record { nodes = new.nodes; waiting = new.waiting; now = t }) s) (λ (k, bodies, at_k, here, late). absurd (too_late e p old new there.0 there.1 there.2 k bodies at_k here late)) clock in
+    let last = last_at e p mid there.0 there.1 there.2 (slice_get new.nodes p) refl in
+    let stays : new.now ≡ old.now = clock ∙ clock_stays f old.now (said result) (journal_at p new) last in
+    let same : new ≡ mid = ap (λ t. record { nodes = new.nodes; waiting = new.waiting; now = t }) stays in
     (there.0, subst (λ (z : NetSeen). Shows e z there.0) (sym same) there.1, there.2, there.3)
 
 -- ---- the moments of the nodes after a boot
@@ -275,10 +290,38 @@ pub all_by : {F : Type 0} (f : Reads F) (ns : List NodeSeen) (i : ℕ) (k : Node
 all_by f ns i k now last later all is same =
     all_set (λ n. IsBy f n.journal later) ns i k (all_weaken (λ n. IsBy f n.journal now) (λ n. IsBy f n.journal later) ns (λ n by. by_later f n.journal now later (omega (arith, same)) by) all) (by_last f k.journal last later is (omega (arith, same)))
 
-clock_by : {F : Type 0} (f : Reads F) (place : ℕ) (old new : NetSeen) (k : NodeSeen) (last : ℕ) (journal : Option (List (List ℕ))) → slice_get new.nodes place ≡ Some k → k.journal ≡ journal → MatchOption journal (last ≡ 0) (λ b. last ≡ (state_of f b).moment) → new.now ≡ max old.now last → BootClock f place old new
-clock_by f place old new k last None there here none same = inl (omega (arith, none, same))
-clock_by f place old new k last (Some b) there here some same = ⊎_elim (λ late. inr (k, b, there, here, omega (arith, some, late))) (λ le. inl (omega (arith, same, le))) (cases_lt old.now last)
+-- the moment that a node tells is that of its journal's last cause
+last_is : {F : Type 0} (f : Reads F) (journal : Option (List (List ℕ))) (last : ℕ) → IsLast f journal last → last ≡ last_moment f journal
+last_is f None last is = is
+last_is f (Some b) last is = is
 
--- the moment stays, or the node's journal has a later cause
-pub clock_boot : {F : Type 0} (f : Reads F) (place : ℕ) (old new : NetSeen) (n k : NodeSeen) (last : ℕ) → slice_get old.nodes place ≡ Some n → new.nodes ≡ slice_set old.nodes place k → MatchOption k.journal (last ≡ 0) (λ b. last ≡ (state_of f b).moment) → new.now ≡ max old.now last → BootClock f place old new
-clock_boot f place old new n k last at nodes is same = clock_by f place old new k last k.journal (rw nodes (get_there old.nodes place n k at)) refl is same
+-- no cause of a node is later than a moment
+by_is : {F : Type 0} (f : Reads F) (journal : Option (List (List ℕ))) (now : ℕ) → IsBy f journal now → last_moment f journal ≤ now
+by_is f None now by = omega arith
+by_is f (Some b) now by = by
+
+module _ {F : Type 0} (f : Reads F) (now last : ℕ) (k : NodeSeen) (is : last ≡ last_moment f k.journal) where
+  -- where the node is down the moment stays
+  none_stays : k.journal ≡ None → max now last ≡ now
+  none_stays none = omega (arith, is, ap (last_moment f) none)
+
+  -- by what the boot answers
+  booted_as : (mid : NodeSeen) (answer : Result (Unit {0}) BootFault) → BootsAs f mid answer k → max now last ≡ booted_at f now (boot_outcome answer) k.journal
+  booted_as mid (Ok u) s = ap (λ t. max now t) is
+  booted_as mid (Err boot_fault.Fault) s = none_stays s.0
+  booted_as mid (Err boot_fault.Memory) s = none_stays s.0
+  booted_as mid (Err boot_fault.NotAJournal) s = none_stays s.0
+  booted_as mid (Err (boot_fault.WrongNode found)) s = none_stays s.0
+  booted_as mid (Err (boot_fault.Damaged at)) s = none_stays s.0
+
+  -- a boot of any node none of whose causes is later than the moment
+  served_as : {E : Type 0} (n : NodeSeen) (result : Result Outcome E) → IsBy f n.journal now → BootServes f n result k → max now last ≡ booted_at f now (said result) k.journal
+  served_as n result by (inl (up, four, same)) = rw four (omega (arith, is, ap (λ (x : NodeSeen). last_moment f x.journal) same, by_is f n.journal now by))
+  served_as n result by (inr (down, (mid, answer, restored, boots, so))) = rw so (booted_as mid answer boots)
+
+-- the moment is the greater of the one that stood and that of the last cause of the node that came up
+pub clock_boot : {F E : Type 0} (f : Reads F) (place : ℕ) (old new : NetSeen) (n k : NodeSeen) (last : ℕ) (result : Result Outcome E) → slice_get old.nodes place ≡ Some n → new.nodes ≡ slice_set old.nodes place k → IsBy f n.journal old.now → BootServes f n result k
+    → IsLast f k.journal last → new.now ≡ max old.now last → BootClock f place old result new
+clock_boot f place old new n k last result at nodes by serves is same =
+    let there : slice_get new.nodes place ≡ Some k = rw nodes (get_there old.nodes place n k at) in
+    rw there (same ∙ served_as f old.now last k (last_is f k.journal last is) n result by serves)

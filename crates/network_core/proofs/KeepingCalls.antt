@@ -12,10 +12,10 @@ use Rattle.network_core.specs.Drains.{Pair, pair_steps}
 use Rattle.network_core.specs.Ways.{Way, stay, by_part, by_step, CallsAreWays, PairsAreBoth}
 use Rattle.network_core.specs.declared.steps.Step.{Step}
 use Rattle.network_core.specs.declared.steps.Step.TheVariants as step
-use Rattle.network_core.specs.Served.{PairServes, PairLinks, begin, go_on, PairFollows}
+use Rattle.network_core.specs.Served.{PairServes, PairLinks, none, more, PairFollows}
 use Rattle.network_core.proofs.Driving.{to_net, to_world}
 use Rattle.network_core.proofs.Mapping.{drains_go, drains_map}
-use Rattle.network_core.proofs.Pairing.{follows_worlds}
+use Rattle.network_core.proofs.Pairing.{follows_nets, follows_worlds}
 
 module _ {F : Type 0} (m : Machine F) (f : Reads F) (id : Identity) where
   abbrev e : Environment F
@@ -50,8 +50,8 @@ module _ {F : Type 0} (m : Machine F) (f : Reads F) (id : Identity) where
   apply_way a b (step.Boot node) o h = by_step (step.Boot node) o (stay refl) (λ is. cc) h.0 h.1
 
   links_way : (a b : Pair (environment m f id)) (steps : List Step) (outcomes : List Outcome) → PairLinks m f id steps outcomes a b → Way m f id a b
-  links_way a b steps outcomes (begin no_step nothing is) = stay is
-  links_way a b all longer (go_on {steps = steps} {outcomes = outcomes} {c = c} s o before serves all_is longer_is) = way_then a c b (links_way a c steps outcomes before) (apply_way c b s (Some o) serves)
+  links_way a b steps outcomes (none no_step nothing is) = stay is
+  links_way a b all longer (more {steps = steps} {outcomes = outcomes} {u = c} s o before serves all_is longer_is) = way_then a c b (links_way a c steps outcomes before) (apply_way c b s (Some o) serves)
 
   follows_way : (a b : Pair (environment m f id)) (steps : List Step) (outcomes : List Outcome) (all : Bool) → PairFollows m f id steps outcomes all a b → Way m f id a b
   follows_way a b steps outcomes true h = links_way a b steps outcomes h
@@ -65,6 +65,7 @@ calls_are_ways m f id a b = record { apply = apply_way m f id a b; apply_all = f
 pub pairs_are_both : {F : Type 0} → PairsAreBoth F
 pairs_are_both m f id a b = record {
   worlds = follows_worlds m f id a b;
+  nets = follows_nets m f id a b;
   drained = λ o h. (drains_map (pair_steps m f id) (world_steps (environment m f id)) (λ (z : Pair (environment m f id)). z.world) (to_world m f id) a o b h.0, h.1);
   seen = λ o h. drains_map (pair_steps m f id) (net_steps m f) (λ (z : Pair (environment m f id)). z.net) (to_net m f id) a o b h.0;
 }

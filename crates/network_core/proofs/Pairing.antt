@@ -1,5 +1,5 @@
 -- What a step makes of a network and of its world, as one.
-use Rattle.std.proofs.Common.{◌≡◌, inl, inr, ⊎_elim, ℕ, zero, suc, ◌≤◌, length, take, drop, List, [], ◌∷◌, ◌++◌, Option, Some, None, Result, Bool, true, false, refl, sym, ◌∙◌, ap, subst}
+use Rattle.std.proofs.Common.{◌≡◌, inl, inr, ⊎_elim, ℕ, zero, suc, ◌≤◌, arith, length, length-append, take, drop, List, [], ◌∷◌, ◌++◌, Option, Some, None, Result, Ok, Bool, true, false, refl, sym, ◌∙◌, ap, subst}
 use Rattle.std.specs.List.{slice_get}
 use Rattle.std.proofs.lemmas.List.{take_all}
 use Rattle.net_base.specs.declared.names.Identity.{Identity}
@@ -10,10 +10,10 @@ use Rattle.network_core.specs.declared.steps.Outcome.{Outcome}
 use Rattle.network_core.specs.declared.steps.Step.{Step}
 use Rattle.network_core.specs.declared.steps.Step.TheVariants as step
 use Rattle.network_core.specs.Worlds.{NetSeen, KeepsWorld}
-use Rattle.network_core.specs.Answers.{said, answer_of, AtPlace, StartServes, TurnServes, CutServes, BootServes, LoseServes, Posting, PostServes, Handing, HandServes, Answered, net_steps}
+use Rattle.network_core.specs.Answers.{said, answer_of, AtPlace, StartServes, TurnServes, CutServes, BootServes, LoseServes, Posting, PostServes, Handing, HandServes, Answered, booted_at, journal_at, net_steps}
 use Rattle.network_core.specs.Rounds.{DrainsTo}
 use Rattle.network_core.specs.Drains.{Pair, with_world, pair_steps, KeepsPair, PairDrains, world_steps}
-use Rattle.network_core.specs.Served.{Serve, Links, none, more, Follows, PairServes, PairLinks, begin, go_on, PairFollows, FollowPairs}
+use Rattle.network_core.specs.Served.{Serve, Links, none, more, LeadTo, Follows, NetServe, NetFollows, PairServes, PairLinks, PairFollows, FollowPairs}
 use Rattle.network_core.proofs.Mapping.{drains_map}
 use Rattle.network_core.proofs.Driving.{to_world, to_net}
 
@@ -65,7 +65,7 @@ module _ {F E : Type 0} (m : Machine F) (f : Reads F) (old new : NetSeen) (r : R
   answered_bare (step.Repeat node at) h = hand_bare true node at h
   answered_bare (step.Lose node at) h = lose_bare node at h
   answered_bare (step.Cut node calls kind) h = ⊎_elim (λ odd. inl (odd.0, is ∙ odd.1, odd.2)) (λ known. inr (known.0, cut_bare node calls kind known.1, known.2)) h
-  answered_bare (step.Boot node) h = (boot_bare node h.0, h.1)
+  answered_bare (step.Boot node) h = (boot_bare node h.0, subst (λ (o : Option Outcome). new.now ≡ booted_at f old.now o (journal_at node new)) (sym is) h.1)
   answered_bare step.Drain h = (subst (λ (o : Option Outcome). DrainsTo (net_steps m f) old o new) (sym is) h.0, h.1)
 
   -- any step but a drain
@@ -86,16 +86,44 @@ pair_drain m f old new o clock pairs id w shows coherent =
 
 -- ---- steps, one after another
 
+-- what each step makes of states of one kind it makes of states of another
+module _ {W V : Type 0} (serve : Step → W → Option Outcome → W → Type 0) (other : Step → V → Option Outcome → V → Type 0) (g : W → V) (each : (s : Step) (w : W) (o : Option Outcome) (v : W) → serve s w o v → other s (g w) o (g v)) where
+  pub links_map : (steps : List Step) (outcomes : List Outcome) (w v : W) → Links serve steps outcomes w v → Links other steps outcomes (g w) (g v)
+  links_map steps outcomes w v (none no_step nothing is) = none no_step nothing (ap g is)
+  links_map all longer w v (more {steps = steps} {outcomes = outcomes} {u = u} s o before serves all_is longer_is) = more s o (links_map steps outcomes w u before) (each s u (Some o) v serves) all_is longer_is
+
+  pub leads_map : (steps : List Step) (outcomes : List Outcome) (all : Bool) (w v : W) → LeadTo serve steps outcomes all w v → LeadTo other steps outcomes all (g w) (g v)
+  leads_map steps outcomes true w v h = links_map steps outcomes w v h
+  leads_map steps outcomes false w v (first, s, rest, u, is, before, serves) = (first, s, rest, g u, is, links_map first outcomes w u before, each s u None v serves)
+
+-- each step that was made has its outcome
+pub links_count : {W : Type 0} (serve : Step → W → Option Outcome → W → Type 0) (steps : List Step) (outcomes : List Outcome) (w v : W) → Links serve steps outcomes w v → length outcomes ≡ length steps
+links_count serve steps outcomes w v (none no_step nothing is) = ap length nothing ∙ sym (ap length no_step)
+links_count serve all longer w v (more {steps = steps} {outcomes = outcomes} {u = u} s o before serves all_is longer_is) =
+    omega (arith, links_count serve steps outcomes w u before, ap length all_is, ap length longer_is, length-append steps (s ∷ []), length-append outcomes (o ∷ []))
+
+-- those of a network, over any disks
+module _ {F E : Type 0} (m : Machine F) (f : Reads F) (old mid new : NetSeen) (r : Result Outcome E) where
+  pub nets_more : (steps all : List Step) (outcomes longer : List Outcome) (s : Step) (o : Outcome) → Links (NetServe m f) steps outcomes old mid → Answered m f s mid r new → r ≡ Ok o → all ≡ steps ++ s ∷ [] → longer ≡ outcomes ++ o ∷ [] → Links (NetServe m f) all longer old new
+  nets_more steps all outcomes longer s o before answers is a b = more s o before (subst (λ (x : Option Outcome). NetServe m f s mid x new) (ap said is) (answered_bare m f mid new r s answers)) a b
+
+  pub nets_end : (steps first rest : List Step) (outcomes : List Outcome) (s : Step) → Links (NetServe m f) first outcomes old mid → Answered m f s mid r new → said r ≡ None → steps ≡ first ++ s ∷ rest → NetFollows m f steps outcomes false old new
+  nets_end steps first rest outcomes s before answers is all = (first, s, rest, mid, all, before, subst (λ (x : Option Outcome). NetServe m f s mid x new) is (answered_bare m f mid new r s answers))
+
+-- all steps were made
+pub links_all : {W : Type 0} (serve : Step → W → Option Outcome → W → Type 0) (steps : List Step) (i : ℕ) (outcomes : List Outcome) (w v : W) → length steps ≤ i → Links serve (take i steps) outcomes w v → LeadTo serve steps outcomes true w v
+links_all serve steps i outcomes w v le links = subst (λ (l : List Step). Links serve l outcomes w v) (take_all i steps le) links
+
 module _ {F : Type 0} (m : Machine F) (f : Reads F) where
   pub pairs_none : (net : NetSeen) (outcomes : List Outcome) → outcomes ≡ [] → KeepsPair m f net net (λ id a b. PairLinks m f id [] outcomes a b)
-  pairs_none net outcomes empty id w shows coherent = (w, shows, coherent, begin refl empty refl)
+  pairs_none net outcomes empty id w shows coherent = (w, shows, coherent, none refl empty refl)
 
   pub pairs_more : (old mid new : NetSeen) (steps all : List Step) (outcomes longer : List Outcome) (s : Step) (o : Outcome) → KeepsPair m f old mid (λ id a b. PairLinks m f id steps outcomes a b) → KeepsPair m f mid new (λ id a b. PairServes m f id s (Some o) a b)
       → all ≡ steps ++ s ∷ [] → longer ≡ outcomes ++ o ∷ [] → KeepsPair m f old new (λ id a b. PairLinks m f id all longer a b)
   pairs_more old mid new steps all outcomes longer s o before serves a b id w shows coherent =
       let one = before id w shows coherent in
       let two = serves id one.0 one.1 one.2 in
-      (two.0, two.1, two.2, go_on s o one.3 two.3 a b)
+      (two.0, two.1, two.2, more s o one.3 two.3 a b)
 
   pub pairs_end : (old mid new : NetSeen) (steps first rest : List Step) (outcomes : List Outcome) (s : Step) → KeepsPair m f old mid (λ id a b. PairLinks m f id first outcomes a b) → KeepsPair m f mid new (λ id a b. PairServes m f id s None a b)
       → steps ≡ first ++ s ∷ rest → KeepsPair m f old new (λ id a b. PairFollows m f id steps outcomes false a b)
@@ -112,16 +140,17 @@ split_there [] i x e = cc
 split_there (y ∷ ys) zero x e = let same : y ≡ x = cc in rw same (refl, refl)
 split_there (y ∷ ys) (suc i) x e = let t = split_there ys i x e in (ap (λ l. y ∷ l) t.0, ap (λ l. y ∷ l) t.1)
 
--- ---- the worlds alone
+-- ---- the worlds alone, and the networks alone
 
 module _ {F : Type 0} (m : Machine F) (f : Reads F) (id : Identity) where
-  links_worlds : (a b : Pair (environment m f id)) (steps : List Step) (outcomes : List Outcome) → PairLinks m f id steps outcomes a b → Links (environment m f id) steps outcomes a.world b.world
-  links_worlds a b steps outcomes (begin no_step nothing is) = none no_step nothing (ap (λ (z : Pair (environment m f id)). z.world) is)
-  links_worlds a b all longer (go_on {steps = steps} {outcomes = outcomes} {c = c} s o before serves all_is longer_is) = more s o (links_worlds a c steps outcomes before) serves.1 all_is longer_is
+  abbrev serves : Step → Pair (environment m f id) → Option Outcome → Pair (environment m f id) → Type 0
+  serves s a o b = PairServes m f id s o a b
 
   pub follows_worlds : (a b : Pair (environment m f id)) (steps : List Step) (outcomes : List Outcome) (all : Bool) → PairFollows m f id steps outcomes all a b → Follows (environment m f id) steps outcomes all a.world b.world
-  follows_worlds a b steps outcomes true h = links_worlds a b steps outcomes h
-  follows_worlds a b steps outcomes false (first, s, rest, c, is, before, serves) = (first, s, rest, c.world, is, links_worlds a c first outcomes before, serves.1)
+  follows_worlds a b steps outcomes all h = leads_map serves (Serve (environment m f id)) (λ (z : Pair (environment m f id)). z.world) (λ s w o v h. h.1) steps outcomes all a b h
+
+  pub follows_nets : (a b : Pair (environment m f id)) (steps : List Step) (outcomes : List Outcome) (all : Bool) → PairFollows m f id steps outcomes all a b → NetFollows m f steps outcomes all a.net b.net
+  follows_nets a b steps outcomes all h = leads_map serves (NetServe m f) (λ (z : Pair (environment m f id)). z.net) (λ s w o v h. h.0) steps outcomes all a b h
 
 pub pairs_worlds : {F : Type 0} (m : Machine F) (f : Reads F) (old new : NetSeen) (steps : List Step) (outcomes : List Outcome) (all : Bool) → FollowPairs m f steps outcomes all old new → KeepsWorld m f old new (λ e w v. Follows e steps outcomes all w v)
 pairs_worlds m f old new steps outcomes all pairs id w shows coherent =

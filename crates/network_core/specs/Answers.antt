@@ -1,5 +1,5 @@
 -- What a step of the network answers, and why, over any disks.
-use Rattle.std.specs.Prelude.{◌≡◌, ◌⊎◌, ℕ, zero, suc, ◌+◌, ◌<◌, ◌≤◌, ◌^◌, ⊤, Bool, if◌then◌else◌, List, [], ◌∷◌, length, slice_get, slice_set, Option, Some, None, IsSome, true, false, Result, Ok, Err}
+use Rattle.std.specs.Prelude.{◌≡◌, ◌⊎◌, ℕ, zero, suc, ◌+◌, ◌<◌, ◌≤◌, ◌^◌, ⊤, Bool, if◌then◌else◌, List, [], ◌∷◌, length, max, slice_get, slice_set, Option, Some, None, IsSome, option_and_then, true, false, Result, Ok, Err}
 use Rattle.std.specs.Option.{option_to_list}
 use Rattle.flow_machine.specs.Machine.{Machine}
 use Rattle.net_model.specs.Environment.{environment}
@@ -113,9 +113,24 @@ AtPlace place old result new serves =
 abbrev pub ClockServes : ℕ → NetSeen → Outcome → NetSeen → Type 0
 ClockServes to old result new = ((to < old.now) × (result ≡ outcome.Refused 10) × (new ≡ old)) ⊎ ((old.now ≤ to) × (result ≡ outcome.Fine) × (new ≡ record { nodes = old.nodes; waiting = old.waiting; now = to }))
 
--- the moment is raised by a boot only where the node's journal has a later cause, which none of a coherent world has
-abbrev pub BootClock : {F : Type 0} → Reads F → ℕ → NetSeen → NetSeen → Type 0
-BootClock frame_at place old new = (new.now ≡ old.now) ⊎ ((k : NodeSeen) × (bodies : List (List ℕ)) × (slice_get new.nodes place ≡ Some k) × (k.journal ≡ Some bodies) × (old.now < (state_of frame_at bodies).moment))
+-- the moment of the last cause in a node's journal, 0 without one or while the node is down
+abbrev pub last_moment : {F : Type 0} → Reads F → Option (List (List ℕ)) → ℕ
+last_moment frame_at None = 0
+last_moment frame_at (Some bodies) = (state_of frame_at bodies).moment
+
+-- the moment after a boot, by its outcome: where the node came up the greater of the one that stood and that of its journal's last cause,
+-- and else the one that stood
+abbrev pub booted_at : {F : Type 0} → Reads F → ℕ → Option Outcome → Option (List (List ℕ)) → ℕ
+booted_at frame_at now (Some outcome.Booted) journal = max now (last_moment frame_at journal)
+booted_at frame_at now _ journal = now
+
+-- the journal of the node at a place, none where there is no such node or it is down
+abbrev pub journal_at : ℕ → NetSeen → Option (List (List ℕ))
+journal_at place net = option_and_then (λ k. k.journal) (slice_get net.nodes place)
+
+-- so the moment of the network, by the journal that the node at the place has then
+abbrev pub BootClock : {F E : Type 0} → Reads F → ℕ → NetSeen → Result Outcome E → NetSeen → Type 0
+BootClock frame_at place old result new = new.now ≡ booted_at frame_at old.now (said result) (journal_at place new)
 
 -- ---- frames
 
@@ -287,5 +302,5 @@ Answered m frame_at (step.Repeat node at) old result new = HandServes m frame_at
 Answered m frame_at (step.Lose node at) old result new = LoseServes node at old result new
 Answered m frame_at (step.Cut node calls kind) old result new =
     ((3 < kind) × (said result ≡ Some (outcome.Refused 1)) × (new ≡ old)) ⊎ ((kind ≤ 3) × AtPlace node old result new (λ n r k. CutServes calls kind n r k) × (new.now ≡ old.now))
-Answered m frame_at (step.Boot node) old result new = AtPlace node old result new (λ n r k. BootServes frame_at n r k) × BootClock frame_at node old new
+Answered m frame_at (step.Boot node) old result new = AtPlace node old result new (λ n r k. BootServes frame_at n r k) × BootClock frame_at node old result new
 Answered m frame_at step.Drain old result new = DrainsTo (net_steps m frame_at) old (said result) new × (new.now ≡ old.now)

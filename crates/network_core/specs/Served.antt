@@ -26,15 +26,30 @@ Serve e (step.Cut node calls kind) w o v = ((3 < kind) × (o ≡ Some (outcome.R
 Serve e (step.Boot node) w o v = WorldPlace node w o v (λ x r y. WorldBoots e x r y)
 Serve e step.Drain w o v = WorldDrains e w o v
 
--- worlds that steps lead to, with their outcomes
-pub data Links {F : Type 0} (e : Environment F) : List Step → List Outcome → World → World → Type 0 where
-  none : {steps : List Step} {outcomes : List Outcome} {w v : World} → steps ≡ [] → outcomes ≡ [] → v ≡ w → Links e steps outcomes w v
-  more : {steps all : List Step} {outcomes more : List Outcome} {w u v : World} (s : Step) (o : Outcome) → Links e steps outcomes w u → Serve e s u (Some o) v → all ≡ steps ++ s ∷ [] → more ≡ outcomes ++ o ∷ [] → Links e all more w v
+-- ---- steps, one after another
+
+-- states that steps lead to, with their outcomes: over states of any kind, by what a step makes of one, and its outcome
+pub data Links {W : Type 0} (serve : Step → W → Option Outcome → W → Type 0) : List Step → List Outcome → W → W → Type 0 where
+  none : {steps : List Step} {outcomes : List Outcome} {w v : W} → steps ≡ [] → outcomes ≡ [] → v ≡ w → Links serve steps outcomes w v
+  more : {steps all : List Step} {outcomes longer : List Outcome} {w u v : W} (s : Step) (o : Outcome) → Links serve steps outcomes w u → serve s u (Some o) v → all ≡ steps ++ s ∷ [] → longer ≡ outcomes ++ o ∷ []
+      → Links serve all longer w v
 
 -- all steps have their outcome, or the first ones have, and want of memory ended the next one
+abbrev pub LeadTo : {W : Type 0} → (Step → W → Option Outcome → W → Type 0) → List Step → List Outcome → Bool → W → W → Type 0
+LeadTo {W} serve steps outcomes true w v = Links serve steps outcomes w v
+LeadTo {W} serve steps outcomes false w v = (first : List Step) × (s : Step) × (rest : List Step) × (u : W) × (steps ≡ first ++ s ∷ rest) × Links serve first outcomes w u × serve s u None v
+
+-- so of worlds
 abbrev pub Follows : {F : Type 0} → Environment F → List Step → List Outcome → Bool → World → World → Type 0
-Follows e steps outcomes true w v = Links e steps outcomes w v
-Follows e steps outcomes false w v = (first : List Step) × (s : Step) × (rest : List Step) × (u : World) × (steps ≡ first ++ s ∷ rest) × Links e first outcomes w u × Serve e s u None v
+Follows e steps outcomes all w v = LeadTo (Serve e) steps outcomes all w v
+
+-- what each step makes of a network, and its outcome, none at want of memory, over any disks
+abbrev pub NetServe : {F : Type 0} → Machine F → Reads F → Step → NetSeen → Option Outcome → NetSeen → Type 0
+NetServe m frame_at s old o new = Answered m frame_at s old (answer_of o) new
+
+-- so of networks, over any disks
+abbrev pub NetFollows : {F : Type 0} → Machine F → Reads F → List Step → List Outcome → Bool → NetSeen → NetSeen → Type 0
+NetFollows m frame_at steps outcomes all old new = LeadTo (NetServe m frame_at) steps outcomes all old new
 
 -- ---- networks with the worlds that they show
 
@@ -42,15 +57,12 @@ Follows e steps outcomes false w v = (first : List Step) × (s : Step) × (rest 
 abbrev pub PairServes : {F : Type 0} (m : Machine F) (frame_at : Reads F) (id : Identity) → Step → Option Outcome → Pair (environment m frame_at id) → Pair (environment m frame_at id) → Type 0
 PairServes m frame_at id s o a b = Answered m frame_at s a.net (answer_of o) b.net × Serve (environment m frame_at id) s a.world o b.world × (s ≡ step.Drain → PairDrains m frame_at id o a b)
 
--- networks with their worlds that steps lead to, with their outcomes
-pub data PairLinks {F : Type 0} (m : Machine F) (frame_at : Reads F) (id : Identity) : List Step → List Outcome → Pair (environment m frame_at id) → Pair (environment m frame_at id) → Type 0 where
-  begin : {steps : List Step} {outcomes : List Outcome} {a b : Pair (environment m frame_at id)} → steps ≡ [] → outcomes ≡ [] → b ≡ a → PairLinks m frame_at id steps outcomes a b
-  go_on : {steps all : List Step} {outcomes longer : List Outcome} {a c b : Pair (environment m frame_at id)} (s : Step) (o : Outcome) → PairLinks m frame_at id steps outcomes a c → PairServes m frame_at id s (Some o) c b → all ≡ steps ++ s ∷ [] → longer ≡ outcomes ++ o ∷ [] → PairLinks m frame_at id all longer a b
+-- so one after another
+abbrev pub PairLinks : {F : Type 0} (m : Machine F) (frame_at : Reads F) (id : Identity) → List Step → List Outcome → Pair (environment m frame_at id) → Pair (environment m frame_at id) → Type 0
+PairLinks m frame_at id steps outcomes a b = Links (λ s a o b. PairServes m frame_at id s o a b) steps outcomes a b
 
--- all steps have their outcome, or the first ones have, and want of memory ended the next one
 abbrev pub PairFollows : {F : Type 0} (m : Machine F) (frame_at : Reads F) (id : Identity) → List Step → List Outcome → Bool → Pair (environment m frame_at id) → Pair (environment m frame_at id) → Type 0
-PairFollows m frame_at id steps outcomes true a b = PairLinks m frame_at id steps outcomes a b
-PairFollows m frame_at id steps outcomes false a b = (first : List Step) × (s : Step) × (rest : List Step) × (c : Pair (environment m frame_at id)) × (steps ≡ first ++ s ∷ rest) × PairLinks m frame_at id first outcomes a c × PairServes m frame_at id s None c b
+PairFollows m frame_at id steps outcomes all a b = LeadTo (λ s a o b. PairServes m frame_at id s o a b) steps outcomes all a b
 
 -- so from each coherent world that the network shows
 abbrev pub ServesPairs : {F : Type 0} → Machine F → Reads F → Step → Option Outcome → NetSeen → NetSeen → Type 0

@@ -17,7 +17,7 @@ use Rattle.network_core.specs.Answers.{Answered, answer_of, net_steps}
 use Rattle.network_core.specs.Drains.{Pair, PairDrains, WorldDrains, pair_steps}
 use Rattle.network_core.specs.Moments.{Instant, IsSince, now_of, IsBetween, OneMoves, IsChoice, IsKept}
 use Rattle.network_core.specs.Rounds.{DoesAt, DrainsTo}
-use Rattle.network_core.specs.Served.{Serve, Follows, PairServes, PairFollows}
+use Rattle.network_core.specs.Served.{Serve, Follows, NetFollows, PairServes, PairFollows}
 
 -- A way from one network with its world to another: steps that are no drains, one after another, and the turns, posts and deliveries of drains, each
 -- of the network and of the world that it shows.
@@ -51,6 +51,7 @@ CallsAreWays F = (m : Machine F) (f : Reads F) (id : Identity) (a b : Pair (envi
 -- what the calls of a network say of networks with their worlds, they say of the worlds alone and of the networks alone
 pub record AreBoth {F : Type 0} (m : Machine F) (f : Reads F) (id : Identity) (a b : Pair (environment m f id)) : Type 0 where
   pub worlds : (steps : List Step) (outcomes : List Outcome) (all : Bool) → PairFollows m f id steps outcomes all a b → Follows (environment m f id) steps outcomes all a.world b.world
+  pub nets : (steps : List Step) (outcomes : List Outcome) (all : Bool) → PairFollows m f id steps outcomes all a b → NetFollows m f steps outcomes all a.net b.net
   pub drained : (o : Option Outcome) → PairDrains m f id o a b → WorldDrains (environment m f id) a.world o b.world
   pub seen : (o : Option Outcome) → PairDrains m f id o a b → DrainsTo (net_steps m f) a.net o b.net
 

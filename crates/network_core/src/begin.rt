@@ -20,7 +20,7 @@ pub struct BeginRefused<D: Bay> {
 }
 
 /// The place of the first node whose boot was refused, and why.
-#[derive(Clone, Copy, Debug)]
+#[derive(Clone, Copy)]
 pub struct Stopped {
     pub place: u8,
     pub why: BootFault,

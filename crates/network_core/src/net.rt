@@ -9,7 +9,7 @@ ghost use Rattle.network_core.specs.Answers.{Answered, AtPlace, StartServes, Tur
 ghost use Rattle.network_core.specs.Begins.{BeginsWorld, IsRefused, BootsUpTo, nodes_over as over_disks};
 ghost use Rattle.network_core.specs.Drains.{Drains, Drives, room};
 ghost use Rattle.network_core.specs.Rounds.{DeliversAt, HandStops, HandsStop, InOrder, Posts, Round, RoundStops, StopsAt, Turns, TurnsAt, TurnsStop, drain_outcome, heard, joined, turned};
-ghost use Rattle.network_core.specs.Served.{Serve, Follows, ServesPairs, FollowPairs};
+ghost use Rattle.network_core.specs.Served.{Serve, Follows, NetFollows, ServesPairs, FollowPairs};
 ghost use Rattle.network_core.specs.declared.net.Turning.TheVariants as turning;
 
 use super::begin::{BeginRefused, boot_all, disks_of, nodes_over};
@@ -165,11 +165,18 @@ impl<D: Bay, F: FlowSet> Net<D, F> {
     }
 
     /// Makes these steps, as long as memory lasts, and adds their outcomes to the list, which has room for them. True exactly where
-    /// each step has its outcome. What is said of the worlds is also said of the networks with them, step by step.
+    /// each step has its outcome; else so many were made as the list has outcomes, and memory ran out in the next one. What is said of
+    /// the worlds is also said of the networks with them, step by step.
     pub fn apply_all(&mut self, alloc: Global, steps: &[Step], outcomes: &mut Vec<Outcome>) -> bool
         requires { (outcomes.old.items ≡ []) × (length steps.now ≤ vec_capacity outcomes.old) }
         ensures worlds { KeepsWorld F.machine F.reading self.old self.new (λ e w v. Follows e steps.now outcomes.new.items result w v) }
         ensures pairs { FollowPairs F.machine F.reading steps.now outcomes.new.items result self.old self.new }
+
+        // Over any disks, also such as tell nothing, and whatever their journals hold.
+        ensures answers { NetFollows F.machine F.reading steps.now outcomes.new.items result self.old self.new }
+        ensures all { result ≡ true → length outcomes.new.items ≡ length steps.now }
+        ensures fewer { result ≡ false → length outcomes.new.items < length steps.now }
+        ensures count { length self.new.nodes ≡ length self.old.nodes }
     {
         'steps: for step in steps {
             let Ok(outcome) = self.apply(alloc, step) else {
@@ -419,7 +426,7 @@ impl<D: Bay, F: FlowSet> Net<D, F> {
 
     fn boot(&mut self, alloc: Global, place: u8) -> Result<Outcome, AllocError>
         ensures serves { AtPlace place self.old result self.new (λ n r k. BootServes F.reading n r k) }
-        ensures clock { BootClock F.reading place self.old self.new }
+        ensures clock { BootClock F.reading place self.old result self.new }
     {
         let place = place as usize;
         if place >= self.nodes.len() {
@@ -447,7 +454,7 @@ impl<D: Bay, F: FlowSet> Net<D, F> {
 }
 
 /// What turns or deliveries came to: nothing was committed; something was; or the last met a full journal.
-#[derive(Clone, Copy, Debug, PartialEq, Eq)]
+#[derive(Clone, Copy)]
 pub enum Turning {
     Quiet,
     Moved,
@@ -473,7 +480,7 @@ fn turned(outcome: Outcome) -> Turning
 
 /// What one delivery came to: none waits, or the node is down; the journal is full; a frame was taken away, and nothing was committed; or
 /// a record was.
-#[derive(Clone, Copy, Debug, PartialEq, Eq)]
+#[derive(Clone, Copy)]
 pub enum Hearing {
     Over,
     Full,

@@ -75,7 +75,7 @@ pub fn post_at<D: Bay, F: FlowSet>(
 }
 
 /// What a frame came to at a node, and the acknowledgement that it sends, if there is one.
-#[derive(Debug, Drop)]
+#[derive(Drop)]
 pub struct Reply {
     pub outcome: Outcome,
     pub ack: Option<Outgoing>,

@@ -3,7 +3,7 @@
 use net_base::{ByteList, Moment};
 
 /// One step of a network. Nodes are named by their places, from 0.
-#[derive(Debug, Drop)]
+#[derive(Drop)]
 pub enum Step {
     /// The moment becomes this one, which isn't before it.
     Clock {
@@ -47,7 +47,8 @@ pub enum Step {
         calls: u64,
         outcome: u8,
     },
-    /// A node that is down gets its power back, and is booted.
+    /// A node that is down gets its power back, and is booted. Where it comes up and the last cause of its journal is later than the moment,
+    /// the moment becomes that one's.
     Boot {
         node: u8,
     },
@@ -57,7 +58,7 @@ pub enum Step {
 }
 
 /// What a step came to.
-#[derive(Clone, Copy, Debug, PartialEq, Eq)]
+#[derive(Clone, Copy, PartialEq)]
 pub enum Outcome {
     /// The moment is as asked.
     Fine,
