@@ -5,7 +5,8 @@ use Rattle.std.specs.List.{Contains}
 use Rattle.std.proofs.lemmas.Bool.{cases_lt}
 use borrow.Rule.Slice.PartMut.{put_mid, post_of}
 use Rattle.outside.specs.Disk.{Durable, IsImage, IsUntouched}
-use Rattle.disk_mem.specs.Mem.{durable, IsTouched, IsFilled}
+use Rattle.disk_mem.specs.Mem.{durable}
+use Rattle.outside.specs.Disk.{IsTouched, IsFilled}
 
 -- a byte of a list in whose middle another stands
 pub within_mid : (a k : ℕ) (xs ys zs tail : List ℕ) (i : ℕ) → a ≤ length xs → length ys ≡ k → a ≤ i → i < a + k → ys ≡ take k (drop a zs) → get_or (take a xs ++ (ys ++ tail)) i 0 ≡ get_or zs i 0

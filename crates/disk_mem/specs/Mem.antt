@@ -1,6 +1,6 @@
 -- A disk in memory, as contracts see it.
-use Rattle.std.specs.Prelude.{◌⊎◌, ◌≡◌, ℕ, ◌+◌, ◌-◌, ◌*◌, ◌/◌, take, drop, ◌<◌, ◌≤◌, min, List, [], ◌∷◌, length, slice_index, Contains, map, Vec, Option, Some, None, vec_len, vec_capacity, Bool, true, false, not, ◌&&◌}
-use Rattle.outside.specs.Disk.{DiskState, DiskView, Durable, IsImage, IsUntouched, overwritten, written, blows}
+use Rattle.std.specs.Prelude.{◌≡◌, ℕ, ◌+◌, ◌-◌, ◌*◌, ◌/◌, take, drop, ◌<◌, ◌≤◌, min, List, length, Contains, map, Vec, Option, Some, None, vec_len, vec_capacity, Bool, true, false, not, ◌&&◌}
+use Rattle.outside.specs.Disk.{DiskState, DiskView, Durable, IsImage, IsFilled, overwritten, written, blows}
 use Rattle.disk_mem.specs.declared.lay.Medium.{Medium}
 use Rattle.disk_mem.specs.declared.lay.Last.{Last}
 use Rattle.disk_mem.specs.declared.lay.Fuse.{Fuse}
@@ -14,17 +14,6 @@ durable synced pending = record { synced = synced; pending = pending }
 -- the same of the medium
 abbrev pub durable_of : Medium → Durable
 durable_of l = record { synced = l.synced.items; pending = l.pending.items }
-
--- a place is in one of the ranges
-abbrev pub IsTouched : List (ℕ × ℕ) → ℕ → Type 0
-IsTouched [] i = ⊥
-IsTouched (r ∷ rs) i = ((r.0 ≤ i) × (i < r.0 + r.1)) ⊎ IsTouched rs i
-
--- the bytes in the ranges are 0xA5, and all others as they were
-pub record IsFilled (pending : List (ℕ × ℕ)) (old new : List ℕ) : Type 0 where
-  pub len : length new ≡ length old
-  pub within : (i : ℕ) → i < length old → IsTouched pending i → slice_index new i ≡ 165
-  pub beside : (i : ℕ) → IsUntouched pending i → slice_index new i ≡ slice_index old i
 
 -- where something was written since the sync, this was the last write
 pub record IsLast (medium : Medium) (last : Last) (content : List ℕ) : Type 0 where

@@ -1,6 +1,6 @@
 ghost use Rattle.std.specs.Prelude.{ℕ, ◌^◌, ◌⊎◌, slice_index, ◌≡◌, ◌≤◌, ◌<◌, ◌+◌, ◌-◌, ◌/◌, ◌++◌, take, drop, min, length, vec_len, vec_capacity, [], ◌∷◌};
-ghost use Rattle.outside.specs.Disk.{overwritten, clean, IsImage, IsUntouched};
-ghost use Rattle.disk_mem.specs.Mem.{durable_of, IsLast, durable, IsFilled, IsLeft, last_of};
+ghost use Rattle.outside.specs.Disk.{overwritten, clean, IsImage, IsUntouched, IsFilled};
+ghost use Rattle.disk_mem.specs.Mem.{durable_of, IsLast, durable, IsLeft, last_of};
 
 use std::snapshot::Snapshot;
 

@@ -1,5 +1,5 @@
 ghost use Rattle.std.specs.Prelude.{◌≡◌, ◌≤◌, ◌<◌, ◌+◌, ◌↔◌, [], ℕ, length, take, drop, true, false, not, IsOk, Some, None, OnOk, OnErr, IfOk};
-ghost use Rattle.outside.specs.Disk.{CutsPower, KeepsImage, Syncs, written, burnt, blows, clean};
+ghost use Rattle.outside.specs.Disk.{CutsPower, LeavesBy, KeepsImage, Syncs, written, burnt, blows, clean};
 ghost use Rattle.outside.specs.Faults.{HasCause, Rose};
 ghost use Rattle.disk_mem.specs.Mem.{CutsBy, answers, disk_of, wrote};
 
@@ -103,6 +103,7 @@ impl MemDisk {
     /// The power goes, and leaves what the outcome says.
     fn lose(&mut self, outcome: u8)
         ensures state { CutsPower self.old.state self.new.state }
+        ensures outcome { LeavesBy outcome self.old.state self.new.state }
         ensures left { CutsBy outcome self.old self.new }
         ensures same { self.new ≡ record self.old { state = self.new.state; power = false } }
     {
@@ -283,6 +284,7 @@ impl Bay for MemDisk {
     fn cut_power(&mut self, calls: u64, outcome: u8) -> Result<(), NoFuse>
         ensures answers { IsOk result }
         ensures left { calls ≡ 0 → CutsBy outcome self.old self.new }
+        ensures outcome { calls ≡ 0 → LeavesBy outcome self.old.state self.new.state }
         ensures now { calls ≡ 0 → CutsPower self.old.state self.new.state × (self.new ≡ record self.old { state = self.new.state; power = false; fuse = None }) }
         ensures armed { 0 < calls → self.new ≡ record self.old { fuse = Some (calls, outcome) } }
     {

@@ -2,7 +2,7 @@
 --
 -- Between two syncs each range that was written, and what lies past the old end, may hold any bytes after a power cut.
 -- The length then lies between the one at the sync and the greatest written end, and all other bytes stay.
-use Rattle.std.specs.Prelude.{◌≡◌, ◌⊎◌, ℕ, zero, suc, ◌+◌, ◌-◌, ◌<◌, ◌≤◌, ◌==◌, ◌&&◌, ◌||◌, not, max, List, [], ◌∷◌, ◌++◌, length, take, drop, slice_index, Contains, Option, Some, None, Bool, true, false, if◌then◌else◌}
+use Rattle.std.specs.Prelude.{◌≡◌, ◌⊎◌, ℕ, zero, suc, ◌+◌, ◌-◌, ◌/◌, ◌<◌, ◌≤◌, ◌==◌, ◌&&◌, ◌||◌, not, max, List, [], ◌∷◌, ◌++◌, length, take, drop, slice_index, Contains, Option, Some, None, Bool, true, false, if◌then◌else◌}
 
 -- what stood at the last sync, and the ranges that were written since and are pending, each by its place and length
 pub record Durable : Type 0 where
@@ -78,6 +78,33 @@ pub record LosesPower (past : List Durable) (s : Durable) (new : DiskState) : Ty
 -- the power was cut; where nothing was pending, nothing changed
 abbrev pub CutsPower : DiskState → DiskState → Type 0
 CutsPower d e = LosesPower d.past d.now e ⊎ ((e ≡ d) × (d.now ≡ clean d.kept))
+
+-- a place is in one of the ranges
+abbrev pub IsTouched : List (ℕ × ℕ) → ℕ → Type 0
+IsTouched [] i = ⊥
+IsTouched (r ∷ rs) i = ((r.0 ≤ i) × (i < r.0 + r.1)) ⊎ IsTouched rs i
+
+-- the bytes in the ranges are 0xA5, and all others as they were
+pub record IsFilled (pending : List (ℕ × ℕ)) (old new : List ℕ) : Type 0 where
+  pub len : length new ≡ length old
+  pub within : (i : ℕ) → i < length old → IsTouched pending i → slice_index new i ≡ 165
+  pub beside : (i : ℕ) → IsUntouched pending i → slice_index new i ≡ slice_index old i
+
+-- of a write that is pending the second half is taken back: there is what was before it, with the first half over it
+pub record IsHalved (pending : List (ℕ × ℕ)) (old new : List ℕ) : Type 0 where
+  pub at : ℕ
+  pub count : ℕ
+  pub range : Contains pending (at, count)
+  pub was : List ℕ
+  pub written : old ≡ overwritten was at (take count (drop at old))
+  pub half : new ≡ overwritten was at (take (count / 2) (drop at old))
+
+-- what a cut leaves, by its outcome: of what was written since the last sync nothing, all of it, all but the second half of one write, or 0xA5 in its place
+pub record LeavesBy (outcome : ℕ) (d e : DiskState) : Type 0 where
+  pub nothing : outcome ≡ 0 → e.kept ≡ d.now.synced
+  pub everything : outcome ≡ 1 → e.kept ≡ d.kept
+  pub half : outcome ≡ 2 → 0 < length d.now.pending → IsHalved d.now.pending d.kept e.kept
+  pub filled : outcome ≡ 3 → IsFilled d.now.pending d.kept e.kept
 
 -- a sync failed with the power on: what was pending stays pending, and a read gives one of the images
 pub record StaysPending (d e : DiskState) : Type 0 where

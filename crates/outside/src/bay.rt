@@ -1,5 +1,5 @@
 ghost use Rattle.std.specs.Prelude.{◌≡◌, ◌≤◌, ◌<◌, ◌↔◌, true, false, OnOk, OnErr, IsErr, IsErrOf, IsNone, Some, None};
-ghost use Rattle.outside.specs.Disk.{SameRest, IfTold, CutsPower};
+ghost use Rattle.outside.specs.Disk.{SameRest, IfTold, CutsPower, LeavesBy};
 ghost use Rattle.outside.specs.Faults.{Rose};
 
 use crate::disk::Disk;
@@ -40,7 +40,7 @@ pub trait Bay: Disk {
 
     /// Cuts the power at the write or sync that comes as number `calls` from now, or now where that is 0, and leaves what
     /// the outcome says: of what was written since the last sync nothing (0), all of it (1), all but the second half of the
-    /// last write (2), or 0xA5 in its place (3).
+    /// last write (2), or 0xA5 in its place (3). Where nothing was written, nothing changes.
     ///
     /// The new fuse replaces an earlier one, and a cut now clears it.
     fn cut_power(&mut self, calls: u64, outcome: u8) -> Result<(), NoFuse>
@@ -50,6 +50,8 @@ pub trait Bay: Disk {
 
         // A cut now.
         ensures now { calls ≡ 0 → OnOk result (IfTold (Self.seen self.old) (Self.seen self.new) CutsPower) }
+        ensures outcome { calls ≡ 0
+            → OnOk result (IfTold (Self.seen self.old) (Self.seen self.new) (LeavesBy outcome)) }
         ensures dark { calls ≡ 0 → OnOk result (((Self.seen self.new).power ≡ false) × ((Self.seen self.new).fuse ≡ None)) }
 
         // A fuse.

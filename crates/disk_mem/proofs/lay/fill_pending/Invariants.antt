@@ -1,5 +1,5 @@
 use Rattle.std.proofs.Common.{take}
-use Rattle.disk_mem.specs.Mem.{IsFilled}
+use Rattle.outside.specs.Disk.{IsFilled}
 use Rattle.disk_mem.proofs.lay.fill_pending.Given as goal
 
 abbrev pub invariant-loop-range : goal.invariant-loop-range
