@@ -37,7 +37,7 @@ cut_kept d e (inr same) = subst (λ (x : DiskState). IsImage d.now x.kept) (sym 
 abbrev pub fused : DiskView → Option (ℕ × ℕ) → Bool → DiskView
 fused old fuse calm = record old { fuse = fuse; calm = calm }
 
-cuts_now : (id : Identity) (outcome : ℕ) (old new : DiskView) (fuse : Option (ℕ × ℕ)) (calm : Bool) → old.of_file ≡ false → CutsNow (fused old fuse calm) new → CutsDisk id zero outcome old new
+cuts_now : (id : Identity) (outcome : ℕ) (old new : DiskView) (fuse : Option (ℕ × ℕ)) (calm : Bool) → old.of_file ≡ false → CutsNow outcome (fused old fuse calm) new → CutsDisk id zero outcome old new
 cuts_now id outcome old new fuse calm memory cut = record {
   memory = memory;
   moves = record {
@@ -49,6 +49,7 @@ cuts_now id outcome old new fuse calm memory cut = record {
   };
   form = record { sound = λ told was. image_after_cut old.state new.state (IsSound id) was (cut.state told); young = λ told was. image_after_cut old.state new.state (IsYoung id) was (cut.state told) };
   dark = λ now. (cut.power, cut.fuse);
+  left = λ now. cut.left;
   armed = λ later. absurd (omega (arith, later));
   faults = cut.faults;
 }
@@ -65,6 +66,7 @@ arms id calls outcome old calm some memory synced = record {
   };
   form = record { sound = λ told was. started old.state (IsSound id) was; young = λ told was. started old.state (IsYoung id) was };
   dark = λ now. absurd (omega (arith, now, some));
+  left = λ now. absurd (omega (arith, now, some));
   armed = λ later. refl;
   faults = refl;
 }
@@ -89,10 +91,10 @@ down_acked (Up up) h = absurd h
 down_acked Moved h = absurd h
 
 pub cut_down : {D F : Type 0} (seen : D → DiskView) (id : Identity) (calls outcome : ℕ) (fuse : Option (ℕ × ℕ)) (up armed : UpSeen) (fallen state : State D F) → calls ≡ 0 → up.journal.disk.of_file ≡ false → armed.journal.disk ≡ record up.journal.disk { fuse = fuse; calm = armed.journal.disk.calm } → disk_in seen fallen ≡ roomless armed.journal.disk
-    → CutsNow (disk_in seen fallen) (disk_in seen state) → IsDown state → CutAnswers {T = Unit {0}} calls outcome (seen_up id up) (Ok tt) (record { identity = id; disk = disk_in seen state; journal = journal_in state; acked = acked_in state })
+    → CutsNow outcome (disk_in seen fallen) (disk_in seen state) → IsDown state → CutAnswers {T = Unit {0}} calls outcome (seen_up id up) (Ok tt) (record { identity = id; disk = disk_in seen state; journal = journal_in state; acked = acked_in state })
 cut_down seen id calls outcome fuse up armed fallen state none memory is fell cut down =
     let before : disk_in seen fallen ≡ fused (roomless up.journal.disk) fuse armed.journal.disk.calm = fell ∙ ap roomless is in
-    let now : CutsNow (fused (roomless up.journal.disk) fuse armed.journal.disk.calm) (disk_in seen state) = subst (λ d. CutsNow d (disk_in seen state)) before cut in
+    let now : CutsNow outcome (fused (roomless up.journal.disk) fuse armed.journal.disk.calm) (disk_in seen state) = subst (λ d. CutsNow outcome d (disk_in seen state)) before cut in
     subst (λ (n : ℕ). CutAnswers {T = Unit {0}} n outcome (seen_up id up) (Ok tt) (record { identity = id; disk = disk_in seen state; journal = journal_in state; acked = acked_in state })) (sym none)
     (down_journal state down, down_acked state down, refl, cuts_now id outcome (roomless up.journal.disk) (disk_in seen state) fuse armed.journal.disk.calm memory now)
 

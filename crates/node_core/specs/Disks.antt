@@ -1,6 +1,6 @@
 -- What a call leaves of a node's disk.
 use Rattle.std.specs.Prelude.{◌≡◌, ◌⊎◌, ℕ, ◌≤◌, List, ◌∷◌, [], ◌++◌, true, false, None}
-use Rattle.outside.specs.Disk.{DiskState, DiskView, IsImage, EachImage, IfTold, CutsPower}
+use Rattle.outside.specs.Disk.{DiskState, DiskView, IsImage, EachImage, IfTold, CutsPower, LeavesBy}
 use Rattle.net_base.specs.declared.names.Identity.{Identity}
 use Rattle.disk_journal.specs.Journal.{IsSound, IsYoung, journal_of}
 
@@ -39,11 +39,12 @@ OldOrMore bodies body d c = (journal_of c ≡ bodies) ⊎ (journal_of c ≡ bodi
 abbrev pub OneOf : DiskState → List ℕ → Type 0
 OneOf d c = IsImage d.now c
 
--- the power went now, and nothing else changed but that
-pub record CutsNow (old new : DiskView) : Type 0 where
+-- the power went now, and nothing else changed but that; what was pending is left as the outcome says
+pub record CutsNow (outcome : ℕ) (old new : DiskView) : Type 0 where
   pub file : new.of_file ≡ old.of_file
   pub tells : new.tells ≡ old.tells
   pub faults : new.faults ≡ old.faults
   pub state : IfTold old new CutsPower
+  pub left : IfTold old new (LeavesBy outcome)
   pub power : new.power ≡ false
   pub fuse : new.fuse ≡ None

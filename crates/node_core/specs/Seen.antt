@@ -1,6 +1,6 @@
 -- What contracts see of a node, and what its calls answer.
 use Rattle.std.specs.Prelude.{◌≡◌, ◌⊎◌, ℕ, zero, suc, ◌+◌, ◌<◌, ◌≤◌, true, false, MatchOption, List, [], ◌∷◌, ◌++◌, length, map, Option, Some, None, Result, Ok, Err, IsOk, IfSome, ⊤}
-use Rattle.outside.specs.Disk.{DiskView, IfTold, IsImage, Burns, BurnsUpTo}
+use Rattle.outside.specs.Disk.{DiskView, IfTold, IsImage, LeavesBy, Burns, BurnsUpTo}
 use Rattle.outside.specs.Faults.{Rose}
 use Rattle.net_base.specs.declared.names.Identity.{Identity}
 use Rattle.net_base.specs.declared.causes.Event.{Event}
@@ -288,12 +288,13 @@ abbrev pub acks_after_cut : ℕ → List ℕ → List ℕ
 acks_after_cut zero acked = []
 acks_after_cut (suc calls) acked = acked
 
--- the disk after a cut: the power is gone and what is kept is an image, or a fuse is armed and all else is as it was
+-- the disk after a cut: the power is gone and what is kept is an image, as the outcome says, or a fuse is armed and all else is as it was
 pub record CutsDisk (id : Identity) (calls outcome : ℕ) (old new : DiskView) : Type 0 where
   pub memory : old.of_file ≡ false
   pub moves : Moves old new OneOf
   pub form : KeepsForm id old new
   pub dark : calls ≡ 0 → (new.power ≡ false) × (new.fuse ≡ None)
+  pub left : calls ≡ 0 → IfTold old new (LeavesBy outcome)
   pub armed : 0 < calls → new ≡ record old { fuse = Some (calls, outcome); calm = new.calm }
   pub faults : new.faults ≡ old.faults
 

@@ -331,7 +331,7 @@ fn cut_now<D: Bay, F: Spelt + Drop>(state: &mut State<D, F>, outcome: u8)
     requires outcome { outcome ≤ 3 }
     requires down { IsDown state.old }
     requires memory { (disk_in D.seen state.old).of_file ≡ false }
-    ensures cut { CutsNow (disk_in D.seen state.old) (disk_in D.seen state.new) }
+    ensures cut { CutsNow outcome (disk_in D.seen state.old) (disk_in D.seen state.new) }
     ensures down { IsDown state.new }
 {
     match state {
