@@ -1,5 +1,5 @@
 -- The payment, class 4: it reserves coins, pays them to another node of the network by one transaction, and returns its id.
-use Rattle.std.specs.Prelude.{ℕ, ◌<◌, ◌^◌, ◌==◌, ◌&&◌, not, nat_lt, List, [], ◌∷◌, ◌++◌, Bool, false, Option, Some, None, IfSome, Result, if◌then◌else◌}
+use Rattle.std.specs.Prelude.{ℕ, ◌<◌, ◌^◌, ◌&&◌, nat_lt, List, [], ◌∷◌, ◌++◌, Bool, false, Option, Some, None, IfSome, Result, if◌then◌else◌}
 use Rattle.std.specs.Int.{w64}
 use Rattle.net_base.specs.declared.names.StateRef.{StateRef}
 use Rattle.net_base.specs.declared.names.Token.{Token}
@@ -20,7 +20,7 @@ use Rattle.flow_forms.specs.declared.arguments.Then.{Then}
 use Rattle.flow_forms.specs.declared.calls.Call.TheVariants as call
 use Rattle.flow_forms.specs.declared.forms.Goes.{Goes}
 use Rattle.flow_forms.specs.declared.forms.Goes.TheVariants.{On, Ends, Stops}
-use Rattle.flow_forms.specs.Usual.{Place, Resumed, Form, unnamed, Places}
+use Rattle.flow_forms.specs.Usual.{Place, Resumed, Form, unnamed, Places, is_peer}
 use Rattle.cash_flows.specs.declared.words.Code.{Code}
 use Rattle.cash_flows.specs.declared.options.PayOptions.{PayOptions}
 use Rattle.cash_flows.specs.declared.pay.Pay.{Pay}
@@ -29,10 +29,6 @@ use Rattle.cash_flows.specs.declared.pay.PayPlace.TheVariants.{Reserving, Paying
 use Rattle.cash_flows.specs.Payment.{payment}
 
 -- ---- how it begins
-
--- another node of the network
-abbrev pub is_peer : ℕ → Place → Bool
-is_peer to here = nat_lt to here.nodes && not (to == here.me.0)
 
 -- The arguments, in the order of their words: the payee, the code, the issuer, the amount, and the options.
 abbrev pub PayArgs : Type 0

@@ -27,7 +27,7 @@ use Rattle.flow_machine.specs.Limits.{IsPlace}
 use Rattle.flow_forms.specs.declared.forms.At.TheVariants as stands
 use Rattle.flow_forms.specs.Shared.{stops_owes}
 use Rattle.flow_forms.specs.Sizes.{option_fits, hash_fits}
-use Rattle.flow_forms.specs.Usual.{Place, Resumed, Owes, IsForm, ArePlaces, IsAt, unnamed_owes}
+use Rattle.flow_forms.specs.Usual.{Place, Resumed, Owes, IsForm, ArePlaces, IsAt, unnamed_owes, is_peer}
 use Rattle.flow_forms.specs.Ways.{BeginsWithin}
 use Rattle.cash_flows.specs.declared.pay.Pay.{Pay}
 use Rattle.cash_flows.specs.declared.pay.PayPlace.{PayPlace}
@@ -35,7 +35,7 @@ use Rattle.cash_flows.specs.declared.pay.PayPlace.TheVariants.{Reserving, Paying
 use Rattle.cash_flows.specs.Words.{IsCurrency}
 use Rattle.cash_flows.specs.Options.{ArePayOptions, window_fits, reference_fits}
 use Rattle.cash_flows.specs.Payment.{cash, worth, left_of, listed, payment}
-use Rattle.cash_flows.specs.Pay.{PayArgs, is_peer, is_in_range, fields_of, begins, reserved, paid, moves, weight, form, IsPay, pay, pay_of, pay_at, places}
+use Rattle.cash_flows.specs.Pay.{PayArgs, is_in_range, fields_of, begins, reserved, paid, moves, weight, form, IsPay, pay, pay_of, pay_at, places}
 
 -- its fields' laws
 pub pay_laws : Laws IsPay pay pay_at

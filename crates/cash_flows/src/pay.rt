@@ -2,13 +2,13 @@
 
 ghost use Rattle.std.specs.Prelude.{◌≡◌, IfOk};
 ghost use Rattle.flow_machine.specs.Limits.{IsPlace};
-ghost use Rattle.cash_flows.specs.Pay.{is_peer, is_in_range, fields_of, begins, reserves, pays, reserved, paid, moves, weight, form, IsPay, pay, pay_at, places};
+ghost use Rattle.cash_flows.specs.Pay.{is_in_range, fields_of, begins, reserves, pays, reserved, paid, moves, weight, form, IsPay, pay, pay_at, places};
 ghost use Rattle.cash_flows.specs.PayLaws.{pay_laws, are_places, short, is_form, begins_within};
 
 use crate::options::PayOptions;
 use crate::payment::payment;
 use crate::words::Code;
-use flow_forms::{ByWords, Call, Frame, Goes, Machine, Numbered, Then, Worded};
+use flow_forms::{ByWords, Call, Frame, Goes, Machine, Numbered, Then, Worded, is_peer};
 use flow_machine::{Act, Place, Resumed};
 use ledger_types::{Held, Value, Window};
 use net_base::{
@@ -52,12 +52,6 @@ pub struct Pay {
 type Gone = Goes<PayPlace, Pay>;
 
 type Moved = Result<Gone, AllocError>;
-
-fn is_peer(to: u8, here: &Place) -> bool
-    ensures { result ≡ is_peer to here.entry.now }
-{
-    to < here.nodes && to != here.me.0
-}
 
 fn is_in_range(args: &PayArgs, here: &Place) -> bool
     ensures { result ≡ is_in_range args.now here.entry.now }
