@@ -3,21 +3,23 @@ use Rattle.std.proofs.Common.{◌≡◌, ◌⊎◌, inl, inr, ⊎_elim, ℕ, tru
 use Rattle.std.specs.Prelude.{codes, decimal, None, ◌<◌, ◌≤◌}
 use Rattle.std.specs.List.{slice_get}
 use Rattle.std.proofs.lemmas.Option.{slice_get_within}
-use Rattle.std.proofs.lemmas.Bool.{cases_Bool}
-use Rattle.outside.specs.Disk.{DiskView, IfTold}
-use Rattle.disk_journal.specs.Journal.{journal_of, placed, is_unformatted, formatted, refusal}
+use Rattle.std.proofs.lemmas.Bool.{cases_Bool, cases_lt}
+use Rattle.outside.specs.Disk.{DiskView, IfTold, IsImage}
+use Rattle.outside.proofs.Moments.{at_now}
+use Rattle.disk_journal.specs.Journal.{WasSpelt, journal_of, placed, is_unformatted, formatted, refusal}
 use Rattle.disk_journal.proofs.Fresh.{unformatted_short, short_spells, refusal_unformatted}
 use Rattle.disk_journal.specs.declared.fault.OpenFault.{OpenFault}
 use Rattle.disk_journal.specs.declared.fault.OpenFault.TheVariants as open_fault
 use Rattle.net_base.specs.declared.names.Identity.{Identity}
 use Rattle.net_base.specs.declared.values.Party.{Party}
 use Rattle.net_base.proofs.Lists.{get_beside}
+use Rattle.net_base.proofs.Options.{some_eq}
 use Rattle.flow_machine.specs.Machine.{Machine}
 use Rattle.net_model.specs.Environment.{Environment, environment}
 use Rattle.node_tables.specs.Journals.{Reads}
 use Rattle.node_core.specs.Disks.{roomless}
 use Rattle.node_tables.specs.Fits.{misfit}
-use Rattle.node_core.specs.Seen.{NodeSeen, BootsAs, GaveUp, boot_of, Refuses as SeenRefuses, Unopened, Unfit, Unbooted}
+use Rattle.node_core.specs.Seen.{NodeSeen, BootsAs, GaveUp, boot_of, Refuses as SeenRefuses, Opens, Unopened, Unfit, Unbooted}
 use Rattle.node_core.specs.declared.faults.BootFault.{BootFault}
 use Rattle.node_core.specs.declared.faults.BootFault.TheVariants as boot
 use Rattle.network_core.specs.Worlds.{World, NetSeen, Shows, Coherent}
@@ -29,9 +31,9 @@ use Rattle.node_shell.specs.declared.statuses.Status.{Status}
 use Rattle.node_shell.specs.declared.statuses.Status.TheVariants as status
 use Rattle.node_shell.specs.Serve.{Link, RunsShort}
 use Rattle.node_shell.specs.Story.{ScriptRun, IsScriptStatus, InSome}
-use Rattle.node_shell.specs.Runs.{over, number_of_status, Plays, Refuses, RunsAs, journal_line, PlaysOrRefuses, RefusedWith, IsOpeningStatus, Fails, OneFails, HasCause, MisfitsAt, IsUnready, IsToldWhy, KeepsOwn, KeepOwn, IsPlayedStatus, IsPlayedNumber, AllStay, MadeReady, GoesOrHalts, RunsAnyhow}
-use Rattle.node_shell.proofs.Readying.{fails_since, stay_then}
-use Rattle.node_shell.proofs.Reached.{script_reaches}
+use Rattle.node_shell.specs.Runs.{over, number_of_status, Plays, Refuses, RunsAs, journal_line, PlaysOrRefuses, RefusedWith, IsOpeningStatus, Fails, OneFails, HasCause, MisfitsAt, StaysBut, KeepsCalm, IsOpened, AfterRefusal, GivesUp, IsUnready, IsToldWhy, KeepsOwn, KeepOwn, IsPlayedStatus, IsPlayedNumber, AllStay, MadeReady, GoesOrHalts, RunsAnyhow}
+use Rattle.node_shell.proofs.Readying.{fails_since, stays_then, stay_then}
+use Rattle.node_shell.proofs.Reached.{story_reaches, script_reaches}
 use Rattle.node_shell.proofs.Resting.{counted, begun_openable, down_openable, made_openable, stay_openable, made_same, made_then, made_fewer, same_fewer, made_journals, same_journals, stands, rests, made_coherent, made_counted, counted_shows, refused_rests, down_fewer}
 
 no_memory : status.DiskFault ≡ status.NoMemory → ⊥
@@ -99,6 +101,37 @@ boot_cause f id why d b u =
     (λ (o : Unopened id (roomless d) why (roomless b)). subst (λ y. HasCause f id d y b) (sym o.1) (refuses_cause f id o.0 d b (subst (λ y. KeepsBytes y d b) o.1 u.bytes) o.2))
     (unfit_cause f id why d b u.bytes)
     u.cause
+
+-- and leaves this of its disk
+boot_left : {F : Type 0} (f : Reads F) (id : Identity) (why : BootFault) (d b : DiskView) → Unbooted f id (roomless d) why (roomless b) → AfterRefusal why d b
+boot_left f id why d b u = λ tells. (
+  at_now d.state b.state (WasSpelt d.state) (u.moves.images tells),
+  λ no. (u.same no tells, u.bytes no tells),
+)
+
+-- a disk that was left is as before
+same_refused : (why : BootFault) (d b : DiskView) → d ≡ b → AfterRefusal why d b
+same_refused why d b same = subst (AfterRefusal why d) same (λ tells. ((λ c image. (c, image, refl)), λ no. (refl, λ begun. refl)))
+
+same_stays : (d b : DiskView) → b ≡ d → StaysBut d b
+same_stays d b same = subst (StaysBut d) (sym same) (refl, omega arith)
+
+same_calm : (d b : DiskView) → roomless b ≡ roomless d → KeepsCalm d b
+same_calm d b same = let faults : b.faults ≡ d.faults = ap (λ (x : DiskView). x.faults) same in (omega (arith, faults), λ calm. ap (λ (x : DiskView). x.calm) same ∙ calm)
+
+-- a boot leaves this of a disk on which it opened a journal
+boot_opened : (id : Identity) (d b k : DiskView) (list : List (ℕ × List ℕ)) → roomless b ≡ k → Opens id (roomless d) k list → IsOpened id d b
+boot_opened id d b k list same o = λ tells.
+    let told : k.tells ≡ true = o.moves.tells ∙ tells in (
+      ap (λ (x : DiskView). x.state.kept) same ∙ o.left tells,
+      λ c image. o.holds.images told c (subst (λ (x : DiskView). IsImage x.state.now c) same image) ∙ sym (o.holds.kept told) ∙ o.same tells,
+    )
+
+boot_calm : (id : Identity) (d b k : DiskView) (list : List (ℕ × List ℕ)) → roomless b ≡ k → Opens id (roomless d) k list → KeepsCalm d b
+boot_calm id d b k list same o =
+    let faults : b.faults ≡ k.faults = ap (λ (x : DiskView). x.faults) same in
+    let later = o.moves.later in
+    (omega (arith, faults, later), λ calm. ap (λ (x : DiskView). x.calm) same ∙ o.calm calm)
 
 -- a making ready before changes nothing of what is kept
 pub own_since : {F : Type 0} (f : Reads F) (id : Identity) (d k : DiskView) → k ≡ record d { faults = k.faults } → KeepsOwn f id k → KeepsOwn f id d
@@ -176,6 +209,18 @@ cause_since f id (boot.WrongNode found) d k b same later h = λ tells.
 cause_since f id (boot.Damaged at) d k b same later h = λ tells.
     subst (λ (x : DiskView). ((refusal id x.state.kept ≡ Some (open_fault.Damaged at)) ⊎ MisfitsAt f id x.state.kept at) × (b.state.kept ≡ x.state.kept)) same (h (ap (λ (x : DiskView). x.tells) same ∙ tells))
 
+opened_since : (id : Identity) (d k b : DiskView) → k ≡ record d { faults = k.faults } → IsOpened id k b → IsOpened id d b
+opened_since id d k b same h = subst (λ (x : DiskView). IsOpened id x b) same h
+
+refused_since : (why : BootFault) (d k b : DiskView) → k ≡ record d { faults = k.faults } → AfterRefusal why k b → AfterRefusal why d b
+refused_since why d k b same h = subst (λ (x : DiskView). AfterRefusal why x b) same h
+
+calm_since : (d k b : DiskView) → StaysBut d k → KeepsCalm k b → KeepsCalm d b
+calm_since d k b stays h = (omega (arith, stays.1, h.0), λ calm. h.1 (ap (λ (x : DiskView). x.calm) stays.0 ∙ calm))
+
+roomless_stays : (d k : DiskView) → StaysBut d k → StaysBut (roomless d) (roomless k)
+roomless_stays d k stays = (ap roomless stays.0, stays.1)
+
 told_since : {F : Type 0} (f : Reads F) (nodes : ℕ) (notary : Party) (ds ks bs : List DiskView) (written0 written1 : Option (List ℕ)) (s : Status) → AllStay ds ks
     → IsToldWhy f nodes notary ks bs written0 written1 s → IsToldWhy f nodes notary ds bs written0 written1 s
 told_since f nodes notary ds ks bs written0 written1 s stay t = record {
@@ -186,16 +231,21 @@ told_since f nodes notary ds ks bs written0 written1 s stay t = record {
       own_since f (member nodes notary p) d k.0 (stay.each p d k.0 at k.1).0 (t.earlier p k.0 before k.1);
   opened = λ p d b before at there.
       let k = get_beside ds ks p d (sym stay.count) at in
-      let same = (stay.each p d k.0 at k.1).0 in
-      λ tells. subst (λ (x : DiskView). b.state.kept ≡ formatted (member nodes notary p) x.state.kept) same (t.opened p k.0 b before k.1 there (ap (λ (x : DiskView). x.tells) same ∙ tells));
+      opened_since (member nodes notary p) d k.0 b (stay.each p d k.0 at k.1).0 (t.opened p k.0 b before k.1 there);
   later = λ p d b behind at there.
       let k = get_beside ds ks p d (sym stay.count) at in
-      t.later p k.0 b behind k.1 there ∙ ap (λ (x : DiskView). x.state) (stay.each p d k.0 at k.1).0;
+      stays_then (roomless d) (roomless k.0) (roomless b) (roomless_stays d k.0 (stay.each p d k.0 at k.1)) (t.later p k.0 b behind k.1 there);
   why = t.why;
   cause = λ d b at there.
       let k = get_beside ds ks t.node d (sym stay.count) at in
       let stays = stay.each t.node d k.0 at k.1 in
       cause_since f (member nodes notary t.node) t.why d k.0 b stays.0 stays.1 (t.cause k.0 b k.1 there);
+  left = λ d b at there.
+      let k = get_beside ds ks t.node d (sym stay.count) at in
+      refused_since t.why d k.0 b (stay.each t.node d k.0 at k.1).0 (t.left k.0 b k.1 there);
+  calm = λ p d b at there.
+      let k = get_beside ds ks p d (sym stay.count) at in
+      calm_since d k.0 b (stay.each p d k.0 at k.1) (t.calm p k.0 b k.1 there);
   told = t.told;
 }
 
@@ -213,7 +263,7 @@ told_of_fault f id (boot.WrongNode found) d b node written0 written1 h r = absur
 told_of_fault f id (boot.Damaged at) d b node written0 written1 h r = absurd r
 
 -- what an opening that failed is told by
-pub opening_why : (s : Status) (written0 written1 : Option (List ℕ)) → IsOpeningStatus s → written1 ≡ written0 → IsUnready written0 written1 s
+pub opening_why : (s : Status) (written0 written1 : Option (List ℕ)) → IsOpeningStatus s → written1 ≡ written0 → GivesUp written0 written1 s
 opening_why status.DiskFault written0 written1 is same = (inl refl, same)
 opening_why status.NoMemory written0 written1 is same = (inr refl, same)
 opening_why status.Finished written0 written1 is same = absurd is
@@ -224,7 +274,7 @@ opening_why status.WriteFault written0 written1 is same = absurd is
 opening_why status.BadJournal written0 written1 is same = absurd is
 
 -- a first opening that gave up is told by its status alone
-gave_up_told : (node : ℕ) (why : BootFault) (written0 written1 : Option (List ℕ)) (s : Status) → GaveUp why → RefusedWith node why written0 written1 s → IsUnready written0 written1 s
+gave_up_told : (node : ℕ) (why : BootFault) (written0 written1 : Option (List ℕ)) (s : Status) → GaveUp why → RefusedWith node why written0 written1 s → GivesUp written0 written1 s
 gave_up_told node boot.Fault written0 written1 s gave told = (inl told.0, told.1)
 gave_up_told node boot.Memory written0 written1 s gave told = (inr told.0, told.1)
 gave_up_told node boot.NotAJournal written0 written1 s gave told = absurd gave
@@ -256,6 +306,8 @@ module _ {F : Type 0} (m : Machine F) (f : Reads F) (nodes : ℕ) (notary : Part
         rests = rests m f nodes notary ended end.world bs end.shows end.coherent disks;
         openable = down_openable end.world (reaches_openable e start.0 end.world reaches (begun_openable e w start.0 start.3));
         reaches = reaches;
+        coherent = λ u to. reaches_coherent e start.0 u start.2 to;
+        on_the_way = λ lines out u story. story_reaches e start.0 lines out u story;
         acknowledged = λ u v to on. acknowledged_stands_once e u v (reaches_coherent e start.0 u start.2 to) on;
       })
 
@@ -269,6 +321,14 @@ module _ {F : Type 0} (m : Machine F) (f : Reads F) (nodes : ℕ) (notary : Part
       let two : q.1 ≡ b = cc in
       subst (λ u. HasCause f (member nodes notary node) u why b) one (subst (HasCause f (member nodes notary node) q.0 why) two (boot_cause f (member nodes notary node) why q.0 q.1 q.4.3))
 
+  stopped_left : (ds bs : List DiskView) (node : ℕ) (why : BootFault) → Stopped ds node why bs → (d b : DiskView) → slice_get ds node ≡ Some d → slice_get bs node ≡ Some b → AfterRefusal why d b
+  stopped_left ds bs node why q d b at there =
+      subst (λ u. AfterRefusal why u b) (some_eq (sym q.2 ∙ at)) (subst (AfterRefusal why q.0) (some_eq (sym q.3 ∙ there)) (boot_left f (member nodes notary node) why q.0 q.1 q.4.3))
+
+  stopped_calm : (ds bs : List DiskView) (node : ℕ) (why : BootFault) → Stopped ds node why bs → (d b : DiskView) → slice_get ds node ≡ Some d → slice_get bs node ≡ Some b → KeepsCalm d b
+  stopped_calm ds bs node why q d b at there =
+      subst (λ u. KeepsCalm u b) (some_eq (sym q.2 ∙ at)) (subst (KeepsCalm q.0) (some_eq (sym q.3 ∙ there)) (q.4.3.moves.later, q.4.3.calm))
+
   pub told_why : (ds bs : List DiskView) (node : ℕ) (why : BootFault) (written0 written1 : Option (List ℕ)) (s : Status) → 0 < nodes → length ds ≡ nodes → IsRefused m f nodes notary ds node why bs
       → RefusedWith node why written0 written1 s → IsToldWhy f nodes notary ds bs written0 written1 s
   told_why ds bs node why written0 written1 s some count r told = record {
@@ -281,11 +341,27 @@ module _ {F : Type 0} (m : Machine F) (f : Reads F) (nodes : ℕ) (notary : Part
         λ tells. (up.1.4.opens.format tells, subst (λ l. misfit f id.notary id.nodes id.party l ≡ None) (up.1.4.opens.told tells) up.1.4.fits);
     opened = λ p d b before at there.
         let up = r.earlier p d b before at there in
-        λ tells. ap (λ (x : DiskView). x.state.kept) up.2 ∙ up.1.4.opens.left tells;
-    later = λ p d b behind at there. ap (λ (x : DiskView). x.state) (r.later p d b behind at there);
+        boot_opened (member nodes notary p) d b up.0.disk up.1.0 up.2 up.1.4.opens;
+    later = λ p d b behind at there. same_stays (roomless d) (roomless b) (r.later p d b behind at there);
     why = why;
     cause = λ d b at there.
         ⊎_elim (λ (p : (why ≡ boot.Memory) × (node ≡ 0) × (bs ≡ ds)). subst (λ y. HasCause f (member nodes notary node) d y b) (sym p.0) tt) (λ (q : Stopped ds node why bs). stopped_cause ds bs node why q d b at there) r.refused;
+    left = λ d b at there.
+        ⊎_elim (λ (p : (why ≡ boot.Memory) × (node ≡ 0) × (bs ≡ ds)). same_refused why d b (some_eq (sym at ∙ ap (λ l. slice_get l node) (sym p.2) ∙ there))) (λ (q : Stopped ds node why bs). stopped_left ds bs node why q d b at there) r.refused;
+    calm = λ p d b at there.
+        ⊎_elim
+        (λ (before : p < node).
+        let up = r.earlier p d b before at there in
+        boot_calm (member nodes notary p) d b up.0.disk up.1.0 up.2 up.1.4.opens)
+        (λ (behind : node ≤ p).
+        ⊎_elim (λ (above : node < p). same_calm d b (r.later p d b above at there))
+        (λ (below : p ≤ node).
+        let here : p ≡ node = omega (arith, behind, below) in
+        let old : slice_get ds node ≡ Some d = subst (λ n. slice_get ds n ≡ Some d) here at in
+        let new : slice_get bs node ≡ Some b = subst (λ n. slice_get bs n ≡ Some b) here there in
+        ⊎_elim (λ (m : (why ≡ boot.Memory) × (node ≡ 0) × (bs ≡ ds)). same_calm d b (ap roomless (some_eq (sym new ∙ ap (λ l. slice_get l node) m.2 ∙ old)))) (λ (q : Stopped ds node why bs). stopped_calm ds bs node why q d b old new) r.refused)
+        (cases_lt node p))
+        (cases_lt p node);
     told = told;
   }
 
@@ -330,7 +406,7 @@ module _ {F : Type 0} (m : Machine F) (f : Reads F) (nodes : ℕ) (notary : Part
         fewer = made_fewer w v v made (same_fewer v);
         kept = λ no. made_journals w v v made (same_journals v);
         openable = made_openable w v made;
-        why = inl (opening_why s written written is refl);
+        why = inl (opening_why s written written is refl, stay);
         opens = λ on. opening_why s written written is refl;
       })
 
@@ -348,6 +424,8 @@ module _ {F : Type 0} (m : Machine F) (f : Reads F) (nodes : ℕ) (notary : Part
     rests = p.rests;
     openable = p.openable;
     reaches = p.reaches;
+    coherent = p.coherent;
+    on_the_way = p.on_the_way;
     acknowledged = p.acknowledged;
   }
 
@@ -362,7 +440,7 @@ module _ {F : Type 0} (m : Machine F) (f : Reads F) (nodes : ℕ) (notary : Part
     kept = λ no. made_journals w v r.world made (r.kept no);
     openable = λ on. r.openable (made_openable w v made on);
     opens = λ on. r.opens (made_openable w v made on);
-    why = ⊎_elim (λ (u : IsUnready written0 written1 s). inl u) (λ (t : IsToldWhy f nodes notary ks bs written0 written1 s). inr (told_since f nodes notary ds ks bs written0 written1 s stay t)) r.why;
+    why = ⊎_elim (λ (u : IsUnready ks bs written0 written1 s). inl (u.0, stay_then ds ks bs stay u.1)) (λ (t : IsToldWhy f nodes notary ks bs written0 written1 s). inr (told_since f nodes notary ds ks bs written0 written1 s stay t)) r.why;
   }
 
   -- the disks were made ready, and then the nodes opened or one did not
@@ -397,7 +475,7 @@ module _ {F : Type 0} (m : Machine F) (f : Reads F) (nodes : ℕ) (notary : Part
       inr (record {
         unread = h.unread;
         none = h.none;
-        why = ⊎_elim (λ (u : IsUnready written0 written1 s). inl u) (λ (t : IsToldWhy f nodes notary ks bs written0 written1 s). inr (told_since f nodes notary ds ks bs written0 written1 s stay t)) h.why;
+        why = ⊎_elim (λ (u : IsUnready ks bs written0 written1 s). inl (u.0, stay_then ds ks bs stay u.1)) (λ (t : IsToldWhy f nodes notary ks bs written0 written1 s). inr (told_since f nodes notary ds ks bs written0 written1 s stay t)) h.why;
       })
 
   pub went_at : (ds ks bs es : List DiskView) (left0 left1 written0 written1 : Option (List ℕ)) (count counted number : ℕ) (s : Status) → es ≡ bs → AllStay ds ks → number ≡ number_of_status s → counted ≡ count
@@ -409,9 +487,9 @@ module _ {F : Type 0} (m : Machine F) (f : Reads F) (nodes : ℕ) (notary : Part
   }
 
   -- the disks were not made ready, or there was no memory for that
-  pub went_unready : (ds es : List DiskView) (left written : Option (List ℕ)) (counted number : ℕ) (s : Status) → IsOpeningStatus s → number ≡ number_of_status s → counted ≡ 0
+  pub went_unready : (ds es : List DiskView) (left written : Option (List ℕ)) (counted number : ℕ) (s : Status) → IsOpeningStatus s → AllStay ds es → number ≡ number_of_status s → counted ≡ 0
       → RunsAnyhow m f nodes notary ds es left left written written counted number
-  went_unready ds es left written counted number s is equal none = record { status = s; is = equal; ran = inr (record { unread = refl; none = none; why = inl (opening_why s written written is refl) }) }
+  went_unready ds es left written counted number s is stay equal none = record { status = s; is = equal; ran = inr (record { unread = refl; none = none; why = inl (opening_why s written written is refl, stay) }) }
 
 -- the line for a damaged journal
 pub damaged_line : (node at : ℕ) (why : BootFault) (line : List ℕ) → why ≡ boot.Damaged at → line ≡ codes "! journal " ++ (decimal node ++ (codes " damaged " ++ (decimal at ++ 10 ∷ []))) → line ≡ journal_line node why

@@ -33,7 +33,7 @@ module _ {F : Type 0} (e : Environment F) (start : World) where
   link_reaches : (w v : World) (line text : List ℕ) → Reaches e start w → Link e w line text v → Reaches e start v
   link_reaches w v line text before link = replies_reaches w v line link.reply before link.replies
 
-  story_reaches : (lines : List (List ℕ)) (out : List ℕ) (w : World) → Story (Link e) start lines out w → Reaches e start w
+  pub story_reaches : (lines : List (List ℕ)) (out : List ℕ) (w : World) → Story (Link e) start lines out w → Reaches e start w
   story_reaches lines out w begins = here refl
   story_reaches lines out w (goes_on {lines = earlier} {out = said} {before = u} line text before none link all longer) = link_reaches u w line text (story_reaches earlier said u before) link
 

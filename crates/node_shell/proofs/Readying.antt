@@ -21,7 +21,7 @@ fails_since d k b same later f = record { rose = rose_since d.faults k.faults b.
 pub stay_same : (ds : List DiskView) → AllStay ds ds
 stay_same ds = record { count = refl; each = λ p d e at there. let same : d ≡ e = cc in subst (StaysBut d) same (refl, omega arith) }
 
-stays_then : (a b c : DiskView) → StaysBut a b → StaysBut b c → StaysBut a c
+pub stays_then : (a b c : DiskView) → StaysBut a b → StaysBut b c → StaysBut a c
 stays_then a b c one two = (two.0 ∙ ap (λ (x : DiskView). record x { faults = c.faults }) one.0, omega (arith, one.1, two.1))
 
 pub stay_then : (ds ks es : List DiskView) → AllStay ds ks → AllStay ks es → AllStay ds es

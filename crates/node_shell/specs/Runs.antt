@@ -1,13 +1,13 @@
 -- A whole run: how the network opened, and how the script went.
-use Rattle.std.specs.Prelude.{◌≡◌, ◌⊎◌, ℕ, ◌<◌, ◌≤◌, List, [], ◌∷◌, ◌++◌, length, map, Option, Some, None, codes, decimal, true, false, slice_get, ⊤}
+use Rattle.std.specs.Prelude.{◌≡◌, ◌⊎◌, ℕ, ◌*◌, ◌+◌, ◌<◌, ◌≤◌, List, [], ◌∷◌, ◌++◌, length, map, Option, Some, None, codes, decimal, true, false, slice_get, ⊤}
 use Rattle.std.specs.Io.KnownBytes.{Appends}
-use Rattle.outside.specs.Disk.{DiskView, IfTold}
+use Rattle.outside.specs.Disk.{DiskView, IfTold, IsImage}
 use Rattle.outside.specs.Faults.{Rose}
 use Rattle.net_base.specs.declared.causes.Cause.{Cause}
 use Rattle.net_base.specs.declared.names.Identity.{Identity}
 use Rattle.net_base.specs.declared.values.Party.{Party}
 use Rattle.shell_words.specs.declared.program.NetworkWords.{NetworkWords}
-use Rattle.disk_journal.specs.Journal.{journal_of, placed, formatted, refusal}
+use Rattle.disk_journal.specs.Journal.{WasSpelt, journal_of, placed, is_unformatted, formatted, refusal}
 use Rattle.disk_journal.specs.declared.fault.OpenFault.TheVariants as open_fault
 use Rattle.net_model.specs.Environment.{Environment, environment, party}
 use Rattle.net_model.specs.Runs.{IsFaithful, network_of, merged}
@@ -25,7 +25,7 @@ use Rattle.node_shell.specs.declared.statuses.Status.{Status}
 use Rattle.node_shell.specs.declared.statuses.Status.TheVariants as status
 use Rattle.node_shell.specs.Serve.{Link, RunsShort}
 use Rattle.node_shell.specs.Responds.{NetLink, NetShort}
-use Rattle.node_shell.specs.Story.{ScriptRun, IsScriptStatus}
+use Rattle.node_shell.specs.Story.{Story, ScriptRun, IsScriptStatus}
 
 -- the number of a status
 abbrev pub number_of_status : Status → ℕ
@@ -70,9 +70,10 @@ KeepsOwn frame_at id disk = disk.tells ≡ true → (refusal id disk.state.kept 
 abbrev pub KeepOwn : {F : Type 0} → Reads F → ℕ → Party → List DiskView → Type 0
 KeepOwn frame_at nodes notary disks = (p : ℕ) (d : DiskView) → slice_get disks p ≡ Some d → KeepsOwn frame_at (member nodes notary p) d
 
--- each node opened its own journal, and the script went from the opening world to the last by steps, and the disks rest in that one; what is
--- acknowledged in any world on the way stands once in the merged journals of every later one, whichever journals power cuts leave of it; and of no
--- node's disk there is an image in the end that the node's opening refuses
+-- each node opened its own journal, and the script went from the opening world to the last by steps, and the disks rest in that one; each world of
+-- its story is reached from the opening one, and each world that is reached is coherent; what is acknowledged in any world on the way stands once in
+-- the merged journals of every later one, whichever journals power cuts leave; and of no node's disk there is an image in the end that the node's
+-- opening refuses
 pub record Plays {F : Type 0} (e : Environment F) (w : World) (old new : List DiskView) (left0 left1 written0 written1 : Option (List ℕ)) (count : ℕ) (status : Status) : Type 0 where
   pub is_script : IsScriptStatus status
   pub own : KeepOwn e.frame_at e.nodes e.notary old
@@ -85,6 +86,8 @@ pub record Plays {F : Type 0} (e : Environment F) (w : World) (old new : List Di
   pub rests : Rests e new (all_down last)
   pub openable : AreOpenable (all_down last)
   pub reaches : Reaches e start last
+  pub coherent : (u : World) → Reaches e start u → Coherent e u
+  pub on_the_way : (lines : List (List ℕ)) (out : List ℕ) (u : World) → Story (Link e) start lines out u → Reaches e start u
   pub acknowledged : (u v : World) → Reaches e start u → Reaches e u v → (lists : List (List (List ℕ))) → Choice v lists → (p : ℕ) (cause : Cause) → Acknowledged e u p cause → StandsOnce (p, cause) (merged (map (causes_of e.frame_at) lists))
 
 -- the line for a node's first opening that found no sound journal of its own
@@ -122,6 +125,15 @@ LeavesFewer w v = (p : ℕ) (x y : NodeWorld) (l : List (List ℕ)) → slice_ge
 abbrev pub KeepsJournals : World → World → Type 0
 KeepsJournals w v = (p : ℕ) (x y : NodeWorld) → slice_get w.nodes p ≡ Some x → slice_get v.nodes p ≡ Some y → y.journal ≡ x.journal
 
+-- a disk is as before but for its count of faults, which has not fallen
+abbrev pub StaysBut : DiskView → DiskView → Type 0
+StaysBut old new = (new ≡ record old { faults = new.faults }) × (old.faults ≤ new.faults)
+
+-- each of the disks is as before but for its count of faults, which has not fallen
+pub record AllStay (old new : List DiskView) : Type 0 where
+  pub count : length new ≡ length old
+  pub each : (p : ℕ) (d e : DiskView) → slice_get old p ≡ Some d → slice_get new p ≡ Some e → StaysBut d e
+
 -- the count of faults of a disk rose, and the disk was not calm
 pub record Fails (old new : DiskView) : Type 0 where
   pub rose : Rose old.faults new.faults
@@ -137,6 +149,20 @@ pub record OneFails (count : ℕ) (old new : List DiskView) : Type 0 where
   pub now : slice_get new place ≡ Some after
   pub fails : Fails before after
 
+-- a disk's count of faults has not fallen, and if it was calm it is so
+abbrev pub KeepsCalm : DiskView → DiskView → Type 0
+KeepsCalm old new = (old.faults ≤ new.faults) × (old.calm ≡ true → new.calm ≡ true)
+
+-- a node's journal was opened: its disk keeps what it kept, with a journal begun where there was none, and every image spells the journal that was kept
+abbrev pub IsOpened : Identity → DiskView → DiskView → Type 0
+IsOpened id old new = IfTold old new (λ d e. (e.kept ≡ formatted id d.kept) × ((c : List ℕ) → IsImage e.now c → journal_of c ≡ journal_of d.kept))
+
+-- what a refused opening leaves of its node's disk: every image spells a journal that an image spelt before; and but for a fault the disk keeps the
+-- same journal, and the same bytes where one was begun and finished
+abbrev pub AfterRefusal : BootFault → DiskView → DiskView → Type 0
+AfterRefusal why old new = IfTold old new (λ d e. ((c : List ℕ) → IsImage e.now c → WasSpelt d c)
+    × ((why ≡ boot.Fault → ⊥) → (journal_of e.kept ≡ journal_of d.kept) × (is_unformatted d.kept ≡ false → e.kept ≡ d.kept)))
+
 -- these bytes are those of a journal of this node whose records do not fit, the first of them at that place
 abbrev pub MisfitsAt : {F : Type 0} → Reads F → Identity → List ℕ → ℕ → Type 0
 MisfitsAt frame_at id bytes at = (refusal id bytes ≡ None) × (misfit frame_at id.notary id.nodes id.party (placed 16 (journal_of bytes)) ≡ Some at)
@@ -150,20 +176,27 @@ HasCause frame_at id old boot.NotAJournal new = IfTold old new (λ d e. (refusal
 HasCause frame_at id old (boot.WrongNode found) new = IfTold old new (λ d e. (refusal id d.kept ≡ Some (open_fault.WrongNode found)) × (e.kept ≡ d.kept))
 HasCause frame_at id old (boot.Damaged at) new = IfTold old new (λ d e. ((refusal id d.kept ≡ Some (open_fault.Damaged at)) ⊎ MisfitsAt frame_at id d.kept at) × (e.kept ≡ d.kept))
 
--- the disks were not made ready: one failed, or memory ran out, and nothing was written
-abbrev pub IsUnready : Option (List ℕ) → Option (List ℕ) → Status → Type 0
-IsUnready written0 written1 s = ((s ≡ status.DiskFault) ⊎ (s ≡ status.NoMemory)) × (written1 ≡ written0)
+-- a disk failed, or memory ran out, and nothing was written
+abbrev pub GivesUp : Option (List ℕ) → Option (List ℕ) → Status → Type 0
+GivesUp written0 written1 s = ((s ≡ status.DiskFault) ⊎ (s ≡ status.NoMemory)) × (written1 ≡ written0)
 
--- an opening was refused for a cause, which what was written tells, with the number of the node: the first one, since no opening of those before it refuses its disk; the disks of those
--- keep what their openings left, and those of the nodes behind it are as before
+-- the disks were not made ready: one failed, or memory ran out, and nothing was written; each is as before but for its count of faults
+abbrev pub IsUnready : List DiskView → List DiskView → Option (List ℕ) → Option (List ℕ) → Status → Type 0
+IsUnready old new written0 written1 s = GivesUp written0 written1 s × AllStay old new
+
+-- an opening was refused for a cause, which what was written tells, with the number of the node: the first one, since no opening of those before it
+-- refuses its disk. The disks of those keep what they kept, and those of the nodes behind it are as before but for their counts of faults;
+-- of the node's own disk only a fault may have lost what was pending. No count has fallen, and each disk that was calm is so
 pub record IsToldWhy {F : Type 0} (frame_at : Reads F) (nodes : ℕ) (notary : Party) (old new : List DiskView) (written0 written1 : Option (List ℕ)) (s : Status) : Type 0 where
   pub node : ℕ
   pub within : node < nodes
   pub earlier : (p : ℕ) (d : DiskView) → p < node → slice_get old p ≡ Some d → KeepsOwn frame_at (member nodes notary p) d
-  pub opened : (p : ℕ) (d b : DiskView) → p < node → slice_get old p ≡ Some d → slice_get new p ≡ Some b → IfTold d b (λ x y. y.kept ≡ formatted (member nodes notary p) x.kept)
-  pub later : (p : ℕ) (d b : DiskView) → node < p → slice_get old p ≡ Some d → slice_get new p ≡ Some b → b.state ≡ d.state
+  pub opened : (p : ℕ) (d b : DiskView) → p < node → slice_get old p ≡ Some d → slice_get new p ≡ Some b → IsOpened (member nodes notary p) d b
+  pub later : (p : ℕ) (d b : DiskView) → node < p → slice_get old p ≡ Some d → slice_get new p ≡ Some b → StaysBut (roomless d) (roomless b)
   pub why : BootFault
   pub cause : (d b : DiskView) → slice_get old node ≡ Some d → slice_get new node ≡ Some b → HasCause frame_at (member nodes notary node) d why b
+  pub left : (d b : DiskView) → slice_get old node ≡ Some d → slice_get new node ≡ Some b → AfterRefusal why d b
+  pub calm : (p : ℕ) (d b : DiskView) → slice_get old p ≡ Some d → slice_get new p ≡ Some b → KeepsCalm d b
   pub told : RefusedWith node why written0 written1 s
 
 -- some node did not open: nothing was read, and the disks rest on journals that they may have left before; what was written says why. Where no node's
@@ -176,8 +209,8 @@ pub record Refuses {F : Type 0} (e : Environment F) (w : World) (old new : List 
   pub fewer : LeavesFewer w world
   pub kept : (s ≡ status.DiskFault → ⊥) → KeepsJournals w world
   pub openable : AreOpenable w → AreOpenable world
-  pub why : IsUnready written0 written1 s ⊎ IsToldWhy e.frame_at e.nodes e.notary old new written0 written1 s
-  pub opens : AreOpenable w → IsUnready written0 written1 s
+  pub why : IsUnready old new written0 written1 s ⊎ IsToldWhy e.frame_at e.nodes e.notary old new written0 written1 s
+  pub opens : AreOpenable w → GivesUp written0 written1 s
 
 -- a run over disks that show this world while their nodes are down: the nodes opened and the script was played, or one did not open
 pub record RunsAs {F : Type 0} (e : Environment F) (w : World) (old new : List DiskView) (left0 left1 written0 written1 : Option (List ℕ)) (count number : ℕ) : Type 0 where
@@ -237,15 +270,6 @@ IsPlayedStatus status.BadJournal = ⊥
 abbrev pub IsPlayedNumber : ℕ → Type 0
 IsPlayedNumber number = (number ≡ 0) ⊎ ((number ≡ 3) ⊎ (number ≡ 4))
 
--- a disk is as before but for its count of faults, which has not fallen
-abbrev pub StaysBut : DiskView → DiskView → Type 0
-StaysBut old new = (new ≡ record old { faults = new.faults }) × (old.faults ≤ new.faults)
-
--- each of the disks is as before but for its count of faults, which has not fallen
-pub record AllStay (old new : List DiskView) : Type 0 where
-  pub count : length new ≡ length old
-  pub each : (p : ℕ) (d e : DiskView) → slice_get old p ≡ Some d → slice_get new p ≡ Some e → StaysBut d e
-
 -- ---- over any disks
 
 -- whatever the disks tell: they were made ready, each node opened its journal, and the script went from there to the last network, line by line; its nodes' disks are those that come back
@@ -264,7 +288,7 @@ pub record GoesOn {F : Type 0} (m : Machine F) (frame_at : Reads F) (nodes : ℕ
 pub record Halts {F : Type 0} (frame_at : Reads F) (nodes : ℕ) (notary : Party) (old new : List DiskView) (left0 left1 written0 written1 : Option (List ℕ)) (count : ℕ) (status : Status) : Type 0 where
   pub unread : left1 ≡ left0
   pub none : count ≡ 0
-  pub why : IsUnready written0 written1 status ⊎ IsToldWhy frame_at nodes notary old new written0 written1 status
+  pub why : IsUnready old new written0 written1 status ⊎ IsToldWhy frame_at nodes notary old new written0 written1 status
 
 -- a run over any disks
 abbrev pub GoesOrHalts : {F : Type 0} → Machine F → Reads F → ℕ → Party → List DiskView → List DiskView → Option (List ℕ) → Option (List ℕ) → Option (List ℕ) → Option (List ℕ) → ℕ → Status → Type 0

@@ -151,13 +151,20 @@ returns-clause-bad_journal g c eight =
 
 pub returns-in_default-clause-went : goal.returns-in_default-clause-went
 returns-in_default-clause-went g c =
+    let n = c.args.network.nodes in
     let end = c.end_with.ensures in
-    went_unready g.F.FlowSet.machine g.F.Spelt.reading c.args.network.nodes (party c.args.network.notary) _ _ _ _ _ _ status.NoMemory tt end.0 end.2
+    let olds = first_disks n (map g.B.Disk.seen c.args.disks.items) in
+    let stay : AllStay olds (first_disks n (map g.B.Disk.seen c.end_with.result.disks.items)) = subst (λ l. AllStay olds (first_disks n (map g.B.Disk.seen l))) (sym (ap (λ v. v.items) end.1)) (stay_same olds) in
+    went_unready g.F.FlowSet.machine g.F.Spelt.reading n (party c.args.network.notary) _ _ _ _ _ _ status.NoMemory tt stay end.0 end.2
 
 pub returns-in-Err-clause-went : goal.returns-in-Err-clause-went
 returns-in-Err-clause-went g c =
+    let n = c.args.network.nodes in
     let end = c.end_with-in-Err.ensures in
-    went_unready g.F.FlowSet.machine g.F.Spelt.reading c.args.network.nodes (party c.args.network.notary) _ _ _ _ _ _ c.in-Err.status c.in-Err.ensures.kinds end.0 end.2
+    let olds = map g.B.Disk.seen c.args.disks.items in
+    let stay : AllStay (first_disks n olds) (first_disks n (map g.B.Disk.seen c.end_with-in-Err.result.disks.items)) =
+    first_stay n olds _ (subst (λ l. AllStay olds (map g.B.Disk.seen l)) (sym (ap (λ v. v.items) end.1)) c.attach_all.ensures.stay) in
+    went_unready g.F.FlowSet.machine g.F.Spelt.reading n (party c.args.network.notary) _ _ _ _ _ _ c.in-Err.status c.in-Err.ensures.kinds stay end.0 end.2
 
 pub returns-clause-went : goal.returns-clause-went
 returns-clause-went g c =
