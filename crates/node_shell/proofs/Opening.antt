@@ -6,7 +6,7 @@ use Rattle.std.proofs.lemmas.Option.{slice_get_within}
 use Rattle.std.proofs.lemmas.Bool.{cases_Bool, cases_lt}
 use Rattle.outside.specs.Disk.{DiskView, IfTold, IsImage}
 use Rattle.outside.proofs.Moments.{at_now}
-use Rattle.disk_journal.specs.Journal.{WasSpelt, journal_of, placed, is_unformatted, formatted, refusal}
+use Rattle.disk_journal.specs.Journal.{WasSpelt, journal_of, placed, is_unformatted, refusal}
 use Rattle.disk_journal.proofs.Fresh.{unformatted_short, short_spells, refusal_unformatted}
 use Rattle.disk_journal.specs.declared.fault.OpenFault.{OpenFault}
 use Rattle.disk_journal.specs.declared.fault.OpenFault.TheVariants as open_fault
