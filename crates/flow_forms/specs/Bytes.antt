@@ -1,18 +1,14 @@
 -- The bytes of a machine's frames, of the frames of a sum, and of a frame behind its length.
-use Rattle.std.proofs.Common.{◌≡◌, ◌≤◌, ◌<◌, ◌^◌, ℕ, Bool, true, false, cond, List, [], ◌∷◌, ◌++◌, length, Option, Some, None, Result, Ok, Err, suc, inl, inr, refl, sym, ap, subst, ◌∙◌, arith, append_assoc}
+use Rattle.std.proofs.Common.{◌≡◌, ℕ, Bool, true, false, cond, List, [], ◌∷◌, ◌++◌, length, Option, Some, None, Result, Ok, Err, suc, refl, sym, ap, subst, ◌∙◌}
 use Rattle.std.specs.Prelude.{nat_eq, ◌==◌, ◌||◌, ◌&&◌, not, find, if◌then◌else◌}
 use Rattle.std.specs.List.{list_any}
-use Rattle.std.specs.Int.{w16}
-use Rattle.std.proofs.lemmas.Bool.{eqb-true, and_parts, cases_lt}
-use Rattle.std.proofs.lemmas.List.{append-nil, get_or_append_left, get_or_past}
+use Rattle.std.proofs.lemmas.Bool.{eqb-true, and_parts}
 use Rattle.std.proofs.lemmas.List.Folds.{list_any-append}
-use Rattle.net_base.specs.Reading.{IsBytes, number}
-use Rattle.net_base.specs.Forms.{◌>>=◌, byte_at, bytes16}
+use Rattle.net_base.specs.Forms.{◌>>=◌, byte_at}
 use Rattle.net_base.specs.Laws.{LawsIf, Laws, weaker, err_is}
 use Rattle.net_base.proofs.Lists.{find_test}
 use Rattle.net_base.specs.Combining.{bind_laws, mapped_at, mapped_laws, restated_laws, iso_laws, pair_at, pair_laws}
 use Rattle.net_base.specs.Kinds.{kind_at, kind_laws, cond_laws}
-use Rattle.net_base.specs.Framing.{bytes16_at, bytes16_laws}
 use Rattle.flow_forms.specs.declared.forms.At.{At}
 use Rattle.flow_forms.specs.declared.forms.At.TheVariants as stands
 use Rattle.flow_forms.specs.Frames.{Frame}

@@ -3,7 +3,6 @@ use Rattle.std.specs.Prelude.{◌≡◌, ℕ, ◌+◌, ◌≤◌, ◌&&◌, List
 use Rattle.std.specs.List.{list_all}
 use Rattle.std.proofs.Common.{arith, ap, sym, subst}
 use Rattle.net_base.specs.Laws.{LawsIf}
-use Rattle.net_base.specs.declared.names.Key.{Key}
 use Rattle.net_base.specs.declared.names.Tag.{Tag}
 use Rattle.net_base.specs.Reading.{IsBytes}
 use Rattle.net_base.specs.Forms.{bytes16}
@@ -11,18 +10,17 @@ use Rattle.net_base.specs.Names.{IsKey}
 use Rattle.flow_machine.specs.declared.acts.Act.{Act}
 use Rattle.flow_machine.specs.declared.acts.Act.TheVariants as act
 use Rattle.flow_machine.specs.declared.acts.Place.{Place}
-use Rattle.flow_machine.specs.declared.acts.Resumed.{Resumed}
 use Rattle.flow_machine.specs.declared.flow_set.MakeFault.{MakeFault}
 use Rattle.flow_machine.specs.Machine.{Machine}
 use Rattle.flow_machine.specs.Acts.{act_with}
-use Rattle.flow_machine.specs.Limits.{IsAct, IsResumed, IsPlace}
+use Rattle.flow_machine.specs.Limits.{IsAct, IsPlace}
 use Rattle.flow_machine.specs.Tags.{act_tags, KeepsTags, BeginsBare, AreBare}
 use Rattle.flow_machine.specs.Flows.{cost, Falls, LoadHolds, is_fair, OversHold, is_fail, OverFails, KnownByName, ArgsAreShort, SpellsContent, AreWithin, KeepsLimits}
 use Rattle.flow_forms.specs.declared.calls.Call.{Call}
 use Rattle.flow_forms.specs.Calls.{IsCall, call_tags, call_weight, price, load_of}
 use Rattle.flow_forms.specs.Bytes.{Spells, content_of, content_at, content_laws}
 use Rattle.flow_forms.specs.Framed.{framed_at, framed_laws}
-use Rattle.flow_forms.specs.Parts.{Part, causes, is_just, AreLimited, BothPass, BeginsWell, PartLaws}
+use Rattle.flow_forms.specs.Parts.{Part, is_just, BeginsWell, PartLaws}
 
 -- ---- the set
 

@@ -1,7 +1,7 @@
 -- The laws of a machine's frames as a part of a flow set, once for all machines.
-use Rattle.std.specs.Prelude.{◌≡◌, ℕ, ◌+◌, ◌≤◌, ◌<◌, List, [], ◌∷◌, length, Bool, true, false, not, refl, Option, Some, None, Result, Ok, Err, IfOk}
+use Rattle.std.specs.Prelude.{◌≡◌, ℕ, ◌≤◌, List, [], ◌∷◌, length, Bool, true, false, refl, Option, Some, None, Result, Ok, Err, IfOk}
 use Rattle.std.specs.List.{list_all}
-use Rattle.std.proofs.Common.{arith, ap, subst, sym}
+use Rattle.std.proofs.Common.{arith, ap, subst}
 use Rattle.net_base.specs.declared.names.Key.{Key}
 use Rattle.net_base.specs.declared.names.Tag.{Tag}
 use Rattle.net_base.specs.Reading.{IsBytes}
@@ -17,8 +17,7 @@ use Rattle.flow_machine.specs.declared.flow_set.MakeFault.{MakeFault}
 use Rattle.flow_machine.specs.declared.flow_set.MakeFault.TheVariants as make
 use Rattle.std.proofs.lemmas.Bool.{eq-eqb}
 use Rattle.flow_machine.specs.Flows.{is_fail}
-use Rattle.flow_machine.specs.Limits.{IsResumed, IsPlace}
-use Rattle.flow_machine.specs.Tags.{resumed_tags}
+use Rattle.flow_machine.specs.Limits.{IsPlace}
 use Rattle.flow_machine.specs.Unnamed.{code_small}
 use Rattle.flow_forms.specs.declared.calls.Call.{Call}
 use Rattle.flow_forms.specs.declared.forms.At.{At}
@@ -29,7 +28,7 @@ use Rattle.flow_forms.specs.declared.forms.Goes.TheVariants as goes
 use Rattle.flow_forms.specs.Calls.{price, load_of, is_asking}
 use Rattle.flow_forms.specs.Forms.{Form, frame, unnamed, started, next_at, weight_at, over_at, total, asks, Limited, Passes, Owes, IsForm}
 use Rattle.net_base.specs.Laws.{LawsIf}
-use Rattle.flow_forms.specs.Bytes.{Places, IsAt, ArePlaces, IsFrame, Spells, machine_spells, body_of, body_at, content_of}
+use Rattle.flow_forms.specs.Bytes.{Places, ArePlaces, IsFrame, Spells, machine_spells, body_of, body_at, content_of}
 use Rattle.flow_forms.specs.Parts.{Part, causes, is_just, AreLimited, BothPass, BeginsWell, PartLaws}
 
 -- ---- how flows of a machine begin

@@ -1,13 +1,13 @@
 -- How many bytes the fields of frames have at most.
-use Rattle.std.specs.Prelude.{ℕ, ◌+◌, ◌*◌, ◌≤◌, ◌<◌, ◌^◌, List, ◌∷◌, ◌++◌, length, Option, Some, None, IfSome}
+use Rattle.std.specs.Prelude.{ℕ, ◌+◌, ◌*◌, ◌≤◌, List, length, Option, Some, None, IfSome}
 use Rattle.std.specs.Int.{w32}
-use Rattle.std.proofs.Common.{arith, length-append}
+use Rattle.std.proofs.Common.{arith}
 use Rattle.std.proofs.Math.Nat.{mul-le-mul_right}
 use Rattle.net_base.specs.declared.names.Key.{Key}
 use Rattle.net_base.specs.declared.values.Hash32.{Hash32}
 use Rattle.net_base.specs.Reading.{number}
 use Rattle.net_base.specs.Forms.{option_of, list8, ListWithin}
-use Rattle.net_base.specs.Values.{IsHash, hash, IsParty, party}
+use Rattle.net_base.specs.Values.{IsHash, hash, party}
 use Rattle.net_base.specs.Names.{IsKey, key}
 use Rattle.ledger_types.proofs.Sizes.{items_fit, joined, number32_fits}
 

@@ -1,9 +1,6 @@
 -- The sum of two parts of a flow set: its laws follow from theirs.
-use Rattle.std.specs.Prelude.{◌≡◌, ℕ, ◌≤◌, List, ◌∷◌, length, Bool, true, refl, Option, Some, None, Result, Ok, Err, IfOk}
-use Rattle.std.specs.List.{list_all}
+use Rattle.std.specs.Prelude.{◌≡◌, ℕ, ◌≤◌, List, ◌∷◌, length, true, refl, Option, Some, None, Result, Ok, Err, IfOk}
 use Rattle.std.proofs.Common.{◌⊎◌, inl, inr, subst}
-use Rattle.net_base.specs.declared.names.Key.{Key}
-use Rattle.net_base.specs.declared.names.Tag.{Tag}
 use Rattle.net_base.specs.Reading.{IsBytes}
 use Rattle.net_base.specs.Names.{IsKey}
 use Rattle.flow_machine.specs.declared.acts.Act.{Act}

@@ -5,7 +5,6 @@ use Rattle.std.proofs.Common.{arith, subst, sym}
 use Rattle.std.proofs.lemmas.Bool.{eqb-true, leb-true}
 use Rattle.net_base.specs.declared.names.Key.{Key}
 use Rattle.net_base.specs.declared.names.Tag.{Tag}
-use Rattle.net_base.specs.Reading.{IsBytes}
 use Rattle.net_base.specs.Names.{IsKey}
 use Rattle.net_base.specs.Laws.{LawsIf}
 use Rattle.flow_machine.specs.declared.acts.Place.{Place}

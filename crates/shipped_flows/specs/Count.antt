@@ -1,5 +1,5 @@
 -- The counting flow: class 1, `count K`, sleeps K times until moment 0, and returns K.
-use Rattle.std.specs.Prelude.{ℕ, ◌-◌, ◌+◌, ◌<◌, ◌^◌, ◌==◌, nat_le, [], ◌∷◌, ◌++◌, List, Option, Some, None, Result, if◌then◌else◌, codes, max, false, ◌≡◌, ◌≤◌, length, Bool, true, refl}
+use Rattle.std.specs.Prelude.{ℕ, ◌-◌, ◌+◌, ◌<◌, ◌^◌, ◌==◌, nat_le, [], ◌∷◌, ◌++◌, List, Option, Some, None, Result, if◌then◌else◌, max, false, ◌≤◌, length, refl}
 use Rattle.std.specs.Int.{w32}
 use Rattle.net_base.specs.Reading.{number}
 use Rattle.net_base.specs.Forms.{number_at}
@@ -11,16 +11,15 @@ use Rattle.flow_forms.specs.declared.arguments.End.{End}
 use Rattle.flow_forms.specs.declared.arguments.Then.{Then}
 use Rattle.flow_forms.specs.declared.forms.Goes.{Goes}
 use Rattle.flow_forms.specs.declared.forms.Goes.TheVariants.{On, Ends}
-use Rattle.flow_forms.specs.Usual.{Place, Resumed, Form, unnamed, Places, Owes, IsForm, unnamed_owes, ArePlaces, IsAt, owes_if}
+use Rattle.flow_forms.specs.Usual.{Place, Resumed, Form, unnamed, Places, Owes, IsForm, unnamed_owes, ArePlaces, owes_if}
 use Rattle.shipped_flows.specs.declared.count.Count.{Count}
 use Rattle.shipped_flows.specs.declared.count.CountPlace.{CountPlace}
 use Rattle.shipped_flows.specs.declared.count.CountPlace.TheVariants.{Sleeping}
 use Rattle.std.proofs.Common.{arith, subst}
-use Rattle.std.proofs.lemmas.Bool.{eqb-false, leb-true}
+use Rattle.std.proofs.lemmas.Bool.{eqb-false}
 use Rattle.net_base.specs.Laws.{Laws}
 use Rattle.net_base.specs.Fields.{u32_laws}
 use Rattle.flow_forms.specs.Ways.{BeginsWithin, if_some}
-use Rattle.flow_forms.specs.declared.forms.At.TheVariants as stands
 
 -- ---- how it goes on
 

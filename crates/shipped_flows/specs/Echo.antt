@@ -1,5 +1,5 @@
 -- The echo flow: it answers an Init of class 2, and sends each number that comes back, one higher, until the other side ends.
-use Rattle.std.specs.Prelude.{ℕ, ◌-◌, ◌+◌, ◌*◌, ◌<◌, ◌^◌, nat_le, false, [], ◌∷◌, ◌++◌, List, Result, if◌then◌else◌, ◌≡◌, ◌≤◌, length, true, refl}
+use Rattle.std.specs.Prelude.{ℕ, ◌-◌, ◌+◌, ◌*◌, ◌<◌, ◌^◌, nat_le, false, [], ◌∷◌, ◌++◌, List, Result, if◌then◌else◌, ◌≤◌, length, refl}
 use Rattle.std.specs.Int.{w32, w64}
 use Rattle.net_base.specs.declared.names.Key.{Key}
 use Rattle.net_base.specs.Reading.{number}

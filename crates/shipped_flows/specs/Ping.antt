@@ -1,5 +1,5 @@
 -- The ping flow: class 2, `ping P K`, opens a session with P's echo, sends it each number that comes, and returns the K-th.
-use Rattle.std.specs.Prelude.{ℕ, ◌-◌, ◌+◌, ◌*◌, ◌<◌, ◌^◌, ◌==◌, ◌&&◌, nat_le, true, false, [], ◌∷◌, ◌++◌, List, Option, Some, None, IfSome, Result, if◌then◌else◌, ◌≡◌, ◌≤◌, length, Bool, refl}
+use Rattle.std.specs.Prelude.{ℕ, ◌-◌, ◌+◌, ◌*◌, ◌<◌, ◌^◌, ◌==◌, ◌&&◌, nat_le, false, [], ◌∷◌, ◌++◌, List, Option, Some, None, IfSome, Result, if◌then◌else◌, ◌≡◌, ◌≤◌, length, refl}
 use Rattle.std.specs.Int.{w32, w64}
 use Rattle.net_base.specs.declared.values.Party.{Party}
 use Rattle.net_base.specs.declared.names.Key.{Key}
@@ -15,7 +15,7 @@ use Rattle.flow_forms.specs.declared.arguments.End.{End}
 use Rattle.flow_forms.specs.declared.arguments.Then.{Then}
 use Rattle.flow_forms.specs.declared.forms.Goes.{Goes}
 use Rattle.flow_forms.specs.declared.forms.Goes.TheVariants.{On, Ends}
-use Rattle.flow_forms.specs.Usual.{Place, Resumed, Form, unnamed, Places, needs, is_peer, Owes, IsForm, unnamed_owes, ArePlaces, IsAt, owes_if, needs_owes, there_within, Keeps, same, peer_is_party}
+use Rattle.flow_forms.specs.Usual.{Place, Resumed, Form, unnamed, Places, needs, is_peer, Owes, IsForm, unnamed_owes, ArePlaces, owes_if, needs_owes, there_within, Keeps, same, peer_is_party}
 use Rattle.shipped_flows.specs.declared.ping.Ping.{Ping}
 use Rattle.shipped_flows.specs.declared.ping.PingPlace.{PingPlace}
 use Rattle.shipped_flows.specs.declared.ping.PingPlace.TheVariants.{Opening, Receiving, Sending}
@@ -24,7 +24,6 @@ use Rattle.std.proofs.lemmas.Bool.{eqb-false, and_parts}
 use Rattle.net_base.specs.Laws.{Laws}
 use Rattle.net_base.specs.Fields.{u32_laws, u64_laws, option_laws}
 use Rattle.ledger_types.proofs.Sizes.{joined, number32_fits, number64_fits}
-use Rattle.flow_forms.specs.declared.forms.At.TheVariants as stands
 use Rattle.flow_forms.specs.Sizes.{option_fits, key_fits}
 use Rattle.flow_forms.specs.Ways.{BeginsWithin, if_some}
 

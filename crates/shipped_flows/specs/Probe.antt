@@ -1,5 +1,5 @@
 -- The probe flow: class 10, `probe P CLASS`, opens a session of the class with P, and returns once any value came.
-use Rattle.std.specs.Prelude.{ℕ, ◌+◌, ◌<◌, ◌^◌, false, [], ◌∷◌, ◌++◌, List, Option, Some, None, IfSome, Result, if◌then◌else◌, ◌≡◌, ◌≤◌, length, refl}
+use Rattle.std.specs.Prelude.{ℕ, ◌+◌, ◌<◌, ◌^◌, false, [], ◌∷◌, ◌++◌, List, Option, Some, None, IfSome, Result, if◌then◌else◌, ◌≤◌, length, refl}
 use Rattle.std.specs.Int.{w16}
 use Rattle.net_base.specs.declared.values.Party.{Party}
 use Rattle.net_base.specs.declared.names.Key.{Key}
