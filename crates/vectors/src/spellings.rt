@@ -71,10 +71,13 @@ fn judged<T: Spelt>(alloc: Global, bytes: &[u8]) -> Result<String>
 
 /// The same of a type whose faults have no place.
 fn told_spelt<T: Spelt>(alloc: Global, bytes: &[u8]) -> Result<String> {
-    let answer = match decode_if_spelt::<T>(alloc, bytes)? {
-        Some(value) if spelling(alloc, &value)?.as_slice() == bytes => "spelt",
-        Some(_) => "another spelling",
-        None => "malformed",
+    let Some(value) = decode_if_spelt::<T>(alloc, bytes)? else {
+        return Ok(String::from_str(alloc, "malformed")?);
+    };
+    let answer = if spelling(alloc, &value)?.as_slice() == bytes {
+        "spelt"
+    } else {
+        "another spelling"
     };
     Ok(String::from_str(alloc, answer)?)
 }
