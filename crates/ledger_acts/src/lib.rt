@@ -9,8 +9,6 @@ mod concluding;
 mod job;
 mod laws;
 mod outcome;
-#[cfg(test)]
-mod tests;
 
 pub use acts::{look_up, missing, notarise, reserve, sign};
 pub use awaiting::{is_awaited, needs_job, record_unjudged, take_job, verify_unjudged};

@@ -11,6 +11,3 @@ mod table;
 pub use boot::{RebuildFault, rebuild};
 pub use laws::fits_as_ruled;
 pub use table::NodeTables;
-
-#[cfg(test)]
-mod tests;

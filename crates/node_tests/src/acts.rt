@@ -6,9 +6,13 @@ ghost use Rattle.ledger_types.specs.Txs.{IsTx};
 ghost use Rattle.flow_machine.specs.Limits.{IsAct};
 ghost use Rattle.ledger_acts.specs.Jobs.{IsRun};
 
-use super::*;
 use contract_verify::{ContractBook, Judge};
 use flow_machine::{Act, Checkpoint, Resumed, Stack};
+use ledger_acts::{
+    Done, LedgerOutcome, acts_as_meant, conclude, concludes_as_meant, is_awaited, job_is_the_act,
+    job_stays, jobs_are_within, look_up, missing, needs_job, notarise, record_unjudged, reserve,
+    settles_as_meant, sign, take_job, unclaimed_is_picked, unjudged_as_meant, verify_unjudged,
+};
 use ledger_tables::LedgerTables;
 use ledger_types::{LedgerChange, Request, SignedTx, Tx, Verdict};
 use net_base::{

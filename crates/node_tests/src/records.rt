@@ -1,10 +1,10 @@
 //! The ledger of records that were spelt apart from this code. What holds a flow is let go without its destructor: a proof of a test
 //! would go through each kind of value that may stand in it.
 
-use crate::{fits_as_ruled, rebuild};
 use ledger_tables::LedgerTables;
 use net_base::{ByteList, ListOf, Party};
 use node_ledger::change_fits_as_ruled;
+use node_tables::{fits_as_ruled, rebuild};
 use shipped_flows::ShippedFlow;
 use std::alloc::{AllocError, Global};
 use std::mem;
