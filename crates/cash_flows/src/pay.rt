@@ -24,7 +24,7 @@ pub type PayArgs = Then<u8, Then<Code, Then<u8, Then<u64, PayOptions>>>>;
 pub type PayFrame = Frame<PayPlace, Pay, ByWords>;
 
 /// Where a payment waits.
-#[derive(Clone, Copy, Debug, PartialEq, Eq)]
+#[derive(Clone, Copy)]
 pub enum PayPlace {
     /// On the reservation of coins.
     Reserving,
@@ -34,7 +34,7 @@ pub enum PayPlace {
 
 /// The payment, class 4, `pay P CODE ISSUER AMOUNT` and options: it reserves coins of the token, pays the amount to another node of the
 /// network and the rest to this one, and returns the transaction's id. It fails with 47 where there are too few coins.
-#[derive(Clone, Copy, Debug, PartialEq, Eq)]
+#[derive(Clone, Copy)]
 pub struct Pay {
     /// The payee.
     pub to: Party,

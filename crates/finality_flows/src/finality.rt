@@ -16,7 +16,7 @@ use net_base::{
 use std::alloc::{AllocError, Global};
 
 /// Where a finality frame waits. The places have the numbers 1 to 10 in this order, and 11 is the one that returns the id.
-#[derive(Clone, Copy, Debug, PartialEq, Eq)]
+#[derive(Clone, Copy)]
 pub enum FinalityPlace {
     /// On the verdict.
     Verifying = 1,
@@ -47,7 +47,7 @@ pub enum FinalityPlace {
 /// It fails with 31 to 33 where the transaction is not accepted, 35 where a peer asks for what is not recorded here, 41 to 45 where the
 /// notary refuses, 50 to 52 where a session goes wrong, 62 at the 513th request, by the reason of an act that was refused, and else 54.
 /// What was recorded stays recorded then.
-#[derive(Debug, Drop)]
+#[derive(Drop)]
 pub struct Finality {
     /// The transaction with the tags so far.
     pub stx: Boxed<SignedTx>,

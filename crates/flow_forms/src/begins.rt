@@ -98,15 +98,15 @@ pub trait Answers<P>: Machine<P> {
 }
 
 /// Flows of the machine begin by words.
-#[derive(Clone, Copy, Debug)]
+#[derive(Clone, Copy)]
 pub struct ByWords;
 
 /// Flows of the machine begin by an Init.
-#[derive(Clone, Copy, Debug)]
+#[derive(Clone, Copy)]
 pub struct ByInit;
 
 /// Flows of the machine begin by a call alone.
-#[derive(Clone, Copy, Debug)]
+#[derive(Clone, Copy)]
 pub struct ByCall;
 
 /// The class and the bytes of arguments.

@@ -20,7 +20,7 @@ const WAIT: u64 = 30_000;
 const MOST_TRIES: u8 = 3;
 
 /// Where a notary client waits, with the numbers of the places; 3 is that of Return.
-#[derive(Clone, Copy, Debug, PartialEq, Eq)]
+#[derive(Clone, Copy)]
 pub enum ClientPlace {
     /// Opens a session with the notary.
     Opening = 1,
@@ -30,7 +30,7 @@ pub enum ClientPlace {
 
 /// The notary client, machine 31, a subflow: it opens a session of class 20 with the network's notary by the request, waits there for
 /// the answer for 30,000 milliseconds, and returns it. It tries three times, each time in a new session, and then fails with 53.
-#[derive(Debug, Drop)]
+#[derive(Drop)]
 pub struct Client {
     /// What the notary is to decide.
     pub request: Boxed<Request>,

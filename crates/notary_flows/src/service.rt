@@ -12,7 +12,7 @@ use net_base::{Boxed, Key, PartFault, Reader, Spelt, TryCopy, Writer};
 use std::alloc::{AllocError, Global};
 
 /// Where a notary service waits, with the numbers of the places; 4 is that of Return.
-#[derive(Clone, Copy, Debug, PartialEq, Eq)]
+#[derive(Clone, Copy)]
 pub enum ServicePlace {
     /// Waits for the request.
     Receiving = 1,
@@ -24,7 +24,7 @@ pub enum ServicePlace {
 
 /// The notary service, machine 20, with which a node answers an Init of class 20: it has the node's book decide the request that comes
 /// and sends the answer; it returns Unit.
-#[derive(Debug, Drop)]
+#[derive(Drop)]
 pub struct Service {
     /// The session.
     pub key: Key,

@@ -23,7 +23,7 @@ const MOST_ANCESTORS: usize = 256;
 const MOST_ASKS: u16 = 512;
 
 /// Where a resolving frame waits, with the numbers of the places; 7 is that of Return.
-#[derive(Clone, Copy, Debug, PartialEq, Eq)]
+#[derive(Clone, Copy)]
 pub enum ResolvePlace {
     /// Asks which ancestors of the transaction are lacking.
     Listing = 1,
@@ -42,7 +42,7 @@ pub enum ResolvePlace {
 /// Resolving, machine 32, a subflow: in a session it asks for the ancestors of a transaction that are lacking, the last of them first,
 /// records each once its own ancestors are there, and then the transaction itself; it returns Unit. It fails with 62 where more than
 /// 256 ancestors are lacking, or where it would ask more than 512 times, and with 54 where another transaction comes than it asked for.
-#[derive(Debug, Drop)]
+#[derive(Drop)]
 pub struct Resolve {
     /// The session.
     pub key: Key,

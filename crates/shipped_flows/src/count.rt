@@ -12,13 +12,13 @@ use std::alloc::{AllocError, Global};
 const MOST_SLEEPS: u32 = 65534;
 
 /// Where a counting flow waits: 1 until it wakes.
-#[derive(Clone, Copy, Debug, PartialEq, Eq)]
+#[derive(Clone, Copy)]
 pub enum CountPlace {
     Sleeping = 1,
 }
 
 /// The counting flow, class 1: `count K` sleeps K times, each until moment 0, and returns K. K is at most 65,534.
-#[derive(Clone, Copy, Debug, PartialEq, Eq)]
+#[derive(Clone, Copy)]
 pub struct Count {
     /// How many sleeps are left.
     pub left: u32,

@@ -11,7 +11,7 @@ use std::alloc::{AllocError, Global};
 const MOST_TURNS: u32 = 1000;
 
 /// Where an echo waits: 1 to receive, 2 to send.
-#[derive(Clone, Copy, Debug, PartialEq, Eq)]
+#[derive(Clone, Copy)]
 pub enum EchoPlace {
     Receiving = 1,
     Sending = 2,
@@ -19,7 +19,7 @@ pub enum EchoPlace {
 
 /// The echo flow, which answers an Init of class 2: it sends each number that comes back, one higher, and returns Unit once the other side
 /// ended. At the 1,001st number it fails with 62.
-#[derive(Clone, Copy, Debug, PartialEq, Eq)]
+#[derive(Clone, Copy)]
 pub struct Echo {
     /// The session.
     pub key: Key,

@@ -12,7 +12,7 @@ use std::alloc::{AllocError, Global};
 const MOST_NUMBERS: u32 = 1000;
 
 /// Where a ping waits: 1 until its session is open, 2 to receive, 3 to send.
-#[derive(Clone, Copy, Debug, PartialEq, Eq)]
+#[derive(Clone, Copy)]
 pub enum PingPlace {
     Opening = 1,
     Receiving = 2,
@@ -21,7 +21,7 @@ pub enum PingPlace {
 
 /// The ping flow, class 2: `ping P K` opens a session with the echo of the counterparty P, sends back each number that comes, and returns
 /// the K-th. K is 1 to 1,000.
-#[derive(Clone, Copy, Debug, PartialEq, Eq)]
+#[derive(Clone, Copy)]
 pub struct Ping {
     /// The counterparty.
     pub to: Party,

@@ -9,7 +9,7 @@ use net_base::{Key, PartFault, Party, Reader, Spelt, TryCopy, Writer};
 use std::alloc::{AllocError, Global};
 
 /// Where a probe waits: 1 until its session is open, 2 to receive.
-#[derive(Clone, Copy, Debug, PartialEq, Eq)]
+#[derive(Clone, Copy)]
 pub enum ProbePlace {
     Opening = 1,
     Receiving = 2,
@@ -17,7 +17,7 @@ pub enum ProbePlace {
 
 /// The probe flow, class 10: `probe P CLASS` opens a session of the class with the counterparty P, whose first value is Unit, and returns
 /// Unit once any value came. Where P knows no such class it fails with 50.
-#[derive(Clone, Copy, Debug, PartialEq, Eq)]
+#[derive(Clone, Copy)]
 pub struct Probe {
     /// The counterparty.
     pub to: Party,
