@@ -6,11 +6,11 @@ ghost use Rattle.flow_machine.specs.declared.acts.Act.TheVariants as act;
 ghost use Rattle.flow_machine.specs.Limits.{IsResumed};
 ghost use Rattle.flow_forms.specs.Calls.{call_weight};
 ghost use Rattle.flow_forms.specs.declared.calls.Call.TheVariants as call;
-ghost use Rattle.resolve_flows.specs.Resolve.{fresh, last_of, takes, asks_for, asks_next, records, lists, listed, sent, has_id, received, records_current, widens, lacked, recorded, ended, goes_on, form, IsResolve, resolve, resolve_at, places};
-ghost use Rattle.resolve_flows.specs.ResolveLaws.{resolve_laws, are_places, short, is_form};
+ghost use Rattle.resolve_flows.specs.Resolve.{fresh, last_of, takes, asks_for, asks_next, records, lists, listed, sent, has_id, received, records_current, widens, lacked, recorded, ended, goes_on, form, numbers};
+ghost use Rattle.resolve_flows.specs.ResolveLaws.{kept, are_numbers, is_form};
 
 use crate::ids::{read_ids, widened, write_ids};
-use flow_forms::{ByCall, Call, Frame, Goes, Machine, Numbered, copy_option};
+use flow_forms::{ByCall, Call, Fields, Frame, Goes, Machine, Numbered, copy_option};
 use flow_machine::{Act, Place, Resumed};
 use ledger_types::{IdList, SignedTx, Value};
 use net_base::{Boxed, Hash32, Key, ListOf, PartFault, Reader, Spelt, TryCopy, Writer};
@@ -290,9 +290,9 @@ impl Resolve {
 }
 
 impl Numbered for ResolvePlace {
-    ghost places = { places };
+    ghost numbers = { numbers };
 
-    ghost are_places = { are_places };
+    ghost are_numbers = { are_numbers };
 
     fn number(self) -> u8 {
         self as u8
@@ -308,27 +308,13 @@ impl Numbered for ResolvePlace {
             ResolvePlace::Ending,
         ]
     }
-
-    fn last() -> u8 {
-        7
-    }
-
-    fn callable() -> bool {
-        true
-    }
 }
 
 #[tactic(auto, unfolding(crate::specs::Resolve::resolve_at))]
-impl Spelt for Resolve {
-    ghost spelling = { resolve };
+impl Fields for Resolve {
+    ghost kept = { kept };
 
-    ghost within = { IsResolve };
-
-    ghost reading = { resolve_at };
-
-    ghost laws = { resolve_laws };
-
-    fn read_part(alloc: Global, from: &mut Reader) -> Result<Resolve, PartFault> {
+    fn read_fields(alloc: Global, from: &mut Reader) -> Result<Resolve, PartFault> {
         Ok(Resolve {
             key: Spelt::read_part(alloc, from)?,
             stx: Spelt::read_part(alloc, from)?,
@@ -339,7 +325,7 @@ impl Spelt for Resolve {
         })
     }
 
-    fn write_part(&self, alloc: Global, out: &mut Writer) -> Result<(), AllocError> {
+    fn write_fields(&self, alloc: Global, out: &mut Writer) -> Result<(), AllocError> {
         self.key.write_part(alloc, out)?;
         self.stx.write_part(alloc, out)?;
         write_ids(alloc, &self.pending, out)?;
@@ -347,10 +333,8 @@ impl Spelt for Resolve {
         self.asks.write_part(alloc, out)?;
         self.current.write_part(alloc, out)
     }
-}
 
-impl TryCopy for Resolve {
-    fn try_copy(&self, alloc: Global) -> Result<Resolve, AllocError> {
+    fn copy_fields(&self, alloc: Global) -> Result<Resolve, AllocError> {
         Ok(Resolve {
             key: self.key,
             stx: self.stx.try_copy(alloc)?,
@@ -368,8 +352,6 @@ impl Machine<ResolvePlace> for Resolve {
     ghost MACHINE = { 32 };
 
     ghost is_form = { is_form };
-
-    ghost short = { short };
 
     const MACHINE: u8 = 32;
 
