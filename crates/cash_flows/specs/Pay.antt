@@ -20,7 +20,7 @@ use Rattle.flow_forms.specs.declared.arguments.Then.{Then}
 use Rattle.flow_forms.specs.declared.calls.Call.TheVariants as call
 use Rattle.flow_forms.specs.declared.forms.Goes.{Goes}
 use Rattle.flow_forms.specs.declared.forms.Goes.TheVariants.{On, Ends, Stops}
-use Rattle.flow_forms.specs.Usual.{Place, Resumed, Form, unnamed, Numbers, is_peer}
+use Rattle.flow_forms.specs.Usual.{Place, Resumed, Form, unnamed, is_peer}
 use Rattle.cash_flows.specs.declared.words.Code.{Code}
 use Rattle.cash_flows.specs.declared.options.PayOptions.{PayOptions}
 use Rattle.cash_flows.specs.declared.pay.Pay.{Pay}
@@ -112,5 +112,5 @@ place_number Reserving = 1
 place_number Paying = 2
 
 -- its places; the number behind theirs is that of Return
-abbrev pub numbers : Numbers PayPlace
-numbers = record { all = Reserving ∷ Paying ∷ []; number = place_number }
+abbrev pub places : List PayPlace
+places = Reserving ∷ Paying ∷ []

@@ -2,8 +2,8 @@
 
 ghost use Rattle.std.specs.Prelude.{◌≡◌, IfOk};
 ghost use Rattle.flow_machine.specs.Limits.{IsPlace};
-ghost use Rattle.cash_flows.specs.Pay.{is_in_range, fields_of, begins, reserves, pays, reserved, paid, moves, weight, form, pay, numbers};
-ghost use Rattle.cash_flows.specs.PayLaws.{kept, are_numbers, is_form, begins_within};
+ghost use Rattle.cash_flows.specs.Pay.{is_in_range, fields_of, begins, reserves, pays, reserved, paid, moves, weight, form, pay};
+ghost use Rattle.cash_flows.specs.PayLaws.{kept, numbers, is_form, begins_within};
 
 use crate::options::PayOptions;
 use crate::payment::payment;
@@ -131,8 +131,6 @@ impl Pay {
 
 impl Numbered for PayPlace {
     ghost numbers = { numbers };
-
-    ghost are_numbers = { are_numbers };
 
     fn number(self) -> u8 {
         match self {

@@ -30,7 +30,7 @@ use Rattle.flow_machine.specs.declared.acts.Resumed.TheVariants as resumed
 use Rattle.flow_forms.specs.declared.calls.Call.TheVariants as call
 use Rattle.flow_forms.specs.declared.forms.Goes.{Goes}
 use Rattle.flow_forms.specs.declared.forms.Goes.TheVariants.{On, Ends, Stops}
-use Rattle.flow_forms.specs.Usual.{Place, Resumed, Form, unnamed, Numbers, raised, tags_in}
+use Rattle.flow_forms.specs.Usual.{Place, Resumed, Form, unnamed, raised, tags_in}
 use Rattle.finality_flows.specs.declared.finality.Finality.{Finality}
 use Rattle.finality_flows.specs.declared.finality.FinalityPlace.{FinalityPlace}
 use Rattle.finality_flows.specs.declared.finality.FinalityPlace.TheVariants.{Verifying, Signing, OpeningSigner, ReceivingTags, Notarising, Recording, OpeningPeer, Serving, LookingUp, SendingTx}
@@ -259,5 +259,5 @@ place_number LookingUp = 9
 place_number SendingTx = 10
 
 -- its places; the number behind theirs is that of Return
-abbrev pub numbers : Numbers FinalityPlace
-numbers = record { all = Verifying ∷ Signing ∷ OpeningSigner ∷ ReceivingTags ∷ Notarising ∷ Recording ∷ OpeningPeer ∷ Serving ∷ LookingUp ∷ SendingTx ∷ []; number = place_number }
+abbrev pub places : List FinalityPlace
+places = Verifying ∷ Signing ∷ OpeningSigner ∷ ReceivingTags ∷ Notarising ∷ Recording ∷ OpeningPeer ∷ Serving ∷ LookingUp ∷ SendingTx ∷ []

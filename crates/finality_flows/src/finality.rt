@@ -3,8 +3,8 @@
 ghost use Rattle.std.specs.Prelude.{◌≡◌, IfOk};
 ghost use Rattle.flow_forms.specs.Calls.{call_weight};
 ghost use Rattle.flow_forms.specs.declared.calls.Call.TheVariants as call;
-ghost use Rattle.finality_flows.specs.Finality.{first, form, numbers};
-ghost use Rattle.finality_flows.specs.FinalityLaws.{kept, are_numbers, is_form};
+ghost use Rattle.finality_flows.specs.Finality.{first, form};
+ghost use Rattle.finality_flows.specs.FinalityLaws.{kept, numbers, is_form};
 
 use crate::steps::Moved;
 use flow_forms::{Fields, Machine, Numbered, copy_option};
@@ -92,8 +92,6 @@ impl Finality {
 
 impl Numbered for FinalityPlace {
     ghost numbers = { numbers };
-
-    ghost are_numbers = { are_numbers };
 
     fn number(self) -> u8 {
         self as u8

@@ -1,8 +1,8 @@
 -- The bytes of a machine's frames, of the frames of a sum, and of a frame behind its length.
 use Rattle.std.proofs.Common.{◌≡◌, ◌≤◌, ◌+◌, ℕ, arith, Bool, true, false, cond, List, [], ◌∷◌, ◌++◌, length, Option, Some, None, Result, Ok, Err, suc, refl, sym, ap, subst, ◌∙◌}
-use Rattle.std.specs.Prelude.{nat_eq, ◌==◌, ◌||◌, ◌&&◌, not, find, if◌then◌else◌}
+use Rattle.std.specs.Prelude.{nat_eq, nat_le, ◌==◌, ◌||◌, ◌&&◌, not, find, if◌then◌else◌}
 use Rattle.std.specs.List.{list_any}
-use Rattle.std.proofs.lemmas.Bool.{eqb-true, eq-eqb, and_parts}
+use Rattle.std.proofs.lemmas.Bool.{eqb-true, eq-eqb, leb-true, and_parts}
 use Rattle.std.proofs.lemmas.List.Folds.{list_any-append}
 use Rattle.net_base.specs.Forms.{◌>>=◌, byte_at}
 use Rattle.net_base.specs.Laws.{LawsIf, Laws, weaker, err_is}
@@ -22,11 +22,6 @@ under is one = record { takes = one.takes; again = one.again; faults = λ sure. 
 
 -- ---- the byte of a place
 
--- The places at which a machine asks, and the number of each.
-pub record Numbers (P : Type 0) : Type 0 where
-  pub all : List P
-  pub number : P → ℕ
-
 -- All places: those that ask, the number of each, that of Return, and whether a frame may be called.
 pub record Places (P : Type 0) : Type 0 where
   pub all : List P
@@ -34,9 +29,9 @@ pub record Places (P : Type 0) : Type 0 where
   pub last : ℕ
   pub callable : Bool
 
--- Return has the number behind the others.
-abbrev pub placed : {P : Type 0} → Bool → Numbers P → Places P
-placed callable numbers = record { all = numbers.all; number = numbers.number; last = length numbers.all + 1; callable = callable }
+-- Return has the number behind those of the places that ask
+abbrev pub places_of : {P : Type 0} → Bool → List P → (P → ℕ) → Places P
+places_of callable all number = record { all = all; number = number; last = length all + 1; callable = callable }
 
 -- 0 waits on Fail, the last number on Return, and 255 is called
 abbrev pub byte_of : {P : Type 0} → Places P → At P → ℕ
@@ -72,10 +67,20 @@ pub record ArePlaces {P : Type 0} (places : Places P) : Type 0 where
   pub asking : (p : P) → IsAt places (stands.Asking p)
   pub returning : IsAt places stands.Returning
 
--- What is asked of a machine's places: each is told by its number, whether a frame may be called or not, and all have numbers that are bytes.
-pub record AreNumbers {P : Type 0} (numbers : Numbers P) : Type 0 where
-  pub told : (callable : Bool) (p : P) → IsAt (placed callable numbers) (stands.Asking p)
-  pub few : length numbers.all ≤ 253
+-- The places at which a machine asks, and the number of each. Each is told by its number, whether a frame may be called or not, and there
+-- are so few that all numbers are bytes.
+pub record Numbers (P : Type 0) : Type 0 where
+  pub all : List P
+  pub number : P → ℕ
+  pub told : (callable : Bool) (p : P) → IsAt (places_of callable all number) (stands.Asking p)
+  pub few : nat_le (length all) 253 ≡ true
+
+-- with Return, Fail, and the place of a frame that is called
+abbrev pub placed : {P : Type 0} → Bool → Numbers P → Places P
+placed callable numbers = places_of callable numbers.all numbers.number
+
+pub few_places : {P : Type 0} (numbers : Numbers P) → length numbers.all ≤ 253
+few_places numbers = leb-true (length numbers.all) 253 numbers.few
 
 -- Return is told by its number
 not_zero : (n : ℕ) (b : Bool) → (n + 1 == 0) ≡ b → b ≡ false
@@ -87,11 +92,11 @@ second_of false true a b c first second = refl
 second_of true two a b c first second = absurd cc
 second_of false false a b c first second = absurd cc
 
-pub are_placed : {P : Type 0} (callable : Bool) (numbers : Numbers P) → AreNumbers numbers → ArePlaces (placed callable numbers)
-are_placed callable numbers are =
+pub are_placed : {P : Type 0} (callable : Bool) (numbers : Numbers P) → ArePlaces (placed callable numbers)
+are_placed callable numbers =
     let last = length numbers.all + 1 in
     record {
-      asking = are.told callable;
+      asking = numbers.told callable;
       returning = second_of (last == 0) (last == last) (Some stands.Failing) (Some stands.Returning) (if (last == 255) && callable then Some stands.Called else asking_of (find (λ p. numbers.number p == last) numbers.all)) (not_zero (length numbers.all) (last == 0) refl) (eq-eqb last last refl);
     }
 

@@ -4,7 +4,7 @@ ghost use Rattle.std.specs.Prelude.{◌≡◌, ℕ, IfOk};
 ghost use Rattle.flow_machine.specs.Limits.{IsResumed, IsPlace};
 ghost use Rattle.flow_forms.specs.Shared.{is_peer};
 ghost use Rattle.flow_forms.specs.Forms.{Form, IsForm, frame, started, next_at, weight_at};
-ghost use Rattle.flow_forms.specs.Bytes.{Numbers, AreNumbers};
+ghost use Rattle.flow_forms.specs.Bytes.{Numbers};
 
 use crate::calls::Call;
 use crate::fields::Fields;
@@ -14,7 +14,7 @@ use std::alloc::{AllocError, Global};
 
 /// The places at which a machine asks. Return has the number behind theirs.
 pub trait Numbered: Copy + Drop + 'static {
-    /// All of them, and the number of each.
+    /// All of them, and the number of each, by which it is told.
     ghost numbers: { Numbers Self };
 
     fn number(self) -> u8
@@ -22,9 +22,6 @@ pub trait Numbered: Copy + Drop + 'static {
 
     fn all() -> &'static [Self]
         ensures { result.now ≡ numbers.all };
-
-    /// Each place is told by its number.
-    ghost are_numbers: { AreNumbers numbers };
 }
 
 /// The fields of a machine, and how it goes on.

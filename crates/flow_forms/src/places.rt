@@ -10,6 +10,7 @@ use crate::machine::Numbered;
 use net_base::{PartFault, Reader, read_u8};
 
 /// The number of the place that waits on Return.
+#[tactic(auto, using(crate::specs::Bytes::few_places))]
 fn last<P: Numbered>() -> u8
     ensures { result ≡ length P.numbers.all + 1 }
 {

@@ -14,7 +14,7 @@ use Rattle.flow_machine.specs.declared.acts.Resumed.TheVariants as resumed
 use Rattle.flow_machine.specs.Tags.{answer_tags}
 use Rattle.flow_forms.specs.declared.forms.Goes.{Goes}
 use Rattle.flow_forms.specs.declared.forms.Goes.TheVariants.{On, Ends, Stops}
-use Rattle.flow_forms.specs.Usual.{Place, Resumed, Form, unnamed, Numbers, raised, tags_in}
+use Rattle.flow_forms.specs.Usual.{Place, Resumed, Form, unnamed, raised, tags_in}
 use Rattle.notary_flows.specs.declared.client.Client.{Client}
 use Rattle.notary_flows.specs.declared.client.ClientPlace.{ClientPlace}
 use Rattle.notary_flows.specs.declared.client.ClientPlace.TheVariants.{Opening, Receiving}
@@ -86,5 +86,5 @@ place_number Opening = 1
 place_number Receiving = 2
 
 -- its places; the number behind theirs is that of Return
-abbrev pub numbers : Numbers ClientPlace
-numbers = record { all = Opening ∷ Receiving ∷ []; number = place_number }
+abbrev pub places : List ClientPlace
+places = Opening ∷ Receiving ∷ []

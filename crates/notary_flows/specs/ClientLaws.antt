@@ -16,11 +16,11 @@ use Rattle.flow_forms.specs.declared.forms.At.TheVariants as stands
 use Rattle.flow_forms.specs.declared.forms.Goes.TheVariants.{Stops}
 use Rattle.flow_forms.specs.Shared.{stops_owes, first_passes, both_pass}
 use Rattle.flow_forms.specs.Sizes.{option_fits, key_fits}
-use Rattle.flow_forms.specs.Usual.{Place, Resumed, Owes, IsForm, AreNumbers, placed, IsAt, unnamed_owes, raised, tags_in, owes_if, Kept}
+use Rattle.flow_forms.specs.Usual.{Place, Resumed, Owes, IsForm, Numbers, places_of, IsAt, unnamed_owes, raised, tags_in, owes_if, Kept}
 use Rattle.notary_flows.specs.declared.client.Client.{Client}
 use Rattle.notary_flows.specs.declared.client.ClientPlace.{ClientPlace}
 use Rattle.notary_flows.specs.declared.client.ClientPlace.TheVariants.{Opening, Receiving}
-use Rattle.notary_flows.specs.Client.{opens, opened, answered, moves, weight, form, IsClient, client, client_of, client_at, numbers}
+use Rattle.notary_flows.specs.Client.{opens, opened, answered, moves, weight, form, IsClient, client, client_of, client_at, place_number, places}
 
 -- its fields' laws
 pub client_laws : Laws IsClient client client_at
@@ -28,12 +28,12 @@ unfolding client_at
 client_laws = iso_laws client_of (λ c. (c.request, (c.tries, (c.key, c.answer)))) (λ _. refl) (λ _. refl) (pair_laws request_laws (pair_laws byte_laws (pair_laws (option_laws key_laws) (option_laws notary_answer_laws))))
 
 -- its places' laws
-told : (callable : Bool) (p : ClientPlace) → IsAt (placed callable numbers) (stands.Asking p)
+pub told : (callable : Bool) (p : ClientPlace) → IsAt (places_of callable places place_number) (stands.Asking p)
 told callable Opening = refl
 told callable other = refl
 
-pub are_numbers : AreNumbers numbers
-are_numbers = record { told = told; few = omega arith }
+abbrev pub numbers : Numbers ClientPlace
+numbers = record { all = places; number = place_number; told = told; few = refl }
 
 -- its fields are short
 pub short : (c : Client) → IsClient c → length (client c) ≤ 32766

@@ -14,7 +14,7 @@ use Rattle.flow_machine.specs.declared.acts.Resumed.TheVariants as resumed
 use Rattle.flow_machine.specs.Tags.{answer_tags}
 use Rattle.flow_forms.specs.declared.forms.Goes.{Goes}
 use Rattle.flow_forms.specs.declared.forms.Goes.TheVariants.{On, Ends}
-use Rattle.flow_forms.specs.Usual.{Place, Resumed, Form, unnamed, Numbers, tags_in}
+use Rattle.flow_forms.specs.Usual.{Place, Resumed, Form, unnamed, tags_in}
 use Rattle.notary_flows.specs.declared.service.Service.{Service}
 use Rattle.notary_flows.specs.declared.service.ServicePlace.{ServicePlace}
 use Rattle.notary_flows.specs.declared.service.ServicePlace.TheVariants.{Receiving, Deciding, Answering}
@@ -89,5 +89,5 @@ place_number Deciding = 2
 place_number Answering = 3
 
 -- its places; the number behind theirs is that of Return
-abbrev pub numbers : Numbers ServicePlace
-numbers = record { all = Receiving ∷ Deciding ∷ Answering ∷ []; number = place_number }
+abbrev pub places : List ServicePlace
+places = Receiving ∷ Deciding ∷ Answering ∷ []

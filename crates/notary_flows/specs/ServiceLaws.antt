@@ -14,11 +14,11 @@ use Rattle.flow_machine.specs.Tags.{answer_tags}
 use Rattle.flow_forms.specs.declared.forms.At.TheVariants as stands
 use Rattle.flow_forms.specs.Ways.{AnswersWithin}
 use Rattle.flow_forms.specs.Sizes.{option_fits, key_fits}
-use Rattle.flow_forms.specs.Usual.{Place, Resumed, Owes, IsForm, AreNumbers, placed, IsAt, unnamed_owes, tags_in, joined_pass, parts_pass, Kept}
+use Rattle.flow_forms.specs.Usual.{Place, Resumed, Owes, IsForm, Numbers, places_of, IsAt, unnamed_owes, tags_in, joined_pass, parts_pass, Kept}
 use Rattle.notary_flows.specs.declared.service.Service.{Service}
 use Rattle.notary_flows.specs.declared.service.ServicePlace.{ServicePlace}
 use Rattle.notary_flows.specs.declared.service.ServicePlace.TheVariants.{Receiving, Deciding, Answering}
-use Rattle.notary_flows.specs.Service.{received, decided, sent, moves, weight, form, fresh, IsService, service, service_of, service_at, numbers}
+use Rattle.notary_flows.specs.Service.{received, decided, sent, moves, weight, form, fresh, IsService, service, service_of, service_at, place_number, places}
 
 -- its fields' laws
 pub service_laws : Laws IsService service service_at
@@ -26,12 +26,12 @@ unfolding service_at
 service_laws = iso_laws service_of (λ s. (s.key, (s.request, s.answer))) (λ _. refl) (λ _. refl) (pair_laws key_laws (pair_laws (option_laws request_laws) (option_laws notary_answer_laws)))
 
 -- its places' laws
-told : (callable : Bool) (p : ServicePlace) → IsAt (placed callable numbers) (stands.Asking p)
+pub told : (callable : Bool) (p : ServicePlace) → IsAt (places_of callable places place_number) (stands.Asking p)
 told callable Receiving = refl
 told callable other = refl
 
-pub are_numbers : AreNumbers numbers
-are_numbers = record { told = told; few = omega arith }
+abbrev pub numbers : Numbers ServicePlace
+numbers = record { all = places; number = place_number; told = told; few = refl }
 
 -- its fields are short
 pub short : (s : Service) → IsService s → length (service s) ≤ 32766

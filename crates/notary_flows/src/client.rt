@@ -3,8 +3,8 @@
 ghost use Rattle.std.specs.Prelude.{◌≡◌, IfOk};
 ghost use Rattle.flow_forms.specs.Calls.{call_weight};
 ghost use Rattle.flow_forms.specs.declared.calls.Call.TheVariants as call;
-ghost use Rattle.notary_flows.specs.Client.{fresh, opens, opened, tried, answered, form, numbers};
-ghost use Rattle.notary_flows.specs.ClientLaws.{kept, are_numbers, is_form};
+ghost use Rattle.notary_flows.specs.Client.{fresh, opens, opened, tried, answered, form};
+ghost use Rattle.notary_flows.specs.ClientLaws.{kept, numbers, is_form};
 
 use crate::NOTARY_CLASS;
 use flow_forms::{ByCall, Fields, Frame, Goes, Machine, Numbered, copy_option};
@@ -126,8 +126,6 @@ impl Client {
 
 impl Numbered for ClientPlace {
     ghost numbers = { numbers };
-
-    ghost are_numbers = { are_numbers };
 
     fn number(self) -> u8 {
         self as u8

@@ -1,8 +1,8 @@
 //! The notary service.
 
 ghost use Rattle.std.specs.Prelude.{◌≡◌, IfOk};
-ghost use Rattle.notary_flows.specs.Service.{begins, received, decided, sent, form, fresh, numbers};
-ghost use Rattle.notary_flows.specs.ServiceLaws.{kept, are_numbers, is_form, answers_within};
+ghost use Rattle.notary_flows.specs.Service.{begins, received, decided, sent, form, fresh};
+ghost use Rattle.notary_flows.specs.ServiceLaws.{kept, numbers, is_form, answers_within};
 
 use crate::NOTARY_CLASS;
 use flow_forms::{Answers, ByInit, Fields, Frame, Goes, Machine, Numbered, copy_option};
@@ -96,8 +96,6 @@ impl Service {
 
 impl Numbered for ServicePlace {
     ghost numbers = { numbers };
-
-    ghost are_numbers = { are_numbers };
 
     fn number(self) -> u8 {
         self as u8

@@ -18,7 +18,7 @@ use Rattle.flow_machine.specs.declared.acts.Act.TheVariants as act
 use Rattle.flow_machine.specs.declared.acts.Resumed.TheVariants as resumed
 use Rattle.flow_forms.specs.declared.forms.Goes.{Goes}
 use Rattle.flow_forms.specs.declared.forms.Goes.TheVariants.{On, Ends, Stops}
-use Rattle.flow_forms.specs.Usual.{Place, Resumed, Form, unnamed, Numbers, raised, tags_in}
+use Rattle.flow_forms.specs.Usual.{Place, Resumed, Form, unnamed, raised, tags_in}
 use Rattle.resolve_flows.specs.declared.resolve.Resolve.{Resolve}
 use Rattle.resolve_flows.specs.declared.resolve.ResolvePlace.{ResolvePlace}
 use Rattle.resolve_flows.specs.declared.resolve.ResolvePlace.TheVariants.{Listing, Asking, Receiving, Lacking, Recording, Ending}
@@ -161,5 +161,5 @@ place_number Recording = 5
 place_number Ending = 6
 
 -- its places; the number behind theirs is that of Return
-abbrev pub numbers : Numbers ResolvePlace
-numbers = record { all = Listing ∷ Asking ∷ Receiving ∷ Lacking ∷ Recording ∷ Ending ∷ []; number = place_number }
+abbrev pub places : List ResolvePlace
+places = Listing ∷ Asking ∷ Receiving ∷ Lacking ∷ Recording ∷ Ending ∷ []

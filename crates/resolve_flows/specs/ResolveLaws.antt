@@ -23,13 +23,13 @@ use Rattle.flow_machine.specs.Limits.{IsResumed}
 use Rattle.flow_forms.specs.declared.forms.At.TheVariants as stands
 use Rattle.flow_forms.specs.declared.forms.Goes.TheVariants.{Stops}
 use Rattle.flow_forms.specs.Shared.{stops_owes}
-use Rattle.flow_forms.specs.Usual.{Place, Resumed, Owes, IsForm, AreNumbers, placed, IsAt, unnamed_owes, raised, tags_in, owes_if, joined_pass, parts_pass, Kept}
+use Rattle.flow_forms.specs.Usual.{Place, Resumed, Owes, IsForm, Numbers, places_of, IsAt, unnamed_owes, raised, tags_in, owes_if, joined_pass, parts_pass, Kept}
 use Rattle.flow_forms.specs.Sizes.{option_fits, key_fits}
 use Rattle.resolve_flows.specs.declared.resolve.Resolve.{Resolve}
 use Rattle.resolve_flows.specs.declared.resolve.ResolvePlace.{ResolvePlace}
 use Rattle.resolve_flows.specs.declared.resolve.ResolvePlace.TheVariants.{Listing, Asking, Receiving, Lacking, Recording, Ending}
 use Rattle.resolve_flows.specs.Ids.{ids, ids_laws, ids_fit}
-use Rattle.resolve_flows.specs.Resolve.{last_of, asks_for, asks_next, records, listed, sent, has_id, takes, received, records_current, widened, widens, lacked, recorded, ended, moves, weight, tags, form, IsResolve, resolve, resolve_of, resolve_at, numbers}
+use Rattle.resolve_flows.specs.Resolve.{last_of, asks_for, asks_next, records, listed, sent, has_id, takes, received, records_current, widened, widens, lacked, recorded, ended, moves, weight, tags, form, IsResolve, resolve, resolve_of, resolve_at, place_number, places}
 
 -- its fields' laws
 pub resolve_laws : Laws IsResolve resolve resolve_at
@@ -37,12 +37,12 @@ unfolding resolve_at
 resolve_laws = iso_laws resolve_of (λ r. (r.key, (r.stx, (r.pending, (r.done, (r.asks, r.current)))))) (λ _. refl) (λ _. refl) (pair_laws key_laws (pair_laws signed_tx_laws (pair_laws ids_laws (pair_laws u16_laws (pair_laws u16_laws (option_laws signed_tx_laws))))))
 
 -- its places' laws
-told : (callable : Bool) (p : ResolvePlace) → IsAt (placed callable numbers) (stands.Asking p)
+pub told : (callable : Bool) (p : ResolvePlace) → IsAt (places_of callable places place_number) (stands.Asking p)
 told callable Listing = refl
 told callable other = refl
 
-pub are_numbers : AreNumbers numbers
-are_numbers = record { told = told; few = omega arith }
+abbrev pub numbers : Numbers ResolvePlace
+numbers = record { all = places; number = place_number; told = told; few = refl }
 
 -- its fields are short
 pub short : (r : Resolve) → IsResolve r → length (resolve r) ≤ 32766

@@ -6,8 +6,8 @@ ghost use Rattle.flow_machine.specs.declared.acts.Act.TheVariants as act;
 ghost use Rattle.flow_machine.specs.Limits.{IsResumed};
 ghost use Rattle.flow_forms.specs.Calls.{call_weight};
 ghost use Rattle.flow_forms.specs.declared.calls.Call.TheVariants as call;
-ghost use Rattle.resolve_flows.specs.Resolve.{fresh, last_of, takes, asks_for, asks_next, records, lists, listed, sent, has_id, received, records_current, widens, lacked, recorded, ended, goes_on, form, numbers};
-ghost use Rattle.resolve_flows.specs.ResolveLaws.{kept, are_numbers, is_form};
+ghost use Rattle.resolve_flows.specs.Resolve.{fresh, last_of, takes, asks_for, asks_next, records, lists, listed, sent, has_id, received, records_current, widens, lacked, recorded, ended, goes_on, form};
+ghost use Rattle.resolve_flows.specs.ResolveLaws.{kept, numbers, is_form};
 
 use crate::ids::{read_ids, widened, write_ids};
 use flow_forms::{ByCall, Call, Fields, Frame, Goes, Machine, Numbered, copy_option};
@@ -291,8 +291,6 @@ impl Resolve {
 
 impl Numbered for ResolvePlace {
     ghost numbers = { numbers };
-
-    ghost are_numbers = { are_numbers };
 
     fn number(self) -> u8 {
         self as u8

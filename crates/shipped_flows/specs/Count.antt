@@ -1,15 +1,16 @@
 -- The counting flow: class 1, `count K`, sleeps K times until moment 0, and returns K.
 use Rattle.std.specs.Prelude.{ℕ, ◌-◌, ◌+◌, ◌<◌, ◌^◌, ◌==◌, nat_le, [], ◌∷◌, Option, Some, None, if◌then◌else◌, max, false, ◌≤◌, refl}
-use Rattle.net_base.specs.Reading.{number}
 use Rattle.ledger_types.specs.declared.value.Value.TheVariants as value
 use Rattle.flow_machine.specs.declared.acts.Act.TheVariants as act
 use Rattle.flow_machine.specs.declared.acts.Resumed.TheVariants as resumed
+use Rattle.flow_forms.specs.declared.arguments.End.{End}
+use Rattle.flow_forms.specs.declared.arguments.Then.{Then}
+use Rattle.flow_forms.specs.declared.forms.Goes.{Goes}
 use Rattle.flow_forms.specs.declared.forms.Goes.TheVariants.{On, Ends}
-use Rattle.flow_forms.specs.Usual.{Place, Resumed, Form, unnamed, Numbers, Owes, IsForm, unnamed_owes, owes_if, End, Then, Goes, BeginsWithin, if_some, Kept, kept_as, before, u32_field, arith, subst}
+use Rattle.flow_forms.specs.Usual.{Place, Resumed, Form, unnamed, Numbers, Owes, IsForm, unnamed_owes, owes_if, BeginsWithin, if_some, Kept, kept_as, before, u32_field, arith, subst, eqb-false}
 use Rattle.shipped_flows.specs.declared.count.Count.{Count}
 use Rattle.shipped_flows.specs.declared.count.CountPlace.{CountPlace}
 use Rattle.shipped_flows.specs.declared.count.CountPlace.TheVariants.{Sleeping}
-use Rattle.std.proofs.lemmas.Bool.{eqb-false}
 
 -- ---- how it goes on
 
@@ -38,7 +39,7 @@ kept = kept_as (before u32_field u32_field) (λ p. record { left = p.0; all = p.
 
 -- its places: 1 Sleep, 2 Return
 abbrev pub numbers : Numbers CountPlace
-numbers = record { all = Sleeping ∷ []; number = λ p. 1 }
+numbers = record { all = Sleeping ∷ []; number = λ p. 1; told = λ callable. elim [ Sleeping ↦ refl ]; few = refl }
 
 -- ---- its laws
 

@@ -1,16 +1,14 @@
 -- The echo flow: it answers an Init of class 2, and sends each number that comes back, one higher, until the other side ends.
 use Rattle.std.specs.Prelude.{ℕ, ◌-◌, ◌+◌, ◌*◌, ◌^◌, nat_le, [], ◌∷◌, if◌then◌else◌, refl}
-use Rattle.net_base.specs.Reading.{number}
-use Rattle.net_base.specs.Names.{key}
 use Rattle.ledger_types.specs.declared.value.Value.TheVariants as value
 use Rattle.flow_machine.specs.declared.acts.Act.TheVariants as act
 use Rattle.flow_machine.specs.declared.acts.Resumed.TheVariants as resumed
+use Rattle.flow_forms.specs.declared.forms.Goes.{Goes}
 use Rattle.flow_forms.specs.declared.forms.Goes.TheVariants.{On, Ends, Stops}
-use Rattle.flow_forms.specs.Usual.{Place, Resumed, Form, unnamed, Numbers, raised, Owes, IsForm, unnamed_owes, owes_if, fails_owes, Goes, AnswersWithin, Kept, kept_as, before, u32_field, u64_field, key_field, Key, arith}
+use Rattle.flow_forms.specs.Usual.{Place, Resumed, Form, unnamed, Numbers, raised, Owes, IsForm, unnamed_owes, owes_if, fails_owes, AnswersWithin, Kept, kept_as, before, u32_field, u64_field, key_field, Key, arith, leb-true}
 use Rattle.shipped_flows.specs.declared.echo.Echo.{Echo}
 use Rattle.shipped_flows.specs.declared.echo.EchoPlace.{EchoPlace}
 use Rattle.shipped_flows.specs.declared.echo.EchoPlace.TheVariants.{Receiving, Sending}
-use Rattle.std.proofs.lemmas.Bool.{leb-true}
 
 -- ---- how it goes on
 
@@ -50,7 +48,7 @@ kept = kept_as (before key_field (before u64_field u32_field)) (λ p. record { k
 
 -- its places: 1 Receive, 2 Send, 3 Return
 abbrev pub numbers : Numbers EchoPlace
-numbers = record { all = Receiving ∷ Sending ∷ []; number = elim [ Receiving ↦ 1 | Sending ↦ 2 ] }
+numbers = record { all = Receiving ∷ Sending ∷ []; number = elim [ Receiving ↦ 1 | Sending ↦ 2 ]; told = λ callable. elim [ Receiving ↦ refl | Sending ↦ refl ]; few = refl }
 
 -- ---- its laws
 

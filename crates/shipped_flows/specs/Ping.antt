@@ -1,16 +1,16 @@
 -- The ping flow: class 2, `ping P K`, opens a session with P's echo, sends it each number that comes, and returns the K-th.
 use Rattle.std.specs.Prelude.{ℕ, ◌-◌, ◌+◌, ◌*◌, ◌<◌, ◌^◌, ◌==◌, ◌&&◌, nat_le, false, [], ◌∷◌, Option, Some, None, if◌then◌else◌, ◌≡◌, ◌≤◌, refl}
-use Rattle.net_base.specs.Reading.{number}
-use Rattle.net_base.specs.Names.{key}
 use Rattle.ledger_types.specs.declared.value.Value.TheVariants as value
 use Rattle.flow_machine.specs.declared.acts.Act.TheVariants as act
 use Rattle.flow_machine.specs.declared.acts.Resumed.TheVariants as resumed
+use Rattle.flow_forms.specs.declared.arguments.End.{End}
+use Rattle.flow_forms.specs.declared.arguments.Then.{Then}
+use Rattle.flow_forms.specs.declared.forms.Goes.{Goes}
 use Rattle.flow_forms.specs.declared.forms.Goes.TheVariants.{On, Ends}
-use Rattle.flow_forms.specs.Usual.{Place, Resumed, Form, unnamed, Numbers, needs, is_peer, Owes, IsForm, unnamed_owes, owes_if, needs_owes, there_within, Keeps, same, peer_is_party, End, Then, Goes, BeginsWithin, if_some, Kept, kept_as, before, option_field, u32_field, u64_field, party_field, key_field, IsKey, arith, subst}
+use Rattle.flow_forms.specs.Usual.{Place, Resumed, Form, unnamed, Numbers, needs, is_peer, Owes, IsForm, unnamed_owes, owes_if, needs_owes, there_within, Keeps, same, peer_is_party, BeginsWithin, if_some, Kept, kept_as, before, option_field, u32_field, u64_field, party_field, key_field, IsKey, arith, subst, eqb-false, and_parts}
 use Rattle.shipped_flows.specs.declared.ping.Ping.{Ping}
 use Rattle.shipped_flows.specs.declared.ping.PingPlace.{PingPlace}
 use Rattle.shipped_flows.specs.declared.ping.PingPlace.TheVariants.{Opening, Receiving, Sending}
-use Rattle.std.proofs.lemmas.Bool.{eqb-false, and_parts}
 
 -- ---- how it goes on
 
@@ -55,7 +55,7 @@ kept = kept_as (before party_field (before u32_field (before (option_field key_f
 
 -- its places: 1 Open, 2 Receive, 3 Send, 4 Return
 abbrev pub numbers : Numbers PingPlace
-numbers = record { all = Opening ∷ Receiving ∷ Sending ∷ []; number = elim [ Opening ↦ 1 | Receiving ↦ 2 | Sending ↦ 3 ] }
+numbers = record { all = Opening ∷ Receiving ∷ Sending ∷ []; number = elim [ Opening ↦ 1 | Receiving ↦ 2 | Sending ↦ 3 ]; told = λ callable. elim [ Opening ↦ refl | Receiving ↦ refl | Sending ↦ refl ]; few = refl }
 
 -- ---- its laws
 

@@ -1,12 +1,13 @@
 -- The probe flow: class 10, `probe P CLASS`, opens a session of the class with P, and returns once any value came.
 use Rattle.std.specs.Prelude.{ℕ, ◌+◌, ◌<◌, ◌^◌, [], ◌∷◌, Option, Some, None, if◌then◌else◌, refl}
-use Rattle.net_base.specs.Reading.{number}
-use Rattle.net_base.specs.Names.{key}
 use Rattle.ledger_types.specs.declared.value.Value.TheVariants as value
 use Rattle.flow_machine.specs.declared.acts.Act.TheVariants as act
 use Rattle.flow_machine.specs.declared.acts.Resumed.TheVariants as resumed
+use Rattle.flow_forms.specs.declared.arguments.End.{End}
+use Rattle.flow_forms.specs.declared.arguments.Then.{Then}
+use Rattle.flow_forms.specs.declared.forms.Goes.{Goes}
 use Rattle.flow_forms.specs.declared.forms.Goes.TheVariants.{On, Ends}
-use Rattle.flow_forms.specs.Usual.{Place, Resumed, Form, unnamed, Numbers, is_peer, load_of, Owes, IsForm, unnamed_owes, peer_is_party, End, Then, Goes, BeginsWithin, if_some, Kept, kept_as, before, option_field, u16_field, party_field, key_field, arith, subst}
+use Rattle.flow_forms.specs.Usual.{Place, Resumed, Form, unnamed, Numbers, is_peer, load_of, Owes, IsForm, unnamed_owes, peer_is_party, BeginsWithin, if_some, Kept, kept_as, before, option_field, u16_field, party_field, key_field, arith, subst}
 use Rattle.shipped_flows.specs.declared.probe.Probe.{Probe}
 use Rattle.shipped_flows.specs.declared.probe.ProbePlace.{ProbePlace}
 use Rattle.shipped_flows.specs.declared.probe.ProbePlace.TheVariants.{Opening, Receiving}
@@ -44,7 +45,7 @@ kept = kept_as (before party_field (before u16_field (option_field key_field))) 
 
 -- its places: 1 Open, 2 Receive, 3 Return
 abbrev pub numbers : Numbers ProbePlace
-numbers = record { all = Opening ∷ Receiving ∷ []; number = elim [ Opening ↦ 1 | Receiving ↦ 2 ] }
+numbers = record { all = Opening ∷ Receiving ∷ []; number = elim [ Opening ↦ 1 | Receiving ↦ 2 ]; told = λ callable. elim [ Opening ↦ refl | Receiving ↦ refl ]; few = refl }
 
 -- ---- its laws
 

@@ -43,8 +43,6 @@ impl Count {
 impl Numbered for CountPlace {
     ghost numbers = { numbers };
 
-    ghost are_numbers = { record { told = λ callable. elim [ Sleeping ↦ refl ]; few = omega arith } };
-
     fn number(self) -> u8 {
         self as u8
     }

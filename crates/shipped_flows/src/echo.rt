@@ -54,8 +54,6 @@ impl Echo {
 impl Numbered for EchoPlace {
     ghost numbers = { numbers };
 
-    ghost are_numbers = { record { told = λ callable. elim [ Receiving ↦ refl | Sending ↦ refl ]; few = omega arith } };
-
     fn number(self) -> u8 {
         self as u8
     }

@@ -62,8 +62,6 @@ impl Ping {
 impl Numbered for PingPlace {
     ghost numbers = { numbers };
 
-    ghost are_numbers = { record { told = λ callable. elim [ Opening ↦ refl | Receiving ↦ refl | Sending ↦ refl ]; few = omega arith } };
-
     fn number(self) -> u8 {
         self as u8
     }

@@ -32,8 +32,6 @@ type Moved = Result<Goes<ProbePlace, Probe>, AllocError>;
 impl Numbered for ProbePlace {
     ghost numbers = { numbers };
 
-    ghost are_numbers = { record { told = λ callable. elim [ Opening ↦ refl | Receiving ↦ refl ]; few = omega arith } };
-
     fn number(self) -> u8 {
         self as u8
     }
