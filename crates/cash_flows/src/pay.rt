@@ -11,9 +11,7 @@ use crate::words::Code;
 use flow_forms::{ByWords, Call, Fields, Frame, Goes, Machine, Numbered, Then, Worded, is_peer};
 use flow_machine::{Act, Place, Resumed};
 use ledger_types::{Held, Value, Window};
-use net_base::{
-    Boxed, Hash32, ListOf, PartFault, Party, Reader, Spelt, StateRef, Token, Writer,
-};
+use net_base::{Boxed, Hash32, ListOf, PartFault, Party, Reader, Spelt, StateRef, Token, Writer};
 use std::alloc::{AllocError, Global};
 
 /// The arguments of a payment, in the order of their words: the payee, the code, the issuer, the amount, and the options. A flow begins where the payee
