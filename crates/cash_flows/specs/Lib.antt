@@ -5,7 +5,6 @@ pub mod Payment
 pub mod Pay
 pub mod PayLaws
 pub mod PayWords
-pub mod Again
 pub mod Conserved
 pub mod Accepted
 pub mod Reserved

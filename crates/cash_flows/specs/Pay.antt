@@ -1,5 +1,5 @@
 -- The payment, class 4: it reserves coins, pays them to another node of the network by one transaction, and returns its id.
-use Rattle.std.specs.Prelude.{ℕ, ◌<◌, ◌^◌, ◌&&◌, nat_lt, List, [], ◌∷◌, ◌++◌, Bool, false, Option, Some, None, IfSome, Result, if◌then◌else◌}
+use Rattle.std.specs.Prelude.{ℕ, ◌<◌, ◌^◌, ◌&&◌, nat_lt, List, [], ◌∷◌, ◌++◌, Bool, Option, Some, None, IfSome, Result, if◌then◌else◌}
 use Rattle.std.specs.Int.{w64}
 use Rattle.net_base.specs.declared.names.StateRef.{StateRef}
 use Rattle.net_base.specs.declared.names.Token.{Token}
@@ -20,7 +20,7 @@ use Rattle.flow_forms.specs.declared.arguments.Then.{Then}
 use Rattle.flow_forms.specs.declared.calls.Call.TheVariants as call
 use Rattle.flow_forms.specs.declared.forms.Goes.{Goes}
 use Rattle.flow_forms.specs.declared.forms.Goes.TheVariants.{On, Ends, Stops}
-use Rattle.flow_forms.specs.Usual.{Place, Resumed, Form, unnamed, Places, is_peer}
+use Rattle.flow_forms.specs.Usual.{Place, Resumed, Form, unnamed, is_peer}
 use Rattle.cash_flows.specs.declared.words.Code.{Code}
 use Rattle.cash_flows.specs.declared.options.PayOptions.{PayOptions}
 use Rattle.cash_flows.specs.declared.pay.Pay.{Pay}
@@ -111,6 +111,6 @@ abbrev pub place_number : PayPlace → ℕ
 place_number Reserving = 1
 place_number Paying = 2
 
--- its places
-abbrev pub places : Places PayPlace
-places = record { all = Reserving ∷ Paying ∷ []; number = place_number; last = 3; callable = false }
+-- its places; the number behind theirs is that of Return
+abbrev pub places : List PayPlace
+places = Reserving ∷ Paying ∷ []

@@ -27,7 +27,7 @@ use Rattle.flow_machine.specs.Limits.{IsPlace}
 use Rattle.flow_forms.specs.declared.forms.At.TheVariants as stands
 use Rattle.flow_forms.specs.Shared.{stops_owes}
 use Rattle.flow_forms.specs.Sizes.{option_fits, hash_fits}
-use Rattle.flow_forms.specs.Usual.{Place, Resumed, Owes, IsForm, ArePlaces, IsAt, unnamed_owes, is_peer}
+use Rattle.flow_forms.specs.Usual.{Place, Resumed, Owes, IsForm, Numbers, places_of, IsAt, unnamed_owes, is_peer, Kept}
 use Rattle.flow_forms.specs.Ways.{BeginsWithin}
 use Rattle.cash_flows.specs.declared.pay.Pay.{Pay}
 use Rattle.cash_flows.specs.declared.pay.PayPlace.{PayPlace}
@@ -35,7 +35,7 @@ use Rattle.cash_flows.specs.declared.pay.PayPlace.TheVariants.{Reserving, Paying
 use Rattle.cash_flows.specs.Words.{IsCurrency}
 use Rattle.cash_flows.specs.Options.{ArePayOptions, window_fits, reference_fits}
 use Rattle.cash_flows.specs.Payment.{cash, worth, left_of, listed, payment}
-use Rattle.cash_flows.specs.Pay.{PayArgs, is_in_range, fields_of, begins, reserved, paid, moves, weight, form, IsPay, pay, pay_of, pay_at, places}
+use Rattle.cash_flows.specs.Pay.{PayArgs, is_in_range, fields_of, begins, reserved, paid, moves, weight, form, IsPay, pay, pay_of, pay_at, place_number, places}
 
 -- its fields' laws
 pub pay_laws : Laws IsPay pay pay_at
@@ -43,12 +43,12 @@ unfolding pay_at
 pay_laws = iso_laws pay_of (λ p. (p.to, (p.token, (p.amount, (p.window, (p.reference, p.id)))))) (λ _. refl) (λ _. refl) (pair_laws party_laws (pair_laws token_laws (pair_laws u64_laws (pair_laws (option_laws window_laws) (pair_laws (option_laws state_ref_laws) (option_laws hash_laws))))))
 
 -- its places' laws
-asking : (p : PayPlace) → IsAt places (stands.Asking p)
-asking Reserving = refl
-asking other = refl
+pub told : (callable : Bool) (p : PayPlace) → IsAt (places_of callable places place_number) (stands.Asking p)
+told callable Reserving = refl
+told callable other = refl
 
-pub are_places : ArePlaces places
-are_places = record { asking = asking; returning = refl }
+abbrev pub numbers : Numbers PayPlace
+numbers = record { all = places; number = place_number; told = told; few = refl }
 
 -- its fields have at most 102 bytes, so that a frame has at most 104
 pub few : (p : Pay) → IsPay p → length (pay p) ≤ 102
@@ -61,6 +61,10 @@ few p h =
 
 pub short : (p : Pay) → IsPay p → length (pay p) ≤ 32766
 short p h = omega (arith, few p h)
+
+-- what it keeps
+abbrev pub kept : Kept Pay
+kept = record { exact = Unit {0}; within = IsPay; spelling = pay; reading = pay_at; laws = pay_laws; short = short }
 
 -- ---- how it begins
 

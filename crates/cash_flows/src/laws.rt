@@ -3,14 +3,14 @@
 ghost use Rattle.std.specs.Prelude.{codes};
 ghost use Rattle.cash_flows.specs.Pay.{begins};
 ghost use Rattle.cash_flows.specs.PayWords.{args_of, args, args_at};
-ghost use Rattle.cash_flows.specs.Again.{BeginsByWords};
+ghost use Rattle.flow_forms.specs.Again.{BeginsByWords};
 ghost use Rattle.cash_flows.specs.Orders.{TakenInOrder};
 ghost use Rattle.cash_flows.specs.Conserved.{PaysInFull};
 ghost use Rattle.cash_flows.specs.Accepted.{AcceptedByCash};
 ghost use Rattle.cash_flows.specs.Reserved.{ReservedIsAccepted};
 
 use crate::pay::{Pay, PayPlace};
-use flow_forms::Worded;
+use flow_forms::begins_by_its_words;
 
 /// Words behind the amount are taken exactly where they are `from T`, `until T` and `using ID INDEX`, each there or not, in this order,
 /// and each can be read.
@@ -18,12 +18,8 @@ pub fn options_in_order()
     ensures { TakenInOrder }
 {}
 
-/// The bytes that the words of a class give begin a flow by the arguments of these words, where these are in range.
-pub fn begins_by_its_words<P, S: Worded<P>>()
-    ensures { BeginsByWords S.name S.CLASS S.Args.worded S.Args.spelling S.Args.reading S.begins }
-{}
-
-/// The same of the payment, whose words are `pay P CODE ISSUER AMOUNT` and the options.
+/// The bytes that the words of a payment, `pay P CODE ISSUER AMOUNT` and the options, give begin a flow by the arguments of these words,
+/// where these are in range.
 pub fn pay_begins_by_its_words()
     ensures { BeginsByWords (codes "pay") 4 args_of args args_at begins }
 {

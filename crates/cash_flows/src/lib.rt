@@ -11,8 +11,7 @@ mod payment;
 mod words;
 
 pub use laws::{
-    accepted_by_cash, begins_by_its_words, options_in_order, pay_begins_by_its_words, pays_in_full,
-    reserved_is_accepted,
+    accepted_by_cash, options_in_order, pay_begins_by_its_words, pays_in_full, reserved_is_accepted,
 };
 pub use options::PayOptions;
 pub use pay::{Pay, PayArgs, PayFrame, PayPlace};

@@ -11,7 +11,7 @@ use std::alloc::{AllocError, Global};
 
 /// The options of a payment, in the order of their words: `from T` and `until T`, the moments of its window in milliseconds, and `using ID INDEX`, a
 /// state that it refers to and leaves. Each may lack; without both moments there is no window.
-#[derive(Clone, Copy, Debug, PartialEq, Eq)]
+#[derive(Clone, Copy)]
 pub struct PayOptions {
     pub window: Option<Window>,
     pub reference: Option<StateRef>,

@@ -2,18 +2,16 @@
 
 ghost use Rattle.std.specs.Prelude.{◌≡◌, IfOk};
 ghost use Rattle.flow_machine.specs.Limits.{IsPlace};
-ghost use Rattle.cash_flows.specs.Pay.{is_in_range, fields_of, begins, reserves, pays, reserved, paid, moves, weight, form, IsPay, pay, pay_at, places};
-ghost use Rattle.cash_flows.specs.PayLaws.{pay_laws, are_places, short, is_form, begins_within};
+ghost use Rattle.cash_flows.specs.Pay.{is_in_range, fields_of, begins, reserves, pays, reserved, paid, moves, weight, form, pay};
+ghost use Rattle.cash_flows.specs.PayLaws.{kept, numbers, is_form, begins_within};
 
 use crate::options::PayOptions;
 use crate::payment::payment;
 use crate::words::Code;
-use flow_forms::{ByWords, Call, Frame, Goes, Machine, Numbered, Then, Worded, is_peer};
+use flow_forms::{ByWords, Call, Fields, Frame, Goes, Machine, Numbered, Then, Worded, is_peer};
 use flow_machine::{Act, Place, Resumed};
 use ledger_types::{Held, Value, Window};
-use net_base::{
-    Boxed, Hash32, ListOf, PartFault, Party, Reader, Spelt, StateRef, Token, TryCopy, Writer,
-};
+use net_base::{Boxed, Hash32, ListOf, PartFault, Party, Reader, Spelt, StateRef, Token, Writer};
 use std::alloc::{AllocError, Global};
 
 /// The arguments of a payment, in the order of their words: the payee, the code, the issuer, the amount, and the options. A flow begins where the payee
@@ -24,7 +22,7 @@ pub type PayArgs = Then<u8, Then<Code, Then<u8, Then<u64, PayOptions>>>>;
 pub type PayFrame = Frame<PayPlace, Pay, ByWords>;
 
 /// Where a payment waits.
-#[derive(Clone, Copy, Debug, PartialEq, Eq)]
+#[derive(Clone, Copy)]
 pub enum PayPlace {
     /// On the reservation of coins.
     Reserving,
@@ -34,7 +32,7 @@ pub enum PayPlace {
 
 /// The payment, class 4, `pay P CODE ISSUER AMOUNT` and options: it reserves coins of the token, pays the amount to another node of the
 /// network and the rest to this one, and returns the transaction's id. It fails with 47 where there are too few coins.
-#[derive(Clone, Copy, Debug, PartialEq, Eq)]
+#[derive(Clone, Copy)]
 pub struct Pay {
     /// The payee.
     pub to: Party,
@@ -130,9 +128,7 @@ impl Pay {
 }
 
 impl Numbered for PayPlace {
-    ghost places = { places };
-
-    ghost are_places = { are_places };
+    ghost numbers = { numbers };
 
     fn number(self) -> u8 {
         match self {
@@ -144,27 +140,13 @@ impl Numbered for PayPlace {
     fn all() -> &'static [PayPlace] {
         &[PayPlace::Reserving, PayPlace::Paying]
     }
-
-    fn last() -> u8 {
-        3
-    }
-
-    fn callable() -> bool {
-        false
-    }
 }
 
 #[tactic(auto, unfolding(crate::specs::Pay::pay_at))]
-impl Spelt for Pay {
-    ghost spelling = { pay };
+impl Fields for Pay {
+    ghost kept = { kept };
 
-    ghost within = { IsPay };
-
-    ghost reading = { pay_at };
-
-    ghost laws = { pay_laws };
-
-    fn read_part(alloc: Global, from: &mut Reader) -> Result<Pay, PartFault> {
+    fn read_fields(alloc: Global, from: &mut Reader) -> Result<Pay, PartFault> {
         Ok(Pay {
             to: Spelt::read_part(alloc, from)?,
             token: Spelt::read_part(alloc, from)?,
@@ -175,7 +157,7 @@ impl Spelt for Pay {
         })
     }
 
-    fn write_part(&self, alloc: Global, out: &mut Writer) -> Result<(), AllocError> {
+    fn write_fields(&self, alloc: Global, out: &mut Writer) -> Result<(), AllocError> {
         self.to.write_part(alloc, out)?;
         self.token.write_part(alloc, out)?;
         self.amount.write_part(alloc, out)?;
@@ -184,10 +166,8 @@ impl Spelt for Pay {
         self.id.write_part(alloc, out)?;
         Ok(())
     }
-}
 
-impl TryCopy for Pay {
-    fn try_copy(&self, _alloc: Global) -> Result<Pay, AllocError> {
+    fn copy_fields(&self, _alloc: Global) -> Result<Pay, AllocError> {
         Ok(*self)
     }
 }
@@ -198,8 +178,6 @@ impl Machine<PayPlace> for Pay {
     ghost MACHINE = { 4 };
 
     ghost is_form = { is_form };
-
-    ghost short = { short };
 
     const MACHINE: u8 = 4;
 

@@ -11,7 +11,7 @@ use net_base::{Hash32, Moment, PartFault, Reader, Spelt, StateRef, Writer, read_
 use std::alloc::{AllocError, Global};
 
 /// A currency code: three letters A to Z.
-#[derive(Clone, Copy, Debug, PartialEq, Eq)]
+#[derive(Clone, Copy)]
 pub struct Code(pub [u8; 3]);
 
 fn is_letter(b: u8) -> bool

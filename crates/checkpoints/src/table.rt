@@ -11,7 +11,7 @@ use std::alloc::{AllocError, Global};
 use std::marker::Model;
 
 /// A flow of a table, lent.
-#[derive(Debug, Drop)]
+#[derive(Drop)]
 pub enum FlowView<'a, F> {
     Live(&'a Checkpoint<F>),
     Ended {
@@ -27,7 +27,7 @@ pub enum FlowView<'a, F> {
 }
 
 /// The live, ended and failed flows of a node, by number, counted from 0. Contracts see them in order, and the room for more.
-#[derive(Debug, Drop)]
+#[derive(Drop)]
 pub struct Flows<F> {
     states: Vec<FlowState<F>>,
     // the numbers of the live ones, ascending

@@ -1,5 +1,5 @@
 -- Finality: the transaction is judged, signed by all who have to sign it, notarised, recorded, and shown to the peers.
-use Rattle.std.specs.Prelude.{ℕ, ◌+◌, ◌*◌, ◌-◌, ◌<◌, ◌==◌, ◌&&◌, ◌^◌, List, [], ◌∷◌, ◌++◌, length, filter, find, slice_get, Bool, true, false, not, Option, Some, None, Result, IfSome, nat_lt, nat_le, if◌then◌else◌}
+use Rattle.std.specs.Prelude.{ℕ, ◌+◌, ◌*◌, ◌-◌, ◌<◌, ◌==◌, ◌&&◌, ◌^◌, List, [], ◌∷◌, ◌++◌, length, filter, find, slice_get, Bool, false, not, Option, Some, None, Result, IfSome, nat_lt, nat_le, if◌then◌else◌}
 use Rattle.std.specs.Int.{w16}
 use Rattle.std.specs.List.{range_with_len}
 use Rattle.net_base.specs.declared.names.Key.{Key}
@@ -30,7 +30,7 @@ use Rattle.flow_machine.specs.declared.acts.Resumed.TheVariants as resumed
 use Rattle.flow_forms.specs.declared.calls.Call.TheVariants as call
 use Rattle.flow_forms.specs.declared.forms.Goes.{Goes}
 use Rattle.flow_forms.specs.declared.forms.Goes.TheVariants.{On, Ends, Stops}
-use Rattle.flow_forms.specs.Usual.{Place, Resumed, Form, unnamed, Places, raised, tags_in}
+use Rattle.flow_forms.specs.Usual.{Place, Resumed, Form, unnamed, raised, tags_in}
 use Rattle.finality_flows.specs.declared.finality.Finality.{Finality}
 use Rattle.finality_flows.specs.declared.finality.FinalityPlace.{FinalityPlace}
 use Rattle.finality_flows.specs.declared.finality.FinalityPlace.TheVariants.{Verifying, Signing, OpeningSigner, ReceivingTags, Notarising, Recording, OpeningPeer, Serving, LookingUp, SendingTx}
@@ -258,6 +258,6 @@ place_number Serving = 8
 place_number LookingUp = 9
 place_number SendingTx = 10
 
--- its places: 11 waits on Return, and a frame may be called
-abbrev pub places : Places FinalityPlace
-places = record { all = Verifying ∷ Signing ∷ OpeningSigner ∷ ReceivingTags ∷ Notarising ∷ Recording ∷ OpeningPeer ∷ Serving ∷ LookingUp ∷ SendingTx ∷ []; number = place_number; last = 11; callable = true }
+-- its places; the number behind theirs is that of Return
+abbrev pub places : List FinalityPlace
+places = Verifying ∷ Signing ∷ OpeningSigner ∷ ReceivingTags ∷ Notarising ∷ Recording ∷ OpeningPeer ∷ Serving ∷ LookingUp ∷ SendingTx ∷ []

@@ -43,12 +43,12 @@ use Rattle.flow_forms.specs.declared.forms.Goes.TheVariants.{On, Stops}
 use Rattle.flow_forms.specs.Calls.{IsCall, call_weight}
 use Rattle.flow_forms.specs.Shared.{Keeps, same, fails_owes}
 use Rattle.flow_forms.specs.Sizes.{option_fits, list_fits, key_fits}
-use Rattle.flow_forms.specs.Usual.{Place, Resumed, Owes, IsForm, unnamed_owes, ArePlaces, IsAt, raised, tags_in, owes_if, joined_pass, parts_pass}
+use Rattle.flow_forms.specs.Usual.{Place, Resumed, Owes, IsForm, unnamed_owes, Numbers, places_of, IsAt, raised, tags_in, owes_if, joined_pass, parts_pass, Kept}
 use Rattle.finality_flows.specs.declared.finality.Finality.{Finality}
 use Rattle.finality_flows.specs.declared.finality.FinalityPlace.{FinalityPlace}
 use Rattle.finality_flows.specs.declared.finality.FinalityPlace.TheVariants.{Verifying, Signing, OpeningSigner, ReceivingTags, Notarising, Recording, OpeningPeer, Serving, LookingUp, SendingTx}
 use Rattle.finality_flows.specs.Tagging.{with_tag, with_within, with_passes, range_below, needed_few}
-use Rattle.finality_flows.specs.Finality.{first, tagged, is_neither, others, records, asks_notary_with, notarises, asks_signer, signs_on, verified, signed, signer_opened, is_asked_for, collected, answered, notarised, peer_at, tells_peer, recorded, serves, peer_opened, looks_up, served, sends, looked_up, sent, moves, serving, signing, weight, tags, form, IsFinality, finality, finality_of, finality_at, places}
+use Rattle.finality_flows.specs.Finality.{first, tagged, is_neither, others, records, asks_notary_with, notarises, asks_signer, signs_on, verified, signed, signer_opened, is_asked_for, collected, answered, notarised, peer_at, tells_peer, recorded, serves, peer_opened, looks_up, served, sends, looked_up, sent, moves, serving, signing, weight, tags, form, IsFinality, finality, finality_of, finality_at, place_number, places}
 
 -- its fields' laws
 pub finality_laws : Laws IsFinality finality finality_at
@@ -56,12 +56,12 @@ unfolding finality_at
 finality_laws = iso_laws finality_of (λ f. (f.stx, (f.peers, (f.asked, (f.told, (f.served, (f.key, f.fetched))))))) (λ _. refl) (λ _. refl) (pair_laws signed_tx_laws (pair_laws (list8_laws 255 party_laws) (pair_laws byte_laws (pair_laws byte_laws (pair_laws u16_laws (pair_laws (option_laws key_laws) (option_laws signed_tx_laws)))))))
 
 -- its places' laws
-asking : (p : FinalityPlace) → IsAt places (stands.Asking p)
-asking Verifying = refl
-asking other = refl
+pub told : (callable : Bool) (p : FinalityPlace) → IsAt (places_of callable places place_number) (stands.Asking p)
+told callable Verifying = refl
+told callable other = refl
 
-pub are_places : ArePlaces places
-are_places = record { asking = asking; returning = refl }
+abbrev pub numbers : Numbers FinalityPlace
+numbers = record { all = places; number = place_number; told = told; few = refl }
 
 -- its fields are short
 pub short : (f : Finality) → IsFinality f → length (finality f) ≤ 32766
@@ -72,6 +72,10 @@ short f h =
     let peers = joined (list8 party f.peers) (f.asked ∷ f.told ∷ (number w16 f.served ++ (option_of key f.key ++ option_of signed_tx f.fetched))) 256 6070 (list_fits IsParty party 1 255 (λ p is. omega arith) f.peers h.1.0) (omega (arith, counts)) in
     let all = joined (signed_tx f.stx) (list8 party f.peers ++ (f.asked ∷ f.told ∷ (number w16 f.served ++ (option_of key f.key ++ option_of signed_tx f.fetched)))) 6059 6326 (signed_fits f.stx h.0) peers in
     omega (arith, all)
+
+-- what it keeps
+abbrev pub kept : Kept Finality
+kept = record { exact = Unit {0}; within = IsFinality; spelling = finality; reading = finality_at; laws = finality_laws; short = short }
 
 -- ---- the tear-off, and who signs
 

@@ -3,11 +3,11 @@
 ghost use Rattle.std.specs.Prelude.{◌≡◌, IfOk};
 ghost use Rattle.flow_forms.specs.Calls.{call_weight};
 ghost use Rattle.flow_forms.specs.declared.calls.Call.TheVariants as call;
-ghost use Rattle.finality_flows.specs.Finality.{first, form, IsFinality, finality, finality_at, places};
-ghost use Rattle.finality_flows.specs.FinalityLaws.{finality_laws, are_places, short, is_form};
+ghost use Rattle.finality_flows.specs.Finality.{first, form};
+ghost use Rattle.finality_flows.specs.FinalityLaws.{kept, numbers, is_form};
 
 use crate::steps::Moved;
-use flow_forms::{Machine, Numbered, copy_option};
+use flow_forms::{Fields, Machine, Numbered, copy_option};
 use flow_machine::{Place, Resumed};
 use ledger_types::{SignedTx, Tx};
 use net_base::{
@@ -16,7 +16,7 @@ use net_base::{
 use std::alloc::{AllocError, Global};
 
 /// Where a finality frame waits. The places have the numbers 1 to 10 in this order, and 11 is the one that returns the id.
-#[derive(Clone, Copy, Debug, PartialEq, Eq)]
+#[derive(Clone, Copy)]
 pub enum FinalityPlace {
     /// On the verdict.
     Verifying = 1,
@@ -47,7 +47,7 @@ pub enum FinalityPlace {
 /// It fails with 31 to 33 where the transaction is not accepted, 35 where a peer asks for what is not recorded here, 41 to 45 where the
 /// notary refuses, 50 to 52 where a session goes wrong, 62 at the 513th request, by the reason of an act that was refused, and else 54.
 /// What was recorded stays recorded then.
-#[derive(Debug, Drop)]
+#[derive(Drop)]
 pub struct Finality {
     /// The transaction with the tags so far.
     pub stx: Boxed<SignedTx>,
@@ -91,9 +91,7 @@ impl Finality {
 }
 
 impl Numbered for FinalityPlace {
-    ghost places = { places };
-
-    ghost are_places = { are_places };
+    ghost numbers = { numbers };
 
     fn number(self) -> u8 {
         self as u8
@@ -113,27 +111,13 @@ impl Numbered for FinalityPlace {
             FinalityPlace::SendingTx,
         ]
     }
-
-    fn last() -> u8 {
-        11
-    }
-
-    fn callable() -> bool {
-        true
-    }
 }
 
 #[tactic(auto, unfolding(crate::specs::Finality::finality_at))]
-impl Spelt for Finality {
-    ghost spelling = { finality };
+impl Fields for Finality {
+    ghost kept = { kept };
 
-    ghost within = { IsFinality };
-
-    ghost reading = { finality_at };
-
-    ghost laws = { finality_laws };
-
-    fn read_part(alloc: Global, from: &mut Reader) -> Result<Finality, PartFault> {
+    fn read_fields(alloc: Global, from: &mut Reader) -> Result<Finality, PartFault> {
         Ok(Finality {
             stx: Spelt::read_part(alloc, from)?,
             peers: read_list(alloc, from, 255)?,
@@ -145,7 +129,7 @@ impl Spelt for Finality {
         })
     }
 
-    fn write_part(&self, alloc: Global, out: &mut Writer) -> Result<(), AllocError> {
+    fn write_fields(&self, alloc: Global, out: &mut Writer) -> Result<(), AllocError> {
         self.stx.write_part(alloc, out)?;
         write_list(alloc, &self.peers, out)?;
         self.asked.write_part(alloc, out)?;
@@ -155,10 +139,8 @@ impl Spelt for Finality {
         self.fetched.write_part(alloc, out)?;
         Ok(())
     }
-}
 
-impl TryCopy for Finality {
-    fn try_copy(&self, alloc: Global) -> Result<Finality, AllocError> {
+    fn copy_fields(&self, alloc: Global) -> Result<Finality, AllocError> {
         Ok(Finality {
             stx: self.stx.try_copy(alloc)?,
             peers: self.peers.copy(alloc)?,
@@ -177,8 +159,6 @@ impl Machine<FinalityPlace> for Finality {
     ghost MACHINE = { 30 };
 
     ghost is_form = { is_form };
-
-    ghost short = { short };
 
     const MACHINE: u8 = 30;
 

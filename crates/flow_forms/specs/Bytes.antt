@@ -1,8 +1,8 @@
 -- The bytes of a machine's frames, of the frames of a sum, and of a frame behind its length.
-use Rattle.std.proofs.Common.{◌≡◌, ℕ, Bool, true, false, cond, List, [], ◌∷◌, ◌++◌, length, Option, Some, None, Result, Ok, Err, suc, refl, sym, ap, subst, ◌∙◌}
-use Rattle.std.specs.Prelude.{nat_eq, ◌==◌, ◌||◌, ◌&&◌, not, find, if◌then◌else◌}
+use Rattle.std.proofs.Common.{◌≡◌, ◌≤◌, ◌+◌, ℕ, arith, Bool, true, false, cond, List, [], ◌∷◌, ◌++◌, length, Option, Some, None, Result, Ok, Err, suc, refl, sym, ap, subst, ◌∙◌}
+use Rattle.std.specs.Prelude.{nat_eq, nat_le, ◌==◌, ◌||◌, ◌&&◌, not, find, if◌then◌else◌}
 use Rattle.std.specs.List.{list_any}
-use Rattle.std.proofs.lemmas.Bool.{eqb-true, and_parts}
+use Rattle.std.proofs.lemmas.Bool.{eqb-true, eq-eqb, leb-true, and_parts}
 use Rattle.std.proofs.lemmas.List.Folds.{list_any-append}
 use Rattle.net_base.specs.Forms.{◌>>=◌, byte_at}
 use Rattle.net_base.specs.Laws.{LawsIf, Laws, weaker, err_is}
@@ -22,12 +22,16 @@ under is one = record { takes = one.takes; again = one.again; faults = λ sure. 
 
 -- ---- the byte of a place
 
--- The places of a machine: all of them, the number of each, that of Return, and whether a frame may be called.
+-- All places: those that ask, the number of each, that of Return, and whether a frame may be called.
 pub record Places (P : Type 0) : Type 0 where
   pub all : List P
   pub number : P → ℕ
   pub last : ℕ
   pub callable : Bool
+
+-- Return has the number behind those of the places that ask
+abbrev pub places_of : {P : Type 0} → Bool → List P → (P → ℕ) → Places P
+places_of callable all number = record { all = all; number = number; last = length all + 1; callable = callable }
 
 -- 0 waits on Fail, the last number on Return, and 255 is called
 abbrev pub byte_of : {P : Type 0} → Places P → At P → ℕ
@@ -43,7 +47,7 @@ asking_of (Some p) = Some (stands.Asking p)
 
 -- where a frame of a byte stands
 abbrev pub standing : {P : Type 0} → Places P → ℕ → Option (At P)
-standing places n = if n == 0 then Some stands.Failing else if n == places.last then Some stands.Returning else if places.callable && (n == 255) then Some stands.Called else asking_of (find (λ p. places.number p == n) places.all)
+standing places n = if n == 0 then Some stands.Failing else if n == places.last then Some stands.Returning else if (n == 255) && places.callable then Some stands.Called else asking_of (find (λ p. places.number p == n) places.all)
 
 -- where a frame may stand, told by its byte
 abbrev pub IsAt : {P : Type 0} → Places P → At P → Type 0
@@ -63,6 +67,39 @@ pub record ArePlaces {P : Type 0} (places : Places P) : Type 0 where
   pub asking : (p : P) → IsAt places (stands.Asking p)
   pub returning : IsAt places stands.Returning
 
+-- The places at which a machine asks, and the number of each. Each is told by its number, whether a frame may be called or not, and there
+-- are so few that all numbers are bytes.
+pub record Numbers (P : Type 0) : Type 0 where
+  pub all : List P
+  pub number : P → ℕ
+  pub told : (callable : Bool) (p : P) → IsAt (places_of callable all number) (stands.Asking p)
+  pub few : nat_le (length all) 253 ≡ true
+
+-- with Return, Fail, and the place of a frame that is called
+abbrev pub placed : {P : Type 0} → Bool → Numbers P → Places P
+placed callable numbers = places_of callable numbers.all numbers.number
+
+pub few_places : {P : Type 0} (numbers : Numbers P) → length numbers.all ≤ 253
+few_places numbers = leb-true (length numbers.all) 253 numbers.few
+
+-- Return is told by its number
+not_zero : (n : ℕ) (b : Bool) → (n + 1 == 0) ≡ b → b ≡ false
+not_zero n false e = refl
+not_zero n true e = absurd (omega (arith, eqb-true (n + 1) 0 e))
+
+second_of : {A : Type 0} (one two : Bool) (a b c : A) → one ≡ false → two ≡ true → (if one then a else if two then b else c) ≡ b
+second_of false true a b c first second = refl
+second_of true two a b c first second = absurd cc
+second_of false false a b c first second = absurd cc
+
+pub are_placed : {P : Type 0} (callable : Bool) (numbers : Numbers P) → ArePlaces (placed callable numbers)
+are_placed callable numbers =
+    let last = length numbers.all + 1 in
+    record {
+      asking = numbers.told callable;
+      returning = second_of (last == 0) (last == last) (Some stands.Failing) (Some stands.Returning) (if (last == 255) && callable then Some stands.Called else asking_of (find (λ p. numbers.number p == last) numbers.all)) (not_zero (length numbers.all) (last == 0) refl) (eq-eqb last last refl);
+    }
+
 -- a place is found by its number
 asking_byte : {P : Type 0} (places : Places P) (n : ℕ) (o : Option P) (a : At P) → find (λ p. places.number p == n) places.all ≡ o → asking_of o ≡ Some a → byte_of places a ≡ n
 asking_byte places n None a is e = absurd cc
@@ -71,16 +108,16 @@ asking_byte places n (Some p) a is e =
     subst (λ b. byte_of places b ≡ n) same (eqb-true (places.number p) n (find_test (λ q. places.number q == n) places.all p is))
 
 -- by the four tests
-byte_by : {P : Type 0} (places : Places P) (n : ℕ) (a : At P) (first last called : Bool) → (n == 0) ≡ first → (n == places.last) ≡ last → (places.callable && (n == 255)) ≡ called
+byte_by : {P : Type 0} (places : Places P) (n : ℕ) (a : At P) (first last called : Bool) → (n == 0) ≡ first → (n == places.last) ≡ last → ((n == 255) && places.callable) ≡ called
     → (if first then Some stands.Failing else if last then Some stands.Returning else if called then Some stands.Called else asking_of (find (λ p. places.number p == n) places.all)) ≡ Some a → byte_of places a ≡ n
 byte_by places n a true last called h0 h1 h2 e = let same : stands.Failing ≡ a = cc in subst (λ b. byte_of places b ≡ n) same (sym (eqb-true n 0 h0))
 byte_by places n a false true called h0 h1 h2 e = let same : stands.Returning ≡ a = cc in subst (λ b. byte_of places b ≡ n) same (sym (eqb-true n places.last h1))
-byte_by places n a false false true h0 h1 h2 e = let same : stands.Called ≡ a = cc in subst (λ b. byte_of places b ≡ n) same (sym (eqb-true n 255 (and_parts places.callable (n == 255) h2).1))
+byte_by places n a false false true h0 h1 h2 e = let same : stands.Called ≡ a = cc in subst (λ b. byte_of places b ≡ n) same (sym (eqb-true n 255 (and_parts (n == 255) places.callable h2).0))
 byte_by places n a false false false h0 h1 h2 e = asking_byte places n (find (λ p. places.number p == n) places.all) a refl e
 
 -- what a byte tells has this byte
 standing_byte : {P : Type 0} (places : Places P) (n : ℕ) (a : At P) → standing places n ≡ Some a → byte_of places a ≡ n
-standing_byte places n a e = byte_by places n a (n == 0) (n == places.last) (places.callable && (n == 255)) refl refl refl e
+standing_byte places n a e = byte_by places n a (n == 0) (n == places.last) ((n == 255) && places.callable) refl refl refl e
 
 -- what was found
 found_ok : {A : Type 0} (o : Option A) (rest : List ℕ) (left : ℕ) (x : A × List ℕ) → found_at o rest left ≡ Ok x → (o ≡ Some x.0) × (rest ≡ x.1)

@@ -10,5 +10,7 @@ pub mod Closing
 pub mod Shared
 pub mod Sizes
 pub mod Arguments
+pub mod Kept
+pub mod Again
 pub mod Ways
 pub mod Usual

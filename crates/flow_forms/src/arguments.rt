@@ -53,11 +53,11 @@ pub trait Arguments: Spelt {
 }
 
 /// No further argument.
-#[derive(Clone, Copy, Debug, PartialEq, Eq)]
+#[derive(Clone, Copy)]
 pub struct End;
 
 /// An argument, and those behind it.
-#[derive(Clone, Copy, Debug, PartialEq, Eq, Drop)]
+#[derive(Clone, Copy, Drop)]
 pub struct Then<A, B> {
     pub first: A,
     pub rest: B,

@@ -11,8 +11,17 @@ use flow_machine::{MakeFault, Place, WordFault};
 use net_base::{ByteList, Key, Spelt, Writer};
 use std::alloc::{AllocError, Global};
 
+/// Whether a frame may be called.
+pub trait Callable: Sized {
+    ghost use Rattle.std.specs.Prelude.{Bool};
+
+    ghost CALLABLE: { Bool };
+
+    const CALLABLE: bool;
+}
+
 /// How flows of a machine with these places and fields begin.
-pub trait Begins<P, S: Machine<P>>: Sized {
+pub trait Begins<P, S: Machine<P>>: Callable {
     /// Its words and classes.
     ghost way: { Way S };
 
@@ -37,7 +46,7 @@ pub trait Begins<P, S: Machine<P>>: Sized {
         ensures { result ≡ way.begun class key.now };
 
     /// Its flows begin well.
-    ghost is_way: { IsWay S.within S.form way };
+    ghost is_way: { IsWay S.kept.within S.form way };
 }
 
 /// A machine of a class that a script starts.
@@ -73,7 +82,7 @@ pub trait Worded<P>: Machine<P> {
     ghost args_fit: { Self.Args.most ≤ 65535 };
 
     /// Arguments within their limits give fields within theirs, and these have no tag.
-    ghost begins_within: { BeginsWithin Self.Args.within Self.within Self.form.tags begins };
+    ghost begins_within: { BeginsWithin Self.Args.within Self.kept.within Self.form.tags begins };
 }
 
 /// A machine that answers an Init of a class.
@@ -94,19 +103,19 @@ pub trait Answers<P>: Machine<P> {
         ensures { result ≡ answers key.now };
 
     /// They are within their limits and have no tag, and the flow causes no more than an Init of the class may.
-    ghost answers_within: { AnswersWithin Self.within Self.form ANSWERED answers };
+    ghost answers_within: { AnswersWithin Self.kept.within Self.form ANSWERED answers };
 }
 
 /// Flows of the machine begin by words.
-#[derive(Clone, Copy, Debug)]
+#[derive(Clone, Copy)]
 pub struct ByWords;
 
 /// Flows of the machine begin by an Init.
-#[derive(Clone, Copy, Debug)]
+#[derive(Clone, Copy)]
 pub struct ByInit;
 
 /// Flows of the machine begin by a call alone.
-#[derive(Clone, Copy, Debug)]
+#[derive(Clone, Copy)]
 pub struct ByCall;
 
 /// The class and the bytes of arguments.
@@ -119,12 +128,20 @@ fn class_and<A: Spelt>(alloc: Global, class: u16, args: &A) -> Result<(u16, Byte
     Ok((class, out.into_bytes()))
 }
 
+impl Callable for ByWords {
+    ghost use Rattle.std.specs.Prelude.{false};
+
+    ghost CALLABLE = { false };
+
+    const CALLABLE: bool = false;
+}
+
 impl<P, S: Worded<P>> Begins<P, S> for ByWords {
     ghost use Rattle.flow_forms.specs.Ways.{by_words, by_words_laws};
 
     ghost way = { by_words S.name S.CLASS S.Args.worded S.Args.spelling S.Args.reading S.begins };
 
-    ghost is_way = { by_words_laws S.within S.form S.name S.CLASS S.Args.most S.Args.worded S.Args.spelling S.Args.reading S.begins S.Args.laws S.Args.worded_within S.Args.few S.args_fit S.begins_within };
+    ghost is_way = { by_words_laws S.kept.within S.form S.name S.CLASS S.Args.most S.Args.worded S.Args.spelling S.Args.reading S.begins S.Args.laws S.Args.worded_within S.Args.few S.args_fit S.begins_within };
 
     fn read_words(
         alloc: Global,
@@ -156,12 +173,20 @@ impl<P, S: Worded<P>> Begins<P, S> for ByWords {
     }
 }
 
+impl Callable for ByInit {
+    ghost use Rattle.std.specs.Prelude.{false};
+
+    ghost CALLABLE = { false };
+
+    const CALLABLE: bool = false;
+}
+
 impl<P, S: Answers<P>> Begins<P, S> for ByInit {
     ghost use Rattle.flow_forms.specs.Ways.{by_init, by_init_laws};
 
     ghost way = { by_init S.ANSWERED S.answers };
 
-    ghost is_way = { by_init_laws S.within S.form S.ANSWERED S.answers S.answers_within };
+    ghost is_way = { by_init_laws S.kept.within S.form S.ANSWERED S.answers S.answers_within };
 
     fn read_words(
         _alloc: Global,
@@ -184,12 +209,20 @@ impl<P, S: Answers<P>> Begins<P, S> for ByInit {
     }
 }
 
+impl Callable for ByCall {
+    ghost use Rattle.std.specs.Prelude.{true};
+
+    ghost CALLABLE = { true };
+
+    const CALLABLE: bool = true;
+}
+
 impl<P, S: Machine<P>> Begins<P, S> for ByCall {
     ghost use Rattle.flow_forms.specs.FormLaws.{no_way, no_way_laws};
 
     ghost way = { no_way };
 
-    ghost is_way = { no_way_laws S.within S.form };
+    ghost is_way = { no_way_laws S.kept.within S.form };
 
     fn read_words(
         _alloc: Global,

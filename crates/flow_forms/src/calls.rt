@@ -5,7 +5,7 @@ use ledger_types::{HeldList, Request, SignedTx, Tx};
 use net_base::{Boxed, Key, ListOf, Party};
 
 /// A subflow that a flow calls, by what it is made of. The flow set has its frame.
-#[derive(Debug, Drop)]
+#[derive(Drop)]
 pub enum Call {
     /// Has the network's notary decide the request, and returns the answer.
     Client { request: Boxed<Request> },

@@ -43,7 +43,7 @@ pub trait Opens<F: Flows> {
 }
 
 /// A frame of the flow set that a part and the frames of its calls make. Contracts see the part's frame.
-#[derive(Debug, Drop)]
+#[derive(Drop)]
 pub struct Closed<F, C> {
     frame: F,
     calls: PhantomData<C>,

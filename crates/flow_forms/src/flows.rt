@@ -6,7 +6,7 @@ ghost use Rattle.flow_machine.specs.Limits.{IsResumed, IsPlace};
 ghost use Rattle.flow_machine.specs.Flows.{GivesWords, GivesMade, GivesBegun};
 ghost use Rattle.flow_machine.specs.Acts.{act_with};
 ghost use Rattle.flow_forms.specs.Parts.{Part, PartLaws};
-ghost use Rattle.flow_forms.specs.Bytes.{Spells, has, distinct, IsFrame, body_of, body_at, sum_at, content_of};
+ghost use Rattle.flow_forms.specs.Bytes.{Spells, has, distinct, IsFrame, body_of, body_at, sum_at, content_of, placed};
 ghost use Rattle.flow_forms.specs.Forms.{frame};
 ghost use Rattle.net_base.specs.Names.{IsKey};
 ghost use Rattle.net_base.specs.Reading.{IsBytes};
@@ -15,9 +15,10 @@ ghost use Rattle.flow_forms.specs.Sums.{sum, either, by_both};
 use crate::begins::Begins;
 use crate::calls::Call;
 use crate::forms::{Frame, Sum};
-use crate::machine::{Machine, Numbered, place_byte, read_place};
+use crate::machine::{Machine, Numbered};
+use crate::places::{place_byte, read_place};
 use flow_machine::{Act, MakeFault, Place, Resumed, WordFault};
-use net_base::{ByteList, Key, PartFault, Reader, Spelt, Writer};
+use net_base::{ByteList, Key, PartFault, Reader, Writer};
 use std::alloc::{AllocError, Global};
 
 /// A part of a flow set: frames that go on, whose subflows are calls yet.
@@ -255,33 +256,33 @@ fn begin<P, S: Machine<P>, W>(
     fields: S,
     here: &Place,
 ) -> Result<(Frame<P, S, W>, Act<Call>), AllocError>
-    requires { S.within fields }
+    requires { S.kept.within fields }
     ensures { IfOk result (λ g. g ≡ frame (S.form.starts fields here.entry.now)) }
 {
     Ok(fields.start(alloc, here)?.settle())
 }
 
 impl<P: Numbered, S: Machine<P>, W: Begins<P, S>> Flows for Frame<P, S, W> {
-    ghost use Rattle.flow_forms.specs.Bytes.{IsFrame, body_of, body_at, content_of};
+    ghost use Rattle.flow_forms.specs.Bytes.{IsFrame, body_of, body_at, content_of, placed, are_placed};
     ghost use Rattle.flow_forms.specs.FormLaws.{part_of, frame_laws, frame_spells};
 
-    ghost within = { IsFrame P.places S.within };
+    ghost within = { IsFrame (placed W.CALLABLE P.numbers) S.kept.within };
 
-    ghost part = { part_of S.form W.way (content_of (λ f. S.MACHINE) (body_of P.places S.spelling)) };
+    ghost part = { part_of S.form W.way (content_of (λ f. S.MACHINE) (body_of (placed W.CALLABLE P.numbers) S.kept.spelling)) };
 
     ghost kinds = { S.MACHINE ∷ [] };
 
     ghost kind = { λ f. S.MACHINE };
 
-    ghost body = { body_of P.places S.spelling };
+    ghost body = { body_of (placed W.CALLABLE P.numbers) S.kept.spelling };
 
-    ghost reading = { λ k bytes. body_at P.places S.reading bytes };
+    ghost reading = { λ k bytes. body_at (placed W.CALLABLE P.numbers) S.kept.reading bytes };
 
-    ghost laws = { frame_laws P.places P.are_places S.within S.form W.way S.MACHINE S.spelling S.is_form W.is_way S.short };
+    ghost laws = { frame_laws (placed W.CALLABLE P.numbers) (are_placed W.CALLABLE P.numbers) S.kept.within S.form W.way S.MACHINE S.kept.spelling S.is_form W.is_way S.kept.short };
 
     ghost contents = { λ f. refl };
 
-    ghost spells = { λ unlike. frame_spells S.MACHINE P.places S.laws };
+    ghost spells = { λ unlike. frame_spells S.MACHINE (placed W.CALLABLE P.numbers) S.kept.laws };
 
     fn has(machine: u8) -> bool {
         machine == S::MACHINE
@@ -297,14 +298,14 @@ impl<P: Numbered, S: Machine<P>, W: Begins<P, S>> Flows for Frame<P, S, W> {
         _machine: u8,
         from: &mut Reader,
     ) -> Result<Frame<P, S, W>, PartFault> {
-        let at = read_place(from)?;
-        let fields = S::read_part(alloc, from)?;
+        let at = read_place::<P, W>(from)?;
+        let fields = S::read_fields(alloc, from)?;
         Ok(Frame::new(at, fields))
     }
 
     fn write_body(&self, alloc: Global, out: &mut Writer) -> Result<(), AllocError> {
-        out.put_u8(alloc, place_byte(&self.at))?;
-        self.fields.write_part(alloc, out)
+        out.put_u8(alloc, place_byte::<P, W>(&self.at))?;
+        self.fields.write_fields(alloc, out)
     }
 
     fn next(

@@ -11,7 +11,7 @@ use ledger_types::Value;
 use std::marker::{Model, PhantomData};
 
 /// Where a frame stands: it waits on the act of a place, on Fail or on Return, or it is called and waits on no act yet.
-#[derive(Clone, Copy, Debug, PartialEq, Eq)]
+#[derive(Clone, Copy)]
 pub enum At<P> {
     Failing,
     Returning,
@@ -20,7 +20,7 @@ pub enum At<P> {
 }
 
 /// A machine's frame: where it stands, and its fields. `W` says how flows of the machine begin. Contracts see the first two.
-#[derive(Debug, Drop)]
+#[derive(Drop)]
 pub struct Frame<P, S, W> {
     pub(crate) at: At<P>,
     pub(crate) fields: S,
@@ -63,7 +63,7 @@ impl<P, S, W> Frame<P, S, W> {
 }
 
 /// How a machine goes on: it waits on an act at a place, returns a value, or fails with a code.
-#[derive(Debug, Drop)]
+#[derive(Drop)]
 pub enum Goes<P, S> {
     On { place: P, fields: S, act: Act<Call> },
     Ends { fields: S, value: Value },
@@ -115,7 +115,7 @@ impl<P, S> Goes<P, S> {
 }
 
 /// A frame of one flow set or of another.
-#[derive(Debug, Drop)]
+#[derive(Drop)]
 pub enum Sum<A, B> {
     First(A),
     Second(B),

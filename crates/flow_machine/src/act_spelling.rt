@@ -1,7 +1,8 @@
 //! The spelling of acts.
 
+ghost use Rattle.std.specs.Prelude.{◌∷◌, ◌++◌};
 ghost use Rattle.net_base.specs.Reading.{Puts};
-ghost use Rattle.net_base.specs.Parts.{Decodes};
+ghost use Rattle.net_base.specs.Parts.{Decodes, Writes};
 ghost use Rattle.flow_machine.specs.Acts.{IsFrameBytes, frame_bytes, frame_bytes_at, frame_bytes_laws, act_text};
 ghost use Rattle.flow_machine.specs.Limits.{IsAct};
 
@@ -14,7 +15,7 @@ use std::alloc::{AllocError, Global};
 
 /// A frame of which nothing is known but its bytes, at most 32,768. In an act and in a checkpoint a frame of any flow set stands
 /// behind two bytes of length, so that the bytes of both can be told apart without the flow set.
-#[derive(Debug, Drop)]
+#[derive(Drop)]
 pub struct FrameBytes(pub ByteList);
 
 #[tactic(auto, unfolding(crate::specs::Acts::frame_bytes_at))]
@@ -34,6 +35,50 @@ impl Spelt for FrameBytes {
     fn write_part(&self, alloc: Global, out: &mut Writer) -> Result<(), AllocError> {
         write_bytes16(alloc, &self.0, out)
     }
+}
+
+/// Writes the byte of a kind, and the one field behind it.
+fn write_one<A: Spelt>(alloc: Global, out: &mut Writer, kind: u8, one: &A) -> Result<(), AllocError>
+    requires { A.within one.now }
+    ensures { Writes (kind ∷ A.spelling one.now) result out.old out.new }
+{
+    out.put_u8(alloc, kind)?;
+    one.write_part(alloc, out)
+}
+
+/// Writes the byte of a kind, and the two fields behind it.
+fn write_two<A: Spelt, B: Spelt>(
+    alloc: Global,
+    out: &mut Writer,
+    kind: u8,
+    one: &A,
+    two: &B,
+) -> Result<(), AllocError>
+    requires one { A.within one.now }
+    requires two { B.within two.now }
+    ensures { Writes (kind ∷ (A.spelling one.now ++ B.spelling two.now)) result out.old out.new }
+{
+    write_one(alloc, out, kind, one)?;
+    two.write_part(alloc, out)
+}
+
+/// Writes the byte of a kind, and the three fields behind it.
+fn write_three<A: Spelt, B: Spelt, C: Spelt>(
+    alloc: Global,
+    out: &mut Writer,
+    kind: u8,
+    one: &A,
+    two: &B,
+    three: &C,
+) -> Result<(), AllocError>
+    requires one { A.within one.now }
+    requires two { B.within two.now }
+    requires three { C.within three.now }
+    ensures { Writes (kind ∷ (A.spelling one.now ++ (B.spelling two.now ++ C.spelling three.now)))
+        result out.old out.new }
+{
+    write_two(alloc, out, kind, one, two)?;
+    three.write_part(alloc, out)
 }
 
 #[tactic(auto, unfolding(crate::specs::Acts::act_at))]
@@ -108,73 +153,22 @@ impl<F: Spelt> Spelt for Act<F> {
 
     fn write_part(&self, alloc: Global, out: &mut Writer) -> Result<(), AllocError> {
         match self {
-            Act::Open { to, class, first } => {
-                out.put_u8(alloc, 1)?;
-                to.write_part(alloc, out)?;
-                class.write_part(alloc, out)?;
-                first.write_part(alloc, out)?;
-            }
-            Act::Send { key, value } => {
-                out.put_u8(alloc, 2)?;
-                key.write_part(alloc, out)?;
-                value.write_part(alloc, out)?;
-            }
-            Act::Receive { key } => {
-                out.put_u8(alloc, 3)?;
-                key.write_part(alloc, out)?;
-            }
-            Act::ReceiveBy { key, until } => {
-                out.put_u8(alloc, 4)?;
-                key.write_part(alloc, out)?;
-                until.write_part(alloc, out)?;
-            }
-            Act::Sleep { until } => {
-                out.put_u8(alloc, 5)?;
-                until.write_part(alloc, out)?;
-            }
-            Act::Sub { frame } => {
-                out.put_u8(alloc, 6)?;
-                frame.write_part(alloc, out)?;
-            }
-            Act::Verify { tx } => {
-                out.put_u8(alloc, 7)?;
-                tx.write_part(alloc, out)?;
-            }
-            Act::Reserve { token, amount } => {
-                out.put_u8(alloc, 8)?;
-                token.write_part(alloc, out)?;
-                amount.write_part(alloc, out)?;
-            }
-            Act::Lookup { id } => {
-                out.put_u8(alloc, 9)?;
-                id.write_part(alloc, out)?;
-            }
-            Act::Missing { tx } => {
-                out.put_u8(alloc, 10)?;
-                tx.write_part(alloc, out)?;
-            }
-            Act::Sign { id } => {
-                out.put_u8(alloc, 11)?;
-                id.write_part(alloc, out)?;
-            }
-            Act::Notarise { request } => {
-                out.put_u8(alloc, 12)?;
-                request.write_part(alloc, out)?;
-            }
-            Act::Record { stx } => {
-                out.put_u8(alloc, 13)?;
-                stx.write_part(alloc, out)?;
-            }
-            Act::Return { value } => {
-                out.put_u8(alloc, 14)?;
-                value.write_part(alloc, out)?;
-            }
-            Act::Fail { code } => {
-                out.put_u8(alloc, 15)?;
-                code.write_part(alloc, out)?;
-            }
+            Act::Open { to, class, first } => write_three(alloc, out, 1, to, class, first),
+            Act::Send { key, value } => write_two(alloc, out, 2, key, value),
+            Act::Receive { key } => write_one(alloc, out, 3, key),
+            Act::ReceiveBy { key, until } => write_two(alloc, out, 4, key, until),
+            Act::Sleep { until } => write_one(alloc, out, 5, until),
+            Act::Sub { frame } => write_one(alloc, out, 6, frame),
+            Act::Verify { tx } => write_one(alloc, out, 7, tx),
+            Act::Reserve { token, amount } => write_two(alloc, out, 8, token, amount),
+            Act::Lookup { id } => write_one(alloc, out, 9, id),
+            Act::Missing { tx } => write_one(alloc, out, 10, tx),
+            Act::Sign { id } => write_one(alloc, out, 11, id),
+            Act::Notarise { request } => write_one(alloc, out, 12, request),
+            Act::Record { stx } => write_one(alloc, out, 13, stx),
+            Act::Return { value } => write_one(alloc, out, 14, value),
+            Act::Fail { code } => write_one(alloc, out, 15, code),
         }
-        Ok(())
     }
 }
 

@@ -5,7 +5,7 @@ use ledger_types::{HeldList, IdList, NotaryAnswer, Request, SignedTx, Tx, Value,
 use net_base::{Boxed, Hash32, Key, Moment, Party, Tag, Token};
 
 /// What a live flow waits on. When the act is performed the flow's top frame is resumed with the result, once.
-#[derive(Debug, Drop)]
+#[derive(Drop)]
 pub enum Act<F> {
     /// Opens a session with another party's flow of the class: `Opened`; `Refused` with 48 where the party is this node's or
     /// no node's, with 57 where the flow has 64 sessions.
@@ -44,7 +44,7 @@ pub enum Act<F> {
 }
 
 /// What a frame is resumed with.
-#[derive(Debug, Drop)]
+#[derive(Drop)]
 pub enum Resumed {
     /// The session is open.
     Opened { key: Key },
@@ -109,7 +109,7 @@ impl Resumed {
 }
 
 /// Where and when a frame is made or resumed.
-#[derive(Clone, Copy, Debug, PartialEq, Eq)]
+#[derive(Clone, Copy)]
 pub struct Place {
     /// The party of the node.
     pub me: Party,

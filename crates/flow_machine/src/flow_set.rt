@@ -13,7 +13,7 @@ use std::alloc::{AllocError, Global};
 use thiserror::Error;
 
 /// Why words start no flow.
-#[derive(Clone, Copy, Debug, PartialEq, Eq, Error)]
+#[derive(Clone, Copy, Debug, Error)]
 pub enum WordFault {
     /// No class has that name.
     #[error("the class of the flow is unknown")]
@@ -26,7 +26,7 @@ pub enum WordFault {
 }
 
 /// Why no flow is made.
-#[derive(Clone, Copy, Debug, PartialEq, Eq, Error)]
+#[derive(Clone, Copy, Debug, Error)]
 pub enum MakeFault {
     /// No class has that number.
     #[error("the class of the flow is unknown")]

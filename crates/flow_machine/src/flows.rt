@@ -2,7 +2,7 @@ use super::{Act, Stack};
 use ledger_types::Value;
 
 /// Where a live flow stands: its frames, and the act that the top one waits on.
-#[derive(Debug, Drop)]
+#[derive(Drop)]
 pub struct Checkpoint<F> {
     /// The flow's number at its node, counted from 0.
     pub flow: u32,
@@ -14,7 +14,7 @@ pub struct Checkpoint<F> {
 }
 
 /// A flow of a node.
-#[derive(Debug, Drop)]
+#[derive(Drop)]
 pub enum FlowState<F> {
     Live(Checkpoint<F>),
     Ended { step: u32, class: u16, value: Value },

@@ -10,7 +10,7 @@ use std::sync::Arc;
 
 /// The frames of a live flow: the one that is resumed next, and those that wait below it for a subflow to return. A flow has at
 /// most 8. No frame ever changes, so the stacks before and after a step share those that stay: none is copied.
-#[derive(Debug, Drop)]
+#[derive(Drop)]
 pub struct Stack<F> {
     top: Arc<F>,
     // the bottom first

@@ -6,7 +6,7 @@ use net_base::Cause;
 use session_wire::SessionChange;
 
 /// A flow as a step leaves it.
-#[derive(Debug, Drop)]
+#[derive(Drop)]
 pub struct FlowAfter<F> {
     /// The flow's number at its node, counted from 0.
     pub number: u32,
@@ -14,7 +14,7 @@ pub struct FlowAfter<F> {
 }
 
 /// What a record tells of: the cause, the flow after it, and what it changes in the sessions and in the ledger.
-#[derive(Debug, Drop)]
+#[derive(Drop)]
 pub struct Step<F> {
     pub cause: Cause,
     /// `None` where no flow changes.

@@ -11,7 +11,7 @@ use net_base::ListOf;
 use std::alloc::Global;
 
 /// What the frame that waited on an act is resumed with, and what changes of the node's ledger.
-#[derive(Debug, Drop)]
+#[derive(Drop)]
 pub struct LedgerOutcome {
     pub with: Resumed,
     pub change: LedgerChange,

@@ -1,5 +1,5 @@
 -- The notary client: it opens a session of class 20 with the notary by its request, and waits 30 seconds for the answer, at most three times.
-use Rattle.std.specs.Prelude.{ℕ, ◌+◌, ◌*◌, ◌-◌, ◌<◌, ◌^◌, List, [], ◌∷◌, ◌++◌, true, Option, Some, None, Result, IfSome, nat_lt, if◌then◌else◌, min}
+use Rattle.std.specs.Prelude.{ℕ, ◌+◌, ◌*◌, ◌-◌, ◌<◌, ◌^◌, List, [], ◌∷◌, ◌++◌, Option, Some, None, Result, IfSome, nat_lt, if◌then◌else◌, min}
 use Rattle.net_base.specs.declared.names.Key.{Key}
 use Rattle.net_base.specs.declared.names.Tag.{Tag}
 use Rattle.net_base.specs.Forms.{option_of, option_at, byte_at}
@@ -14,7 +14,7 @@ use Rattle.flow_machine.specs.declared.acts.Resumed.TheVariants as resumed
 use Rattle.flow_machine.specs.Tags.{answer_tags}
 use Rattle.flow_forms.specs.declared.forms.Goes.{Goes}
 use Rattle.flow_forms.specs.declared.forms.Goes.TheVariants.{On, Ends, Stops}
-use Rattle.flow_forms.specs.Usual.{Place, Resumed, Form, unnamed, Places, raised, tags_in}
+use Rattle.flow_forms.specs.Usual.{Place, Resumed, Form, unnamed, raised, tags_in}
 use Rattle.notary_flows.specs.declared.client.Client.{Client}
 use Rattle.notary_flows.specs.declared.client.ClientPlace.{ClientPlace}
 use Rattle.notary_flows.specs.declared.client.ClientPlace.TheVariants.{Opening, Receiving}
@@ -85,6 +85,6 @@ abbrev pub place_number : ClientPlace → ℕ
 place_number Opening = 1
 place_number Receiving = 2
 
--- its places
-abbrev pub places : Places ClientPlace
-places = record { all = Opening ∷ Receiving ∷ []; number = place_number; last = 3; callable = true }
+-- its places; the number behind theirs is that of Return
+abbrev pub places : List ClientPlace
+places = Opening ∷ Receiving ∷ []

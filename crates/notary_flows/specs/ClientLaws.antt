@@ -1,5 +1,5 @@
 -- The laws of the notary client.
-use Rattle.std.specs.Prelude.{ℕ, ◌+◌, ◌*◌, ◌-◌, ◌≤◌, ◌<◌, ◌∷◌, ◌++◌, length, refl, nat_lt}
+use Rattle.std.specs.Prelude.{ℕ, ◌+◌, ◌*◌, ◌-◌, ◌≤◌, ◌<◌, ◌∷◌, ◌++◌, length, refl, nat_lt, Bool}
 use Rattle.std.proofs.Common.{arith}
 use Rattle.std.proofs.lemmas.Bool.{ltb-true}
 use Rattle.net_base.specs.Forms.{option_of}
@@ -16,11 +16,11 @@ use Rattle.flow_forms.specs.declared.forms.At.TheVariants as stands
 use Rattle.flow_forms.specs.declared.forms.Goes.TheVariants.{Stops}
 use Rattle.flow_forms.specs.Shared.{stops_owes, first_passes, both_pass}
 use Rattle.flow_forms.specs.Sizes.{option_fits, key_fits}
-use Rattle.flow_forms.specs.Usual.{Place, Resumed, Owes, IsForm, ArePlaces, IsAt, unnamed_owes, raised, tags_in, owes_if}
+use Rattle.flow_forms.specs.Usual.{Place, Resumed, Owes, IsForm, Numbers, places_of, IsAt, unnamed_owes, raised, tags_in, owes_if, Kept}
 use Rattle.notary_flows.specs.declared.client.Client.{Client}
 use Rattle.notary_flows.specs.declared.client.ClientPlace.{ClientPlace}
 use Rattle.notary_flows.specs.declared.client.ClientPlace.TheVariants.{Opening, Receiving}
-use Rattle.notary_flows.specs.Client.{opens, opened, answered, moves, weight, form, IsClient, client, client_of, client_at, places}
+use Rattle.notary_flows.specs.Client.{opens, opened, answered, moves, weight, form, IsClient, client, client_of, client_at, place_number, places}
 
 -- its fields' laws
 pub client_laws : Laws IsClient client client_at
@@ -28,12 +28,12 @@ unfolding client_at
 client_laws = iso_laws client_of (λ c. (c.request, (c.tries, (c.key, c.answer)))) (λ _. refl) (λ _. refl) (pair_laws request_laws (pair_laws byte_laws (pair_laws (option_laws key_laws) (option_laws notary_answer_laws))))
 
 -- its places' laws
-asking : (p : ClientPlace) → IsAt places (stands.Asking p)
-asking Opening = refl
-asking other = refl
+pub told : (callable : Bool) (p : ClientPlace) → IsAt (places_of callable places place_number) (stands.Asking p)
+told callable Opening = refl
+told callable other = refl
 
-pub are_places : ArePlaces places
-are_places = record { asking = asking; returning = refl }
+abbrev pub numbers : Numbers ClientPlace
+numbers = record { all = places; number = place_number; told = told; few = refl }
 
 -- its fields are short
 pub short : (c : Client) → IsClient c → length (client c) ≤ 32766
@@ -41,6 +41,10 @@ short c h =
     let rest = joined (option_of key c.key) (option_of notary_answer c.answer) 6 5523 (option_fits IsKey key 5 key_fits c.key h.1.1.0) (option_fits IsNotaryAnswer notary_answer 5522 answer_fits c.answer h.1.1.1) in
     let all = joined (request c.request) (c.tries ∷ (option_of key c.key ++ option_of notary_answer c.answer)) 9746 5530 (request_fits c.request h.0) (omega (arith, rest)) in
     omega (arith, all)
+
+-- what it keeps
+abbrev pub kept : Kept Client
+kept = record { exact = Unit {0}; within = IsClient; spelling = client; reading = client_at; laws = client_laws; short = short }
 
 -- ---- what it owes
 

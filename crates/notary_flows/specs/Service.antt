@@ -1,5 +1,5 @@
 -- The notary service, of class 20: it has the node's book decide the request that comes, and sends the answer.
-use Rattle.std.specs.Prelude.{ℕ, List, [], ◌∷◌, ◌++◌, Option, Some, None, Result, IfSome, false}
+use Rattle.std.specs.Prelude.{ℕ, List, [], ◌∷◌, ◌++◌, Option, Some, None, Result, IfSome}
 use Rattle.net_base.specs.declared.names.Key.{Key}
 use Rattle.net_base.specs.declared.names.Tag.{Tag}
 use Rattle.net_base.specs.Forms.{option_of, option_at}
@@ -14,7 +14,7 @@ use Rattle.flow_machine.specs.declared.acts.Resumed.TheVariants as resumed
 use Rattle.flow_machine.specs.Tags.{answer_tags}
 use Rattle.flow_forms.specs.declared.forms.Goes.{Goes}
 use Rattle.flow_forms.specs.declared.forms.Goes.TheVariants.{On, Ends}
-use Rattle.flow_forms.specs.Usual.{Place, Resumed, Form, unnamed, Places, tags_in}
+use Rattle.flow_forms.specs.Usual.{Place, Resumed, Form, unnamed, tags_in}
 use Rattle.notary_flows.specs.declared.service.Service.{Service}
 use Rattle.notary_flows.specs.declared.service.ServicePlace.{ServicePlace}
 use Rattle.notary_flows.specs.declared.service.ServicePlace.TheVariants.{Receiving, Deciding, Answering}
@@ -88,6 +88,6 @@ place_number Receiving = 1
 place_number Deciding = 2
 place_number Answering = 3
 
--- its places
-abbrev pub places : Places ServicePlace
-places = record { all = Receiving ∷ Deciding ∷ Answering ∷ []; number = place_number; last = 4; callable = false }
+-- its places; the number behind theirs is that of Return
+abbrev pub places : List ServicePlace
+places = Receiving ∷ Deciding ∷ Answering ∷ []

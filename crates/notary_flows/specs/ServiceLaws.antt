@@ -1,5 +1,5 @@
 -- The laws of the notary service.
-use Rattle.std.specs.Prelude.{◌≤◌, [], ◌∷◌, ◌++◌, length, refl}
+use Rattle.std.specs.Prelude.{◌≤◌, [], ◌∷◌, ◌++◌, length, refl, Bool}
 use Rattle.std.proofs.Common.{arith}
 use Rattle.net_base.specs.Forms.{option_of}
 use Rattle.net_base.specs.Laws.{Laws}
@@ -14,11 +14,11 @@ use Rattle.flow_machine.specs.Tags.{answer_tags}
 use Rattle.flow_forms.specs.declared.forms.At.TheVariants as stands
 use Rattle.flow_forms.specs.Ways.{AnswersWithin}
 use Rattle.flow_forms.specs.Sizes.{option_fits, key_fits}
-use Rattle.flow_forms.specs.Usual.{Place, Resumed, Owes, IsForm, ArePlaces, IsAt, unnamed_owes, tags_in, joined_pass, parts_pass}
+use Rattle.flow_forms.specs.Usual.{Place, Resumed, Owes, IsForm, Numbers, places_of, IsAt, unnamed_owes, tags_in, joined_pass, parts_pass, Kept}
 use Rattle.notary_flows.specs.declared.service.Service.{Service}
 use Rattle.notary_flows.specs.declared.service.ServicePlace.{ServicePlace}
 use Rattle.notary_flows.specs.declared.service.ServicePlace.TheVariants.{Receiving, Deciding, Answering}
-use Rattle.notary_flows.specs.Service.{received, decided, sent, moves, weight, form, fresh, IsService, service, service_of, service_at, places}
+use Rattle.notary_flows.specs.Service.{received, decided, sent, moves, weight, form, fresh, IsService, service, service_of, service_at, place_number, places}
 
 -- its fields' laws
 pub service_laws : Laws IsService service service_at
@@ -26,12 +26,12 @@ unfolding service_at
 service_laws = iso_laws service_of (λ s. (s.key, (s.request, s.answer))) (λ _. refl) (λ _. refl) (pair_laws key_laws (pair_laws (option_laws request_laws) (option_laws notary_answer_laws)))
 
 -- its places' laws
-asking : (p : ServicePlace) → IsAt places (stands.Asking p)
-asking Receiving = refl
-asking other = refl
+pub told : (callable : Bool) (p : ServicePlace) → IsAt (places_of callable places place_number) (stands.Asking p)
+told callable Receiving = refl
+told callable other = refl
 
-pub are_places : ArePlaces places
-are_places = record { asking = asking; returning = refl }
+abbrev pub numbers : Numbers ServicePlace
+numbers = record { all = places; number = place_number; told = told; few = refl }
 
 -- its fields are short
 pub short : (s : Service) → IsService s → length (service s) ≤ 32766
@@ -39,6 +39,10 @@ short s h =
     let rest = joined (option_of request s.request) (option_of notary_answer s.answer) 9747 5523 (option_fits IsRequest request 9746 request_fits s.request h.1.0) (option_fits IsNotaryAnswer notary_answer 5522 answer_fits s.answer h.1.1) in
     let all = joined (key s.key) (option_of request s.request ++ option_of notary_answer s.answer) 5 15270 (key_fits s.key h.0) rest in
     omega (arith, all)
+
+-- what it keeps
+abbrev pub kept : Kept Service
+kept = record { exact = Unit {0}; within = IsService; spelling = service; reading = service_at; laws = service_laws; short = short }
 
 -- ---- what it owes
 

@@ -3,11 +3,11 @@
 ghost use Rattle.std.specs.Prelude.{◌≡◌, IfOk};
 ghost use Rattle.flow_forms.specs.Calls.{call_weight};
 ghost use Rattle.flow_forms.specs.declared.calls.Call.TheVariants as call;
-ghost use Rattle.notary_flows.specs.Client.{fresh, opens, opened, tried, answered, form, IsClient, client, client_at, places};
-ghost use Rattle.notary_flows.specs.ClientLaws.{client_laws, are_places, short, is_form};
+ghost use Rattle.notary_flows.specs.Client.{fresh, opens, opened, tried, answered, form};
+ghost use Rattle.notary_flows.specs.ClientLaws.{kept, numbers, is_form};
 
 use crate::NOTARY_CLASS;
-use flow_forms::{ByCall, Frame, Goes, Machine, Numbered, copy_option};
+use flow_forms::{ByCall, Fields, Frame, Goes, Machine, Numbered, copy_option};
 use flow_machine::{Act, Place, Resumed};
 use ledger_types::{NotaryAnswer, Request, Value};
 use net_base::{Boxed, Key, PartFault, Reader, Spelt, TryCopy, Writer};
@@ -20,7 +20,7 @@ const WAIT: u64 = 30_000;
 const MOST_TRIES: u8 = 3;
 
 /// Where a notary client waits, with the numbers of the places; 3 is that of Return.
-#[derive(Clone, Copy, Debug, PartialEq, Eq)]
+#[derive(Clone, Copy)]
 pub enum ClientPlace {
     /// Opens a session with the notary.
     Opening = 1,
@@ -30,7 +30,7 @@ pub enum ClientPlace {
 
 /// The notary client, machine 31, a subflow: it opens a session of class 20 with the network's notary by the request, waits there for
 /// the answer for 30,000 milliseconds, and returns it. It tries three times, each time in a new session, and then fails with 53.
-#[derive(Debug, Drop)]
+#[derive(Drop)]
 pub struct Client {
     /// What the notary is to decide.
     pub request: Boxed<Request>,
@@ -125,9 +125,7 @@ impl Client {
 }
 
 impl Numbered for ClientPlace {
-    ghost places = { places };
-
-    ghost are_places = { are_places };
+    ghost numbers = { numbers };
 
     fn number(self) -> u8 {
         self as u8
@@ -136,27 +134,13 @@ impl Numbered for ClientPlace {
     fn all() -> &'static [ClientPlace] {
         &[ClientPlace::Opening, ClientPlace::Receiving]
     }
-
-    fn last() -> u8 {
-        3
-    }
-
-    fn callable() -> bool {
-        true
-    }
 }
 
 #[tactic(auto, unfolding(crate::specs::Client::client_at))]
-impl Spelt for Client {
-    ghost spelling = { client };
+impl Fields for Client {
+    ghost kept = { kept };
 
-    ghost within = { IsClient };
-
-    ghost reading = { client_at };
-
-    ghost laws = { client_laws };
-
-    fn read_part(alloc: Global, from: &mut Reader) -> Result<Client, PartFault> {
+    fn read_fields(alloc: Global, from: &mut Reader) -> Result<Client, PartFault> {
         Ok(Client {
             request: Spelt::read_part(alloc, from)?,
             tries: Spelt::read_part(alloc, from)?,
@@ -165,16 +149,14 @@ impl Spelt for Client {
         })
     }
 
-    fn write_part(&self, alloc: Global, out: &mut Writer) -> Result<(), AllocError> {
+    fn write_fields(&self, alloc: Global, out: &mut Writer) -> Result<(), AllocError> {
         self.request.write_part(alloc, out)?;
         self.tries.write_part(alloc, out)?;
         self.key.write_part(alloc, out)?;
         self.answer.write_part(alloc, out)
     }
-}
 
-impl TryCopy for Client {
-    fn try_copy(&self, alloc: Global) -> Result<Client, AllocError> {
+    fn copy_fields(&self, alloc: Global) -> Result<Client, AllocError> {
         Ok(Client {
             request: self.request.try_copy(alloc)?,
             tries: self.tries,
@@ -190,8 +172,6 @@ impl Machine<ClientPlace> for Client {
     ghost MACHINE = { 31 };
 
     ghost is_form = { is_form };
-
-    ghost short = { short };
 
     const MACHINE: u8 = 31;
 

@@ -1,18 +1,18 @@
 //! The notary service.
 
 ghost use Rattle.std.specs.Prelude.{◌≡◌, IfOk};
-ghost use Rattle.notary_flows.specs.Service.{begins, received, decided, sent, form, fresh, IsService, service, service_at, places};
-ghost use Rattle.notary_flows.specs.ServiceLaws.{service_laws, are_places, short, is_form, answers_within};
+ghost use Rattle.notary_flows.specs.Service.{begins, received, decided, sent, form, fresh};
+ghost use Rattle.notary_flows.specs.ServiceLaws.{kept, numbers, is_form, answers_within};
 
 use crate::NOTARY_CLASS;
-use flow_forms::{Answers, ByInit, Frame, Goes, Machine, Numbered, copy_option};
+use flow_forms::{Answers, ByInit, Fields, Frame, Goes, Machine, Numbered, copy_option};
 use flow_machine::{Act, Place, Resumed};
 use ledger_types::{NotaryAnswer, Request, Value};
 use net_base::{Boxed, Key, PartFault, Reader, Spelt, TryCopy, Writer};
 use std::alloc::{AllocError, Global};
 
 /// Where a notary service waits, with the numbers of the places; 4 is that of Return.
-#[derive(Clone, Copy, Debug, PartialEq, Eq)]
+#[derive(Clone, Copy)]
 pub enum ServicePlace {
     /// Waits for the request.
     Receiving = 1,
@@ -24,7 +24,7 @@ pub enum ServicePlace {
 
 /// The notary service, machine 20, with which a node answers an Init of class 20: it has the node's book decide the request that comes
 /// and sends the answer; it returns Unit.
-#[derive(Debug, Drop)]
+#[derive(Drop)]
 pub struct Service {
     /// The session.
     pub key: Key,
@@ -95,9 +95,7 @@ impl Service {
 }
 
 impl Numbered for ServicePlace {
-    ghost places = { places };
-
-    ghost are_places = { are_places };
+    ghost numbers = { numbers };
 
     fn number(self) -> u8 {
         self as u8
@@ -110,27 +108,13 @@ impl Numbered for ServicePlace {
             ServicePlace::Answering,
         ]
     }
-
-    fn last() -> u8 {
-        4
-    }
-
-    fn callable() -> bool {
-        false
-    }
 }
 
 #[tactic(auto, unfolding(crate::specs::Service::service_at))]
-impl Spelt for Service {
-    ghost spelling = { service };
+impl Fields for Service {
+    ghost kept = { kept };
 
-    ghost within = { IsService };
-
-    ghost reading = { service_at };
-
-    ghost laws = { service_laws };
-
-    fn read_part(alloc: Global, from: &mut Reader) -> Result<Service, PartFault> {
+    fn read_fields(alloc: Global, from: &mut Reader) -> Result<Service, PartFault> {
         Ok(Service {
             key: Spelt::read_part(alloc, from)?,
             request: Spelt::read_part(alloc, from)?,
@@ -138,15 +122,13 @@ impl Spelt for Service {
         })
     }
 
-    fn write_part(&self, alloc: Global, out: &mut Writer) -> Result<(), AllocError> {
+    fn write_fields(&self, alloc: Global, out: &mut Writer) -> Result<(), AllocError> {
         self.key.write_part(alloc, out)?;
         self.request.write_part(alloc, out)?;
         self.answer.write_part(alloc, out)
     }
-}
 
-impl TryCopy for Service {
-    fn try_copy(&self, alloc: Global) -> Result<Service, AllocError> {
+    fn copy_fields(&self, alloc: Global) -> Result<Service, AllocError> {
         Ok(Service {
             key: self.key,
             request: copy_option(alloc, &self.request)?,
@@ -161,8 +143,6 @@ impl Machine<ServicePlace> for Service {
     ghost MACHINE = { 20 };
 
     ghost is_form = { is_form };
-
-    ghost short = { short };
 
     const MACHINE: u8 = 20;
 

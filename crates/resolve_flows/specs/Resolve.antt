@@ -1,5 +1,5 @@
 -- Resolving: in a session the ancestors of a transaction that are lacking are asked for, the last of them first, and recorded before it.
-use Rattle.std.specs.Prelude.{ℕ, ◌+◌, ◌*◌, ◌-◌, ◌<◌, ◌==◌, ◌^◌, List, [], ◌∷◌, ◌++◌, length, take, filter, slice_get, Bool, true, false, not, Option, Some, None, Result, IfSome, nat_lt, if◌then◌else◌}
+use Rattle.std.specs.Prelude.{ℕ, ◌+◌, ◌*◌, ◌-◌, ◌<◌, ◌==◌, ◌^◌, List, [], ◌∷◌, ◌++◌, length, take, filter, slice_get, Bool, false, not, Option, Some, None, Result, IfSome, nat_lt, if◌then◌else◌}
 use Rattle.std.specs.Int.{w16}
 use Rattle.net_base.specs.declared.names.Key.{Key}
 use Rattle.net_base.specs.declared.names.Tag.{Tag}
@@ -18,7 +18,7 @@ use Rattle.flow_machine.specs.declared.acts.Act.TheVariants as act
 use Rattle.flow_machine.specs.declared.acts.Resumed.TheVariants as resumed
 use Rattle.flow_forms.specs.declared.forms.Goes.{Goes}
 use Rattle.flow_forms.specs.declared.forms.Goes.TheVariants.{On, Ends, Stops}
-use Rattle.flow_forms.specs.Usual.{Place, Resumed, Form, unnamed, Places, raised, tags_in}
+use Rattle.flow_forms.specs.Usual.{Place, Resumed, Form, unnamed, raised, tags_in}
 use Rattle.resolve_flows.specs.declared.resolve.Resolve.{Resolve}
 use Rattle.resolve_flows.specs.declared.resolve.ResolvePlace.{ResolvePlace}
 use Rattle.resolve_flows.specs.declared.resolve.ResolvePlace.TheVariants.{Listing, Asking, Receiving, Lacking, Recording, Ending}
@@ -160,6 +160,6 @@ place_number Lacking = 4
 place_number Recording = 5
 place_number Ending = 6
 
--- its places
-abbrev pub places : Places ResolvePlace
-places = record { all = Listing ∷ Asking ∷ Receiving ∷ Lacking ∷ Recording ∷ Ending ∷ []; number = place_number; last = 7; callable = true }
+-- its places; the number behind theirs is that of Return
+abbrev pub places : List ResolvePlace
+places = Listing ∷ Asking ∷ Receiving ∷ Lacking ∷ Recording ∷ Ending ∷ []

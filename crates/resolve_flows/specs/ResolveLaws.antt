@@ -1,5 +1,5 @@
 -- The laws of resolving.
-use Rattle.std.specs.Prelude.{◌≡◌, ℕ, ◌+◌, ◌*◌, ◌-◌, ◌≤◌, ◌<◌, ◌==◌, List, ◌++◌, length, take, filter, true, not, refl, Option, Some, None, IfSome, nat_lt, if◌then◌else◌}
+use Rattle.std.specs.Prelude.{◌≡◌, ℕ, ◌+◌, ◌*◌, ◌-◌, ◌≤◌, ◌<◌, ◌==◌, List, ◌++◌, length, take, filter, true, not, refl, Option, Some, None, IfSome, nat_lt, if◌then◌else◌, Bool}
 use Rattle.std.specs.List.{list_all, AllByRecursion}
 use Rattle.std.specs.Int.{w16}
 use Rattle.std.proofs.Common.{arith, sym, subst, length-take}
@@ -23,13 +23,13 @@ use Rattle.flow_machine.specs.Limits.{IsResumed}
 use Rattle.flow_forms.specs.declared.forms.At.TheVariants as stands
 use Rattle.flow_forms.specs.declared.forms.Goes.TheVariants.{Stops}
 use Rattle.flow_forms.specs.Shared.{stops_owes}
-use Rattle.flow_forms.specs.Usual.{Place, Resumed, Owes, IsForm, ArePlaces, IsAt, unnamed_owes, raised, tags_in, owes_if, joined_pass, parts_pass}
+use Rattle.flow_forms.specs.Usual.{Place, Resumed, Owes, IsForm, Numbers, places_of, IsAt, unnamed_owes, raised, tags_in, owes_if, joined_pass, parts_pass, Kept}
 use Rattle.flow_forms.specs.Sizes.{option_fits, key_fits}
 use Rattle.resolve_flows.specs.declared.resolve.Resolve.{Resolve}
 use Rattle.resolve_flows.specs.declared.resolve.ResolvePlace.{ResolvePlace}
 use Rattle.resolve_flows.specs.declared.resolve.ResolvePlace.TheVariants.{Listing, Asking, Receiving, Lacking, Recording, Ending}
 use Rattle.resolve_flows.specs.Ids.{ids, ids_laws, ids_fit}
-use Rattle.resolve_flows.specs.Resolve.{last_of, asks_for, asks_next, records, listed, sent, has_id, takes, received, records_current, widened, widens, lacked, recorded, ended, moves, weight, tags, form, IsResolve, resolve, resolve_of, resolve_at, places}
+use Rattle.resolve_flows.specs.Resolve.{last_of, asks_for, asks_next, records, listed, sent, has_id, takes, received, records_current, widened, widens, lacked, recorded, ended, moves, weight, tags, form, IsResolve, resolve, resolve_of, resolve_at, place_number, places}
 
 -- its fields' laws
 pub resolve_laws : Laws IsResolve resolve resolve_at
@@ -37,12 +37,12 @@ unfolding resolve_at
 resolve_laws = iso_laws resolve_of (λ r. (r.key, (r.stx, (r.pending, (r.done, (r.asks, r.current)))))) (λ _. refl) (λ _. refl) (pair_laws key_laws (pair_laws signed_tx_laws (pair_laws ids_laws (pair_laws u16_laws (pair_laws u16_laws (option_laws signed_tx_laws))))))
 
 -- its places' laws
-asking : (p : ResolvePlace) → IsAt places (stands.Asking p)
-asking Listing = refl
-asking other = refl
+pub told : (callable : Bool) (p : ResolvePlace) → IsAt (places_of callable places place_number) (stands.Asking p)
+told callable Listing = refl
+told callable other = refl
 
-pub are_places : ArePlaces places
-are_places = record { asking = asking; returning = refl }
+abbrev pub numbers : Numbers ResolvePlace
+numbers = record { all = places; number = place_number; told = told; few = refl }
 
 -- its fields are short
 pub short : (r : Resolve) → IsResolve r → length (resolve r) ≤ 32766
@@ -54,6 +54,10 @@ short r h =
     let stx = joined (signed_tx r.stx) (ids r.pending ++ (number w16 r.done ++ (number w16 r.asks ++ option_of signed_tx r.current))) 6059 14258 (signed_fits r.stx h.1.0) pending in
     let all = joined (key r.key) (signed_tx r.stx ++ (ids r.pending ++ (number w16 r.done ++ (number w16 r.asks ++ option_of signed_tx r.current)))) 5 20317 (key_fits r.key h.0) stx in
     omega (arith, all)
+
+-- what it keeps
+abbrev pub kept : Kept Resolve
+kept = record { exact = Unit {0}; within = IsResolve; spelling = resolve; reading = resolve_at; laws = resolve_laws; short = short }
 
 -- ---- what it owes
 

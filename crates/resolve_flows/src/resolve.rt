@@ -6,11 +6,11 @@ ghost use Rattle.flow_machine.specs.declared.acts.Act.TheVariants as act;
 ghost use Rattle.flow_machine.specs.Limits.{IsResumed};
 ghost use Rattle.flow_forms.specs.Calls.{call_weight};
 ghost use Rattle.flow_forms.specs.declared.calls.Call.TheVariants as call;
-ghost use Rattle.resolve_flows.specs.Resolve.{fresh, last_of, takes, asks_for, asks_next, records, lists, listed, sent, has_id, received, records_current, widens, lacked, recorded, ended, goes_on, form, IsResolve, resolve, resolve_at, places};
-ghost use Rattle.resolve_flows.specs.ResolveLaws.{resolve_laws, are_places, short, is_form};
+ghost use Rattle.resolve_flows.specs.Resolve.{fresh, last_of, takes, asks_for, asks_next, records, lists, listed, sent, has_id, received, records_current, widens, lacked, recorded, ended, goes_on, form};
+ghost use Rattle.resolve_flows.specs.ResolveLaws.{kept, numbers, is_form};
 
 use crate::ids::{read_ids, widened, write_ids};
-use flow_forms::{ByCall, Call, Frame, Goes, Machine, Numbered, copy_option};
+use flow_forms::{ByCall, Call, Fields, Frame, Goes, Machine, Numbered, copy_option};
 use flow_machine::{Act, Place, Resumed};
 use ledger_types::{IdList, SignedTx, Value};
 use net_base::{Boxed, Hash32, Key, ListOf, PartFault, Reader, Spelt, TryCopy, Writer};
@@ -23,7 +23,7 @@ const MOST_ANCESTORS: usize = 256;
 const MOST_ASKS: u16 = 512;
 
 /// Where a resolving frame waits, with the numbers of the places; 7 is that of Return.
-#[derive(Clone, Copy, Debug, PartialEq, Eq)]
+#[derive(Clone, Copy)]
 pub enum ResolvePlace {
     /// Asks which ancestors of the transaction are lacking.
     Listing = 1,
@@ -42,7 +42,7 @@ pub enum ResolvePlace {
 /// Resolving, machine 32, a subflow: in a session it asks for the ancestors of a transaction that are lacking, the last of them first,
 /// records each once its own ancestors are there, and then the transaction itself; it returns Unit. It fails with 62 where more than
 /// 256 ancestors are lacking, or where it would ask more than 512 times, and with 54 where another transaction comes than it asked for.
-#[derive(Debug, Drop)]
+#[derive(Drop)]
 pub struct Resolve {
     /// The session.
     pub key: Key,
@@ -290,9 +290,7 @@ impl Resolve {
 }
 
 impl Numbered for ResolvePlace {
-    ghost places = { places };
-
-    ghost are_places = { are_places };
+    ghost numbers = { numbers };
 
     fn number(self) -> u8 {
         self as u8
@@ -308,27 +306,13 @@ impl Numbered for ResolvePlace {
             ResolvePlace::Ending,
         ]
     }
-
-    fn last() -> u8 {
-        7
-    }
-
-    fn callable() -> bool {
-        true
-    }
 }
 
 #[tactic(auto, unfolding(crate::specs::Resolve::resolve_at))]
-impl Spelt for Resolve {
-    ghost spelling = { resolve };
+impl Fields for Resolve {
+    ghost kept = { kept };
 
-    ghost within = { IsResolve };
-
-    ghost reading = { resolve_at };
-
-    ghost laws = { resolve_laws };
-
-    fn read_part(alloc: Global, from: &mut Reader) -> Result<Resolve, PartFault> {
+    fn read_fields(alloc: Global, from: &mut Reader) -> Result<Resolve, PartFault> {
         Ok(Resolve {
             key: Spelt::read_part(alloc, from)?,
             stx: Spelt::read_part(alloc, from)?,
@@ -339,7 +323,7 @@ impl Spelt for Resolve {
         })
     }
 
-    fn write_part(&self, alloc: Global, out: &mut Writer) -> Result<(), AllocError> {
+    fn write_fields(&self, alloc: Global, out: &mut Writer) -> Result<(), AllocError> {
         self.key.write_part(alloc, out)?;
         self.stx.write_part(alloc, out)?;
         write_ids(alloc, &self.pending, out)?;
@@ -347,10 +331,8 @@ impl Spelt for Resolve {
         self.asks.write_part(alloc, out)?;
         self.current.write_part(alloc, out)
     }
-}
 
-impl TryCopy for Resolve {
-    fn try_copy(&self, alloc: Global) -> Result<Resolve, AllocError> {
+    fn copy_fields(&self, alloc: Global) -> Result<Resolve, AllocError> {
         Ok(Resolve {
             key: self.key,
             stx: self.stx.try_copy(alloc)?,
@@ -368,8 +350,6 @@ impl Machine<ResolvePlace> for Resolve {
     ghost MACHINE = { 32 };
 
     ghost is_form = { is_form };
-
-    ghost short = { short };
 
     const MACHINE: u8 = 32;
 

@@ -22,7 +22,7 @@ use session_wire::{Body, SentItem, SessionChange};
 use std::alloc::{AllocError, Global};
 
 /// What the frame that waited on an act is resumed with, and what changes of the node's sessions.
-#[derive(Debug, Drop)]
+#[derive(Drop)]
 pub struct Performed {
     pub with: Resumed,
     pub change: SessionChange,

@@ -1,9 +1,5 @@
 -- The counting flow: class 1, `count K`, sleeps K times until moment 0, and returns K.
-use Rattle.std.specs.Prelude.{ℕ, ◌-◌, ◌+◌, ◌<◌, ◌^◌, ◌==◌, nat_le, [], ◌∷◌, ◌++◌, List, Option, Some, None, Result, if◌then◌else◌, max, false, ◌≤◌, length, refl}
-use Rattle.std.specs.Int.{w32}
-use Rattle.net_base.specs.Reading.{number}
-use Rattle.net_base.specs.Forms.{number_at}
-use Rattle.net_base.specs.Combining.{mapped_at, pair_at, pair_laws, iso_laws}
+use Rattle.std.specs.Prelude.{ℕ, ◌-◌, ◌+◌, ◌<◌, ◌^◌, ◌==◌, nat_le, [], ◌∷◌, Option, Some, None, if◌then◌else◌, max, false, ◌≤◌, refl}
 use Rattle.ledger_types.specs.declared.value.Value.TheVariants as value
 use Rattle.flow_machine.specs.declared.acts.Act.TheVariants as act
 use Rattle.flow_machine.specs.declared.acts.Resumed.TheVariants as resumed
@@ -11,15 +7,10 @@ use Rattle.flow_forms.specs.declared.arguments.End.{End}
 use Rattle.flow_forms.specs.declared.arguments.Then.{Then}
 use Rattle.flow_forms.specs.declared.forms.Goes.{Goes}
 use Rattle.flow_forms.specs.declared.forms.Goes.TheVariants.{On, Ends}
-use Rattle.flow_forms.specs.Usual.{Place, Resumed, Form, unnamed, Places, Owes, IsForm, unnamed_owes, ArePlaces, owes_if}
+use Rattle.flow_forms.specs.Usual.{Place, Resumed, Form, unnamed, Numbers, Owes, IsForm, unnamed_owes, owes_if, BeginsWithin, if_some, Kept, kept_as, before, u32_field, arith, subst, eqb-false}
 use Rattle.shipped_flows.specs.declared.count.Count.{Count}
 use Rattle.shipped_flows.specs.declared.count.CountPlace.{CountPlace}
 use Rattle.shipped_flows.specs.declared.count.CountPlace.TheVariants.{Sleeping}
-use Rattle.std.proofs.Common.{arith, subst}
-use Rattle.std.proofs.lemmas.Bool.{eqb-false}
-use Rattle.net_base.specs.Laws.{Laws}
-use Rattle.net_base.specs.Fields.{u32_laws}
-use Rattle.flow_forms.specs.Ways.{BeginsWithin, if_some}
 
 -- ---- how it goes on
 
@@ -42,52 +33,29 @@ form = record { starts = λ c here. sleeps c; moves = moves; weight = λ p c. ma
 
 -- ---- its bytes
 
--- the limits of its fields
-abbrev pub IsCount : Count → Type 0
-IsCount c = (c.left < 2 ^ 32) × (c.all < 2 ^ 32)
-
--- the bytes of its fields
-abbrev pub count : Count → List ℕ
-count c = number w32 c.left ++ number w32 c.all
-
--- fields of their parts
-abbrev pub count_of : ℕ × ℕ → Count
-count_of p = record { left = p.0; all = p.1 }
-
--- reading its fields
-unfoldable pub count_at : List ℕ → Result (Count × List ℕ) ℕ
-count_at = mapped_at count_of (pair_at (number_at w32) (number_at w32))
+-- its fields: how many sleeps are left, and how many there are in all
+abbrev pub kept : Kept Count
+kept = kept_as (before u32_field u32_field) (λ p. record { left = p.0; all = p.1 }) (λ c. (c.left, c.all)) (λ _. refl) (λ _. refl) refl
 
 -- its places: 1 Sleep, 2 Return
-abbrev pub places : Places CountPlace
-places = record { all = Sleeping ∷ []; number = λ p. 1; last = 2; callable = false }
+abbrev pub numbers : Numbers CountPlace
+numbers = record { all = Sleeping ∷ []; number = λ p. 1; told = λ callable. elim [ Sleeping ↦ refl ]; few = refl }
 
 -- ---- its laws
 
-pub count_laws : Laws IsCount count count_at
-unfolding count_at
-count_laws = iso_laws count_of (λ c. (c.left, c.all)) (λ _. refl) (λ _. refl) (pair_laws u32_laws u32_laws)
-
-pub short : (c : Count) → IsCount c → length (count c) ≤ 32766
-unfolding number
-short c h = omega arith
-
-pub are_places : ArePlaces places
-are_places = record { asking = elim [ Sleeping ↦ refl ]; returning = refl }
-
-pub begins_within : BeginsWithin (λ args. (args.first < 2 ^ 32) × Unit {0}) IsCount form.tags begins
-begins_within args here c e = let made = if_some (nat_le args.first 65534) e in (λ given place. subst IsCount made.1 (given.0, given.0), refl)
+pub begins_within : BeginsWithin (λ args. (args.first < 2 ^ 32) × Unit {0}) kept.within form.tags begins
+begins_within args here c e = let made = if_some (nat_le args.first 65534) e in (λ given place. subst kept.within made.1 (given.0, given.0), refl)
 
 -- how it sleeps, with so many left
-sleeps_owe : (most n : ℕ) (c : Count) (with : Resumed) (here : Place) → 1 ≤ most → n + 1 ≤ most → (IsCount c → n < 2 ^ 32) → Owes form IsCount most c with here (sleeps (record c { left = n }))
+sleeps_owe : (most n : ℕ) (c : Count) (with : Resumed) (here : Place) → 1 ≤ most → n + 1 ≤ most → (kept.within c → n < 2 ^ 32) → Owes form kept.within most c with here (sleeps (record c { left = n }))
 sleeps_owe most n c with here some falls small =
-    owes_if form IsCount most c with here (n == 0) (Ends (record c { left = n }) (value.Number c.all)) (On Sleeping (record c { left = n }) (act.Sleep 0))
+    owes_if form kept.within most c with here (n == 0) (Ends (record c { left = n }) (value.Number c.all)) (On Sleeping (record c { left = n }) (act.Sleep 0))
     (λ _. record { limits = λ h fits place. ((small h, h.1), omega (arith, h.1)); tags = λ test old given. (refl, refl); falls = some; asks = refl })
     (λ left. record { limits = λ h fits place. ((small h, h.1), omega arith); tags = λ test old given. (refl, refl); falls = omega (arith, falls, eqb-false n 0 left); asks = refl })
 
-moves_owe : (p : CountPlace) (c : Count) (with : Resumed) (here : Place) → Owes form IsCount (max c.left 1) c with here (moves p c with here)
+moves_owe : (p : CountPlace) (c : Count) (with : Resumed) (here : Place) → Owes form kept.within (max c.left 1) c with here (moves p c with here)
 moves_owe Sleeping c resumed.Lapsed here = sleeps_owe (max c.left 1) (c.left - 1) c resumed.Lapsed here (omega arith) (omega arith) (λ h. omega (arith, h.0))
-moves_owe Sleeping c other here = unnamed_owes form IsCount (max c.left 1) c other here (omega arith)
+moves_owe Sleeping c other here = unnamed_owes form kept.within (max c.left 1) c other here (omega arith)
 
-pub is_form : IsForm IsCount form
+pub is_form : IsForm kept.within form
 is_form = record { starts = λ c here. sleeps_owe (c.left + 1) c.left c resumed.Started here (omega arith) (omega arith) (λ h. h.0); moves = moves_owe }

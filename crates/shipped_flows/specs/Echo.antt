@@ -1,27 +1,14 @@
 -- The echo flow: it answers an Init of class 2, and sends each number that comes back, one higher, until the other side ends.
-use Rattle.std.specs.Prelude.{ℕ, ◌-◌, ◌+◌, ◌*◌, ◌<◌, ◌^◌, nat_le, false, [], ◌∷◌, ◌++◌, List, Result, if◌then◌else◌, ◌≤◌, length, refl}
-use Rattle.std.specs.Int.{w32, w64}
-use Rattle.net_base.specs.declared.names.Key.{Key}
-use Rattle.net_base.specs.Reading.{number}
-use Rattle.net_base.specs.Forms.{number_at}
-use Rattle.net_base.specs.Combining.{mapped_at, pair_at, pair_laws, iso_laws}
-use Rattle.net_base.specs.Names.{IsKey, key, key_at, key_laws}
+use Rattle.std.specs.Prelude.{ℕ, ◌-◌, ◌+◌, ◌*◌, ◌^◌, nat_le, [], ◌∷◌, if◌then◌else◌, refl}
 use Rattle.ledger_types.specs.declared.value.Value.TheVariants as value
 use Rattle.flow_machine.specs.declared.acts.Act.TheVariants as act
 use Rattle.flow_machine.specs.declared.acts.Resumed.TheVariants as resumed
 use Rattle.flow_forms.specs.declared.forms.Goes.{Goes}
 use Rattle.flow_forms.specs.declared.forms.Goes.TheVariants.{On, Ends, Stops}
-use Rattle.flow_forms.specs.Usual.{Place, Resumed, Form, unnamed, Places, raised, Owes, IsForm, unnamed_owes, ArePlaces, owes_if, fails_owes}
+use Rattle.flow_forms.specs.Usual.{Place, Resumed, Form, unnamed, Numbers, raised, Owes, IsForm, unnamed_owes, owes_if, fails_owes, AnswersWithin, Kept, kept_as, before, u32_field, u64_field, key_field, Key, arith, leb-true}
 use Rattle.shipped_flows.specs.declared.echo.Echo.{Echo}
 use Rattle.shipped_flows.specs.declared.echo.EchoPlace.{EchoPlace}
 use Rattle.shipped_flows.specs.declared.echo.EchoPlace.TheVariants.{Receiving, Sending}
-use Rattle.std.proofs.Common.{arith}
-use Rattle.std.proofs.lemmas.Bool.{leb-true}
-use Rattle.net_base.specs.Laws.{Laws}
-use Rattle.net_base.specs.Fields.{u32_laws, u64_laws}
-use Rattle.ledger_types.proofs.Sizes.{joined, number32_fits, number64_fits}
-use Rattle.flow_forms.specs.Sizes.{key_fits}
-use Rattle.flow_forms.specs.Ways.{AnswersWithin}
 
 -- ---- how it goes on
 
@@ -55,54 +42,32 @@ form = record { starts = λ e here. receives e; moves = moves; weight = weight; 
 
 -- ---- its bytes
 
--- the limits of its fields
-abbrev pub IsEcho : Echo → Type 0
-IsEcho e = IsKey e.key × ((e.last < 2 ^ 64) × (e.turns < 2 ^ 32))
-
--- the bytes of its fields
-abbrev pub echo : Echo → List ℕ
-echo e = key e.key ++ (number w64 e.last ++ number w32 e.turns)
-
--- fields of their parts
-abbrev pub echo_of : Key × (ℕ × ℕ) → Echo
-echo_of p = record { key = p.0; last = p.1.0; turns = p.1.1 }
-
--- reading its fields
-unfoldable pub echo_at : List ℕ → Result (Echo × List ℕ) ℕ
-echo_at = mapped_at echo_of (pair_at key_at (pair_at (number_at w64) (number_at w32)))
+-- its fields: the session, the number that came last, and how many came
+abbrev pub kept : Kept Echo
+kept = kept_as (before key_field (before u64_field u32_field)) (λ p. record { key = p.0; last = p.1.0; turns = p.1.1 }) (λ e. (e.key, (e.last, e.turns))) (λ _. refl) (λ _. refl) refl
 
 -- its places: 1 Receive, 2 Send, 3 Return
-abbrev pub places : Places EchoPlace
-places = record { all = Receiving ∷ Sending ∷ []; number = elim [ Receiving ↦ 1 | Sending ↦ 2 ]; last = 3; callable = false }
+abbrev pub numbers : Numbers EchoPlace
+numbers = record { all = Receiving ∷ Sending ∷ []; number = elim [ Receiving ↦ 1 | Sending ↦ 2 ]; told = λ callable. elim [ Receiving ↦ refl | Sending ↦ refl ]; few = refl }
 
 -- ---- its laws
 
-pub echo_laws : Laws IsEcho echo echo_at
-unfolding echo_at
-echo_laws = iso_laws echo_of (λ e. (e.key, (e.last, e.turns))) (λ _. refl) (λ _. refl) (pair_laws key_laws (pair_laws u64_laws u32_laws))
-
-pub short : (e : Echo) → IsEcho e → length (echo e) ≤ 32766
-short e h = omega (arith, joined (key e.key) (number w64 e.last ++ number w32 e.turns) 5 12 (key_fits e.key h.0) (joined (number w64 e.last) (number w32 e.turns) 8 4 (number64_fits e.last) (number32_fits e.turns)))
-
-pub are_places : ArePlaces places
-are_places = record { asking = elim [ Receiving ↦ refl | Sending ↦ refl ]; returning = refl }
-
-pub answers_within : AnswersWithin IsEcho form 2 answers
+pub answers_within : AnswersWithin kept.within form 2 answers
 answers_within k = (λ h. (h, (omega arith, omega arith)), (refl, omega arith))
 
-heard_owes : (x : ℕ) (e : Echo) (here : Place) → let with : Resumed = resumed.Got (value.Number x) in Owes form IsEcho (weight Receiving e) e with here (moves Receiving e with here)
+heard_owes : (x : ℕ) (e : Echo) (here : Place) → let with : Resumed = resumed.Got (value.Number x) in Owes form kept.within (weight Receiving e) e with here (moves Receiving e with here)
 heard_owes x e here =
     let t : Echo = record e { last = x; turns = raised (2 ^ 32 - 1) e.turns } in
     let with : Resumed = resumed.Got (value.Number x) in
-    owes_if form IsEcho (weight Receiving e) e with here (nat_le t.turns 1000) (On Sending t (act.Send t.key (value.Number (raised (2 ^ 64 - 1) t.last)))) (Stops t 62)
+    owes_if form kept.within (weight Receiving e) e with here (nat_le t.turns 1000) (On Sending t (act.Send t.key (value.Number (raised (2 ^ 64 - 1) t.last)))) (Stops t 62)
     (λ few. record { limits = λ h small place. ((h.0, (small, omega arith)), (h.0, omega arith)); tags = λ test old given. (refl, refl); falls = omega (arith, leb-true t.turns 1000 few); asks = refl })
-    (λ _. fails_owes form IsEcho (weight Receiving e) e t with here 62 (record { limits = λ h small place. (h.0, (small, omega arith)); passes = λ test old given. refl }) (omega arith) (omega arith))
+    (λ _. fails_owes form kept.within (weight Receiving e) e t with here 62 (record { limits = λ h small place. (h.0, (small, omega arith)); passes = λ test old given. refl }) (omega arith) (omega arith))
 
-moves_owe : (place : EchoPlace) (e : Echo) (with : Resumed) (here : Place) → Owes form IsEcho (weight place e) e with here (moves place e with here)
+moves_owe : (place : EchoPlace) (e : Echo) (with : Resumed) (here : Place) → Owes form kept.within (weight place e) e with here (moves place e with here)
 moves_owe Receiving e (resumed.Got (value.Number x)) here = heard_owes x e here
 moves_owe Receiving e resumed.Ended here = record { limits = λ h small place. (h, tt); tags = λ test old given. (refl, refl); falls = omega arith; asks = refl }
 moves_owe Sending e resumed.Sent here = record { limits = λ h small place. (h, h.0); tags = λ test old given. (refl, refl); falls = omega arith; asks = refl }
-moves_owe place e other here = unnamed_owes form IsEcho (weight place e) e other here (omega arith)
+moves_owe place e other here = unnamed_owes form kept.within (weight place e) e other here (omega arith)
 
-pub is_form : IsForm IsEcho form
+pub is_form : IsForm kept.within form
 is_form = record { starts = λ e here. record { limits = λ h fits place. (h, h.0); tags = λ test old given. (refl, refl); falls = omega arith; asks = refl }; moves = moves_owe }

@@ -1,5 +1,5 @@
 -- The flow set of the four machines: counting, ping, probe and echo.
-use Rattle.std.specs.Prelude.{ℕ, ◌≤◌, ◌^◌, List, [], ◌∷◌, ◌++◌, Result, codes}
+use Rattle.std.specs.Prelude.{ℕ, ◌≤◌, ◌^◌, false, List, [], ◌∷◌, ◌++◌, Result, codes}
 use Rattle.std.proofs.Common.{arith}
 use Rattle.std.specs.Int.{w16, w32}
 use Rattle.net_base.specs.Reading.{number}
@@ -16,7 +16,8 @@ use Rattle.flow_forms.specs.Ways.{by_words, by_init}
 use Rattle.flow_forms.specs.FormLaws.{Way, part_of}
 use Rattle.flow_forms.specs.Parts.{Part}
 use Rattle.flow_forms.specs.Sums.{sum}
-use Rattle.flow_forms.specs.Bytes.{Places, content_of, body_of}
+use Rattle.flow_forms.specs.Bytes.{Numbers, placed, content_of, body_of}
+use Rattle.flow_forms.specs.Kept.{Kept}
 use Rattle.flow_forms.specs.Closing.{closed}
 use Rattle.shipped_flows.specs.Count as count
 use Rattle.shipped_flows.specs.Ping as ping
@@ -55,8 +56,8 @@ calls_cost (call.Take key) = omega arith
 -- ---- what the set means
 
 -- the bytes that a machine's frames are spelt by
-abbrev pub text : {P S : Type 0} → ℕ → Places P → (S → List ℕ) → Frame P S → List ℕ
-text machine places fields = content_of (λ f. machine) (body_of places fields)
+abbrev pub text : {P S : Type 0} → ℕ → Numbers P → Kept S → Frame P S → List ℕ
+text machine numbers kept = content_of (λ f. machine) (body_of (placed false numbers) kept.spelling)
 
 -- `count K` is class 1
 abbrev pub count_way : Way Count
@@ -76,7 +77,7 @@ probe_way = by_words (codes "probe") 10 (then_words (word_below (2 ^ 8)) (then_w
 
 -- what the flows mean
 abbrev pub part : Part Shipped
-part = sum (part_of count.form count_way (text 1 count.places count.count)) (sum (part_of ping.form ping_way (text 2 ping.places ping.ping)) (sum (part_of probe.form probe_way (text 10 probe.places probe.probe)) (part_of echo.form (by_init 2 echo.answers) (text 11 echo.places echo.echo))))
+part = sum (part_of count.form count_way (text 1 count.numbers count.kept)) (sum (part_of ping.form ping_way (text 2 ping.numbers ping.kept)) (sum (part_of probe.form probe_way (text 10 probe.numbers probe.kept)) (part_of echo.form (by_init 2 echo.answers) (text 11 echo.numbers echo.kept))))
 
 -- what the flow set means
 abbrev pub machine : Machine Shipped

@@ -1,24 +1,24 @@
 ghost use Rattle.std.specs.Prelude.{◌≡◌, codes};
 ghost use Rattle.std.proofs.Common.{arith};
-ghost use Rattle.shipped_flows.specs.Count.{begins, sleeps, form, places, IsCount, count, count_at, count_laws, short, are_places, begins_within, is_form};
+ghost use Rattle.shipped_flows.specs.Count.{begins, sleeps, form, numbers, kept, begins_within, is_form};
 
-use flow_forms::{End, Goes, Machine, Numbered, Then, Worded};
+use flow_forms::{End, Fields, Goes, Machine, Numbered, Then, Worded};
 use flow_machine::{Act, Place, Resumed};
 use ledger_types::Value;
-use net_base::{PartFault, Reader, Spelt, TryCopy, Writer};
+use net_base::{PartFault, Reader, Spelt, Writer};
 use std::alloc::{AllocError, Global};
 
 /// The most sleeps that a counting flow is made for.
 const MOST_SLEEPS: u32 = 65534;
 
 /// Where a counting flow waits: 1 until it wakes.
-#[derive(Clone, Copy, Debug, PartialEq, Eq)]
+#[derive(Clone, Copy)]
 pub enum CountPlace {
     Sleeping = 1,
 }
 
 /// The counting flow, class 1: `count K` sleeps K times, each until moment 0, and returns K. K is at most 65,534.
-#[derive(Clone, Copy, Debug, PartialEq, Eq)]
+#[derive(Clone, Copy)]
 pub struct Count {
     /// How many sleeps are left.
     pub left: u32,
@@ -26,12 +26,10 @@ pub struct Count {
     pub all: u32,
 }
 
-type Gone = Goes<CountPlace, Count>;
-
-type Moved = Result<Gone, AllocError>;
+type Moved = Result<Goes<CountPlace, Count>, AllocError>;
 
 impl Count {
-    fn sleeps(self) -> Gone
+    fn sleeps(self) -> Goes<CountPlace, Count>
         ensures { result ≡ sleeps self }
     {
         if self.left == 0 {
@@ -43,9 +41,7 @@ impl Count {
 }
 
 impl Numbered for CountPlace {
-    ghost places = { places };
-
-    ghost are_places = { are_places };
+    ghost numbers = { numbers };
 
     fn number(self) -> u8 {
         self as u8
@@ -54,41 +50,24 @@ impl Numbered for CountPlace {
     fn all() -> &'static [CountPlace] {
         &[CountPlace::Sleeping]
     }
-
-    fn last() -> u8 {
-        2
-    }
-
-    fn callable() -> bool {
-        false
-    }
 }
 
-#[tactic(auto, unfolding(crate::specs::Count::count_at))]
-impl Spelt for Count {
-    ghost spelling = { count };
+impl Fields for Count {
+    ghost kept = { kept };
 
-    ghost within = { IsCount };
-
-    ghost reading = { count_at };
-
-    ghost laws = { count_laws };
-
-    fn read_part(alloc: Global, from: &mut Reader) -> Result<Count, PartFault> {
+    fn read_fields(alloc: Global, from: &mut Reader) -> Result<Count, PartFault> {
         Ok(Count {
             left: Spelt::read_part(alloc, from)?,
             all: Spelt::read_part(alloc, from)?,
         })
     }
 
-    fn write_part(&self, alloc: Global, out: &mut Writer) -> Result<(), AllocError> {
+    fn write_fields(&self, alloc: Global, out: &mut Writer) -> Result<(), AllocError> {
         self.left.write_part(alloc, out)?;
         self.all.write_part(alloc, out)
     }
-}
 
-impl TryCopy for Count {
-    fn try_copy(&self, _alloc: Global) -> Result<Count, AllocError> {
+    fn copy_fields(&self, _alloc: Global) -> Result<Count, AllocError> {
         Ok(*self)
     }
 }
@@ -99,8 +78,6 @@ impl Machine<CountPlace> for Count {
     ghost MACHINE = { 1 };
 
     ghost is_form = { is_form };
-
-    ghost short = { short };
 
     const MACHINE: u8 = 1;
 

@@ -1,17 +1,17 @@
 ghost use Rattle.std.specs.Prelude.{◌≡◌};
-ghost use Rattle.shipped_flows.specs.Echo.{answers, receives, heard, form, places, IsEcho, echo, echo_at, echo_laws, short, are_places, answers_within, is_form};
+ghost use Rattle.shipped_flows.specs.Echo.{answers, receives, heard, form, numbers, kept, answers_within, is_form};
 
-use flow_forms::{Answers, Goes, Machine, Numbered};
+use flow_forms::{Answers, Fields, Goes, Machine, Numbered};
 use flow_machine::{Act, Place, Resumed};
 use ledger_types::Value;
-use net_base::{Key, PartFault, Reader, Spelt, TryCopy, Writer};
+use net_base::{Key, PartFault, Reader, Spelt, Writer};
 use std::alloc::{AllocError, Global};
 
 /// The most numbers that an echo answers.
 const MOST_TURNS: u32 = 1000;
 
 /// Where an echo waits: 1 to receive, 2 to send.
-#[derive(Clone, Copy, Debug, PartialEq, Eq)]
+#[derive(Clone, Copy)]
 pub enum EchoPlace {
     Receiving = 1,
     Sending = 2,
@@ -19,7 +19,7 @@ pub enum EchoPlace {
 
 /// The echo flow, which answers an Init of class 2: it sends each number that comes back, one higher, and returns Unit once the other side
 /// ended. At the 1,001st number it fails with 62.
-#[derive(Clone, Copy, Debug, PartialEq, Eq)]
+#[derive(Clone, Copy)]
 pub struct Echo {
     /// The session.
     pub key: Key,
@@ -29,19 +29,17 @@ pub struct Echo {
     pub turns: u32,
 }
 
-type Gone = Goes<EchoPlace, Echo>;
-
-type Moved = Result<Gone, AllocError>;
+type Moved = Result<Goes<EchoPlace, Echo>, AllocError>;
 
 impl Echo {
-    fn receives(self) -> Gone
+    fn receives(self) -> Goes<EchoPlace, Echo>
         ensures { result ≡ receives self }
     {
         let key = self.key;
         Goes::on(EchoPlace::Receiving, self, Act::Receive { key })
     }
 
-    fn heard(self) -> Gone
+    fn heard(self) -> Goes<EchoPlace, Echo>
         ensures { result ≡ heard self }
     {
         if self.turns > MOST_TURNS {
@@ -54,9 +52,7 @@ impl Echo {
 }
 
 impl Numbered for EchoPlace {
-    ghost places = { places };
-
-    ghost are_places = { are_places };
+    ghost numbers = { numbers };
 
     fn number(self) -> u8 {
         self as u8
@@ -65,27 +61,12 @@ impl Numbered for EchoPlace {
     fn all() -> &'static [EchoPlace] {
         &[EchoPlace::Receiving, EchoPlace::Sending]
     }
-
-    fn last() -> u8 {
-        3
-    }
-
-    fn callable() -> bool {
-        false
-    }
 }
 
-#[tactic(auto, unfolding(crate::specs::Echo::echo_at))]
-impl Spelt for Echo {
-    ghost spelling = { echo };
+impl Fields for Echo {
+    ghost kept = { kept };
 
-    ghost within = { IsEcho };
-
-    ghost reading = { echo_at };
-
-    ghost laws = { echo_laws };
-
-    fn read_part(alloc: Global, from: &mut Reader) -> Result<Echo, PartFault> {
+    fn read_fields(alloc: Global, from: &mut Reader) -> Result<Echo, PartFault> {
         Ok(Echo {
             key: Spelt::read_part(alloc, from)?,
             last: Spelt::read_part(alloc, from)?,
@@ -93,15 +74,13 @@ impl Spelt for Echo {
         })
     }
 
-    fn write_part(&self, alloc: Global, out: &mut Writer) -> Result<(), AllocError> {
+    fn write_fields(&self, alloc: Global, out: &mut Writer) -> Result<(), AllocError> {
         self.key.write_part(alloc, out)?;
         self.last.write_part(alloc, out)?;
         self.turns.write_part(alloc, out)
     }
-}
 
-impl TryCopy for Echo {
-    fn try_copy(&self, _alloc: Global) -> Result<Echo, AllocError> {
+    fn copy_fields(&self, _alloc: Global) -> Result<Echo, AllocError> {
         Ok(*self)
     }
 }
@@ -112,8 +91,6 @@ impl Machine<EchoPlace> for Echo {
     ghost MACHINE = { 11 };
 
     ghost is_form = { is_form };
-
-    ghost short = { short };
 
     const MACHINE: u8 = 11;
 

@@ -1,18 +1,18 @@
 ghost use Rattle.std.specs.Prelude.{◌≡◌, codes};
 ghost use Rattle.std.proofs.Common.{arith};
-ghost use Rattle.shipped_flows.specs.Ping.{begins, opens, receives, counts, form, places, IsPing, ping, ping_at, ping_laws, short, are_places, begins_within, is_form};
+ghost use Rattle.shipped_flows.specs.Ping.{begins, opens, receives, counts, form, numbers, kept, begins_within, is_form};
 
-use flow_forms::{End, Goes, Machine, Numbered, Then, Worded, is_peer};
+use flow_forms::{End, Fields, Goes, Machine, Numbered, Then, Worded, is_peer};
 use flow_machine::{Act, Place, Resumed};
 use ledger_types::Value;
-use net_base::{Key, PartFault, Party, Reader, Spelt, TryCopy, Writer};
+use net_base::{Key, PartFault, Party, Reader, Spelt, Writer};
 use std::alloc::{AllocError, Global};
 
 /// The most numbers that a ping is made for.
 const MOST_NUMBERS: u32 = 1000;
 
 /// Where a ping waits: 1 until its session is open, 2 to receive, 3 to send.
-#[derive(Clone, Copy, Debug, PartialEq, Eq)]
+#[derive(Clone, Copy)]
 pub enum PingPlace {
     Opening = 1,
     Receiving = 2,
@@ -21,7 +21,7 @@ pub enum PingPlace {
 
 /// The ping flow, class 2: `ping P K` opens a session with the echo of the counterparty P, sends back each number that comes, and returns
 /// the K-th. K is 1 to 1,000.
-#[derive(Clone, Copy, Debug, PartialEq, Eq)]
+#[derive(Clone, Copy)]
 pub struct Ping {
     /// The counterparty.
     pub to: Party,
@@ -33,12 +33,10 @@ pub struct Ping {
     pub last: u64,
 }
 
-type Gone = Goes<PingPlace, Ping>;
-
-type Moved = Result<Gone, AllocError>;
+type Moved = Result<Goes<PingPlace, Ping>, AllocError>;
 
 impl Ping {
-    fn receives(self) -> Gone
+    fn receives(self) -> Goes<PingPlace, Ping>
         ensures { result ≡ receives self }
     {
         match self.key {
@@ -47,7 +45,7 @@ impl Ping {
         }
     }
 
-    fn counts(self) -> Gone
+    fn counts(self) -> Goes<PingPlace, Ping>
         ensures { result ≡ counts self }
     {
         let value = Value::Number(self.last);
@@ -62,9 +60,7 @@ impl Ping {
 }
 
 impl Numbered for PingPlace {
-    ghost places = { places };
-
-    ghost are_places = { are_places };
+    ghost numbers = { numbers };
 
     fn number(self) -> u8 {
         self as u8
@@ -73,27 +69,12 @@ impl Numbered for PingPlace {
     fn all() -> &'static [PingPlace] {
         &[PingPlace::Opening, PingPlace::Receiving, PingPlace::Sending]
     }
-
-    fn last() -> u8 {
-        4
-    }
-
-    fn callable() -> bool {
-        false
-    }
 }
 
-#[tactic(auto, unfolding(crate::specs::Ping::ping_at))]
-impl Spelt for Ping {
-    ghost spelling = { ping };
+impl Fields for Ping {
+    ghost kept = { kept };
 
-    ghost within = { IsPing };
-
-    ghost reading = { ping_at };
-
-    ghost laws = { ping_laws };
-
-    fn read_part(alloc: Global, from: &mut Reader) -> Result<Ping, PartFault> {
+    fn read_fields(alloc: Global, from: &mut Reader) -> Result<Ping, PartFault> {
         Ok(Ping {
             to: Spelt::read_part(alloc, from)?,
             left: Spelt::read_part(alloc, from)?,
@@ -102,16 +83,14 @@ impl Spelt for Ping {
         })
     }
 
-    fn write_part(&self, alloc: Global, out: &mut Writer) -> Result<(), AllocError> {
+    fn write_fields(&self, alloc: Global, out: &mut Writer) -> Result<(), AllocError> {
         self.to.write_part(alloc, out)?;
         self.left.write_part(alloc, out)?;
         self.key.write_part(alloc, out)?;
         self.last.write_part(alloc, out)
     }
-}
 
-impl TryCopy for Ping {
-    fn try_copy(&self, _alloc: Global) -> Result<Ping, AllocError> {
+    fn copy_fields(&self, _alloc: Global) -> Result<Ping, AllocError> {
         Ok(*self)
     }
 }
@@ -122,8 +101,6 @@ impl Machine<PingPlace> for Ping {
     ghost MACHINE = { 2 };
 
     ghost is_form = { is_form };
-
-    ghost short = { short };
 
     const MACHINE: u8 = 2;
 

@@ -1,15 +1,15 @@
 ghost use Rattle.std.specs.Prelude.{◌≡◌, codes};
 ghost use Rattle.std.proofs.Common.{arith};
-ghost use Rattle.shipped_flows.specs.Probe.{begins, form, places, IsProbe, probe, probe_at, probe_laws, short, are_places, begins_within, is_form};
+ghost use Rattle.shipped_flows.specs.Probe.{begins, form, numbers, kept, begins_within, is_form};
 
-use flow_forms::{End, Goes, Machine, Numbered, Then, Worded, is_peer, load_of};
+use flow_forms::{End, Fields, Goes, Machine, Numbered, Then, Worded, is_peer, load_of};
 use flow_machine::{Act, Place, Resumed};
 use ledger_types::Value;
-use net_base::{Key, PartFault, Party, Reader, Spelt, TryCopy, Writer};
+use net_base::{Key, PartFault, Party, Reader, Spelt, Writer};
 use std::alloc::{AllocError, Global};
 
 /// Where a probe waits: 1 until its session is open, 2 to receive.
-#[derive(Clone, Copy, Debug, PartialEq, Eq)]
+#[derive(Clone, Copy)]
 pub enum ProbePlace {
     Opening = 1,
     Receiving = 2,
@@ -17,7 +17,7 @@ pub enum ProbePlace {
 
 /// The probe flow, class 10: `probe P CLASS` opens a session of the class with the counterparty P, whose first value is Unit, and returns
 /// Unit once any value came. Where P knows no such class it fails with 50.
-#[derive(Clone, Copy, Debug, PartialEq, Eq)]
+#[derive(Clone, Copy)]
 pub struct Probe {
     /// The counterparty.
     pub to: Party,
@@ -30,9 +30,7 @@ pub struct Probe {
 type Moved = Result<Goes<ProbePlace, Probe>, AllocError>;
 
 impl Numbered for ProbePlace {
-    ghost places = { places };
-
-    ghost are_places = { are_places };
+    ghost numbers = { numbers };
 
     fn number(self) -> u8 {
         self as u8
@@ -41,27 +39,12 @@ impl Numbered for ProbePlace {
     fn all() -> &'static [ProbePlace] {
         &[ProbePlace::Opening, ProbePlace::Receiving]
     }
-
-    fn last() -> u8 {
-        3
-    }
-
-    fn callable() -> bool {
-        false
-    }
 }
 
-#[tactic(auto, unfolding(crate::specs::Probe::probe_at))]
-impl Spelt for Probe {
-    ghost spelling = { probe };
+impl Fields for Probe {
+    ghost kept = { kept };
 
-    ghost within = { IsProbe };
-
-    ghost reading = { probe_at };
-
-    ghost laws = { probe_laws };
-
-    fn read_part(alloc: Global, from: &mut Reader) -> Result<Probe, PartFault> {
+    fn read_fields(alloc: Global, from: &mut Reader) -> Result<Probe, PartFault> {
         Ok(Probe {
             to: Spelt::read_part(alloc, from)?,
             class: Spelt::read_part(alloc, from)?,
@@ -69,15 +52,13 @@ impl Spelt for Probe {
         })
     }
 
-    fn write_part(&self, alloc: Global, out: &mut Writer) -> Result<(), AllocError> {
+    fn write_fields(&self, alloc: Global, out: &mut Writer) -> Result<(), AllocError> {
         self.to.write_part(alloc, out)?;
         self.class.write_part(alloc, out)?;
         self.key.write_part(alloc, out)
     }
-}
 
-impl TryCopy for Probe {
-    fn try_copy(&self, _alloc: Global) -> Result<Probe, AllocError> {
+    fn copy_fields(&self, _alloc: Global) -> Result<Probe, AllocError> {
         Ok(*self)
     }
 }
@@ -88,8 +69,6 @@ impl Machine<ProbePlace> for Probe {
     ghost MACHINE = { 10 };
 
     ghost is_form = { is_form };
-
-    ghost short = { short };
 
     const MACHINE: u8 = 10;
 

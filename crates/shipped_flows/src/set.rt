@@ -17,7 +17,7 @@ pub type Shipped = Sum<
 >;
 
 /// None of the machines calls a subflow. For a call, which none makes, there stands a counting flow that wakes once and returns 0.
-#[derive(Clone, Copy, Debug)]
+#[derive(Clone, Copy)]
 pub struct NoCalls;
 
 impl Opens<Shipped> for NoCalls {

@@ -13,7 +13,7 @@ use Rattle.flow_machine.specs.declared.flow_set.MakeFault.{MakeFault}
 use Rattle.flow_machine.specs.declared.flow_set.MakeFault.TheVariants as make
 use Rattle.flow_forms.specs.Arguments.{spelt_in}
 use Rattle.flow_forms.specs.Ways.{words_of, fields_of, begins_of, by_words}
-use Rattle.cash_flows.specs.Again.{BeginsByWords}
+use Rattle.flow_forms.specs.Again.{BeginsByWords}
 
 -- arguments within their limits, which are short, are read from their bytes
 read_again : {A : Type 0} {argued : A → Type 0} {exact : Type 0} (spelling : A → List ℕ) (reading : List ℕ → Result (A × List ℕ) ℕ) (a : A) → LawsIf exact argued spelling reading → argued a → length (spelling a) ≤ 65535 → spelt_in reading (spelling a) ≡ Ok a
