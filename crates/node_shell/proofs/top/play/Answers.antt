@@ -78,11 +78,10 @@ returns-in-Ok-clause-attached g c =
     let own = map g.B.Disk.seen c.args.own.items in
     let back = c.into_disks.result.items in
     let last = c.session-end.new.net in
-    let seen = λ d. roomless (g.B.Disk.seen d) in
     let count : length own ≡ c.args.network.nodes = length-map c.args.own.items g.B.Disk.seen ∙ c.requires.disks in
     let out : attached_as (map g.B.Disk.seen back) ≡ names_of last.nodes =
-    map_both (λ (d : DiskView). d.attached) g.B.Disk.seen back ∙ sym (map_both (λ (d : DiskView). d.attached) seen back) ∙ ap attached_as c.into_disks.ensures ∙ map_both (λ (d : DiskView). d.attached) (λ (n : NodeSeen). n.disk) last.nodes in
-    out ∙ script_keeps m f c.in-Ok.net _ _ _ _ _ last c.session-end.result.status c.session-end.ensures.went ∙ begun_names f c.args.network.nodes (party c.args.network.notary) own c.in-Ok.net.now c.in-Ok.net.nodes count c.in-Ok.ensures.boots
+    map_both (λ (d : DiskView). d.attached) g.B.Disk.seen back ∙ sym (map_both (λ (d : DiskView). d.attached) (λ d. roomless (g.B.Disk.seen d)) back) ∙ ap attached_as c.into_disks.ensures ∙ map_both (λ (d : DiskView). d.attached) (λ (n : NodeSeen). n.disk) last.nodes in
+    out ∙ script_keeps m f c.in-Ok.net _ _ _ _ _ last _ c.session-end.ensures.went ∙ begun_names f c.args.network.nodes (party c.args.network.notary) own c.in-Ok.net.now c.in-Ok.net.nodes count c.in-Ok.ensures.boots
 
 pub returns-in-Err-clause-attached : goal.returns-in-Err-clause-attached
 returns-in-Err-clause-attached g c =
