@@ -132,6 +132,7 @@ impl<D: Disk> Journal<D> {
         ensures cause { IfErr result (λ r. r.why ≡ OpenFault.Fault → Rose (D.seen disk).faults (D.seen r.disk).faults) }
         ensures later { MatchResult result (λ r. (D.seen disk).faults ≤ r.0.disk.faults) (λ r. (D.seen disk).faults ≤ (D.seen r.disk).faults) }
         ensures calm { (D.seen disk).calm ≡ true → MatchResult result (λ r. r.0.disk.calm ≡ true) (λ r. ((D.seen r.disk).calm ≡ true) × (r.why ≡ OpenFault.Fault → ⊥)) }
+        ensures attached { MatchResult result (λ r. r.0.disk.attached ≡ (D.seen disk).attached) (λ r. (D.seen r.disk).attached ≡ (D.seen disk).attached) }
         ensures of_file { MatchResult result (λ r. (r.0.disk.of_file ≡ (D.seen disk).of_file) × (r.0.disk.tells ≡ (D.seen disk).tells)) (λ r. ((D.seen r.disk).of_file ≡ (D.seen disk).of_file) × ((D.seen r.disk).tells ≡ (D.seen disk).tells)) }
     {
         let mut disk = disk;

@@ -169,6 +169,7 @@ fn begin<D: Disk>(alloc: Global, disk: &mut D, id: &Identity, bytes: &[u8]) -> R
     ensures later { (D.seen disk.old).faults ≤ (D.seen disk.new).faults }
     ensures cause { IsErrOf result OpenFault.Fault → Rose (D.seen disk.old).faults (D.seen disk.new).faults }
     ensures calm { (D.seen disk.old).calm ≡ true → ((D.seen disk.new).calm ≡ true) × (IsErrOf result OpenFault.Fault → ⊥) }
+    ensures attached { (D.seen disk.new).attached ≡ (D.seen disk.old).attached }
     ensures of_file { ((D.seen disk.new).of_file ≡ (D.seen disk.old).of_file) × ((D.seen disk.new).tells ≡ (D.seen disk.old).tells) }
 {
     disk.make_room(alloc, 17, 3)?;
@@ -215,6 +216,7 @@ pub fn prepare<D: Disk>(alloc: Global, disk: &mut D, id: &Identity) -> Result<Re
     ensures later { (D.seen disk.old).faults ≤ (D.seen disk.new).faults }
     ensures cause { IsErrOf result OpenFault.Fault → Rose (D.seen disk.old).faults (D.seen disk.new).faults }
     ensures calm { (D.seen disk.old).calm ≡ true → ((D.seen disk.new).calm ≡ true) × (IsErrOf result OpenFault.Fault → ⊥) }
+    ensures attached { (D.seen disk.new).attached ≡ (D.seen disk.old).attached }
     ensures of_file { ((D.seen disk.new).of_file ≡ (D.seen disk.old).of_file) × ((D.seen disk.new).tells ≡ (D.seen disk.old).tells) }
 {
     let bytes = read_all(alloc, disk)?;

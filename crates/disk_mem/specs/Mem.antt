@@ -1,9 +1,10 @@
 -- A disk in memory, as contracts see it.
-use Rattle.std.specs.Prelude.{◌≡◌, ℕ, ◌+◌, ◌-◌, ◌*◌, ◌/◌, take, drop, ◌<◌, ◌≤◌, min, List, length, Contains, map, Vec, Option, Some, None, vec_len, vec_capacity, Bool, true, false, not, ◌&&◌}
-use Rattle.outside.specs.Disk.{DiskState, DiskView, Durable, IsImage, IsFilled, overwritten, written, blows}
+use Rattle.std.specs.Prelude.{◌≡◌, ℕ, ◌+◌, ◌-◌, ◌*◌, ◌/◌, take, drop, ◌<◌, ◌≤◌, min, List, length, Contains, map, Vec, Option, Some, None, option_map, vec_len, vec_capacity, Bool, true, false, not, ◌&&◌}
+use Rattle.outside.specs.Disk.{Attached, DiskState, DiskView, Durable, IsImage, IsFilled, overwritten, written, blows}
 use Rattle.disk_mem.specs.declared.lay.Medium.{Medium}
 use Rattle.disk_mem.specs.declared.lay.Last.{Last}
 use Rattle.disk_mem.specs.declared.lay.Fuse.{Fuse}
+use Rattle.disk_mem.specs.declared.label.Label.{Label}
 use Rattle.std.specs.declared.snapshot.Snapshot.{Snapshot}
 use Rattle.std.specs.declared.alloc.Global.{Global}
 
@@ -53,6 +54,8 @@ pub record MemView : Type 0 where
   pub power : Bool
   -- at this write or sync from now, counted from 1, the power goes, with this outcome
   pub fuse : Option (ℕ × ℕ)
+  -- what it was attached as last, none before that
+  pub attached : Option Attached
   pub room_end : ℕ
   pub room_writes : ℕ
 
@@ -63,7 +66,7 @@ has_no_fuse (Some f) = false
 
 -- as every disk is seen: it tells its content, is no file, and is calm where it has power and no fuse
 abbrev pub disk_of : MemView → DiskView
-disk_of m = record { tells = true; state = m.state; faults = m.faults; calm = m.power && has_no_fuse m.fuse; power = m.power; fuse = m.fuse; of_file = false; room_end = m.room_end; room_writes = m.room_writes }
+disk_of m = record { tells = true; state = m.state; faults = m.faults; calm = m.power && has_no_fuse m.fuse; power = m.power; fuse = m.fuse; of_file = false; attached = m.attached; room_end = m.room_end; room_writes = m.room_writes }
 
 -- a write or a sync is done
 abbrev pub answers : MemView → Bool
@@ -82,6 +85,11 @@ pub record CutsBy (outcome : ℕ) (old new : MemView) : Type 0 where
 abbrev pub fuse_of : Option Fuse → Option (ℕ × ℕ)
 fuse_of None = None
 fuse_of (Some f) = Some (f.calls, f.outcome)
+
+-- the folder and the name that a label is of
+abbrev pub attached_of : Option Label → Option Attached
+attached_of None = None
+attached_of (Some l) = Some (record { folder = option_map (λ s. s.bytes) l.folder; name = l.name.bytes })
 
 -- what a disk keeps now, what a cut may leave now, and what it might have left at each moment before
 abbrev pub state_of : List ℕ → Medium → List (Snapshot Medium) → DiskState

@@ -1,8 +1,9 @@
-ghost use Rattle.std.specs.Prelude.{◌≡◌, ◌≤◌, ◌<◌, ◌+◌, ◌↔◌, [], ℕ, length, take, drop, true, false, not, IsOk, Some, None, OnOk, OnErr, IfOk};
+ghost use Rattle.std.specs.Prelude.{◌≡◌, ◌≤◌, ◌<◌, ◌+◌, ◌↔◌, [], ℕ, length, take, drop, true, false, not, IsOk, Some, None, OnOk, OnErr, IfOk, option_map};
 ghost use Rattle.outside.specs.Disk.{CutsPower, LeavesBy, KeepsImage, Syncs, written, burnt, blows, clean};
 ghost use Rattle.outside.specs.Faults.{HasCause, Rose};
 ghost use Rattle.disk_mem.specs.Mem.{CutsBy, answers, disk_of, wrote};
 
+use crate::label::Label;
 use crate::lay::{Fuse, Last, Medium, copy_out, cover, leave, note, put_bytes, remember, settle};
 use outside::{AttachFault, Bay, Disk, Failed, NoFuse};
 use std::alloc::{AllocError, Global};
@@ -25,10 +26,11 @@ pub struct MemDisk {
     faults: u64,
     powered: bool,
     fuse: Option<Fuse>,
+    attached: Option<Label>,
 }
 
 impl Model for MemDisk {
-    ghost use Rattle.disk_mem.specs.Mem.{MemView, state_of, last_of, fuse_of, IsSound};
+    ghost use Rattle.disk_mem.specs.Mem.{MemView, state_of, last_of, fuse_of, attached_of, IsSound};
 
     ghost Value = { MemView };
 
@@ -38,6 +40,7 @@ impl Model for MemDisk {
       faults = m.faults;
       power = m.powered;
       fuse = fuse_of m.fuse;
+      attached = attached_of m.attached;
       room_end = m.end;
       room_writes = m.writes;
     } };
@@ -50,6 +53,7 @@ impl MemDisk {
     pub fn new(alloc: Global) -> MemDisk
         ensures state { result.state ≡ record { kept = []; now = clean []; past = [] } }
         ensures calm { (result.power ≡ true) × (result.fuse ≡ None) × (result.faults ≡ 0) }
+        ensures attached { result.attached ≡ None }
     {
         let content = Vec::new(alloc);
         let was = Snapshot::of(&content);
@@ -72,6 +76,7 @@ impl MemDisk {
             faults: 0,
             powered: true,
             fuse: None,
+            attached: None,
         }
     }
 
@@ -274,10 +279,12 @@ impl Disk for MemDisk {
 }
 
 impl Bay for MemDisk {
-    fn attach(&mut self, _alloc: Global, _dir: Option<&str>, _name: &str) -> Result<(), AttachFault>
+    fn attach(&mut self, _alloc: Global, dir: Option<&str>, name: &str) -> Result<(), AttachFault>
         ensures answers { IsOk result }
-        ensures same { self.new ≡ self.old }
+        ensures attached { self.new.attached ≡ Some (record { folder = option_map (λ s. s.now) dir.entry; name = name.now }) }
+        ensures same { self.new ≡ record self.old { attached = self.new.attached } }
     {
+        self.attached = Some(Label::of(dir, name));
         Ok(())
     }
 

@@ -46,3 +46,4 @@ pub mod KeepingWays
 pub mod KeepingCalls
 pub mod KeepingMoments
 pub mod KeepingCauses
+pub mod Naming

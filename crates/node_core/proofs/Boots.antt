@@ -51,6 +51,7 @@ pub record Opening (id : Identity) (old : DiskView) (journal : JournalView) (lis
   pub power : (old.power ≡ true) × (journal.disk.power ≡ true)
   pub burns : old.tells ≡ true → Burns (opening_calls old.state.kept) old journal.disk
   pub no_more : BurnsUpTo 7 old journal.disk
+  pub attached : journal.disk.attached ≡ old.attached
   pub rest : (journal.disk.of_file ≡ old.of_file) × (journal.disk.tells ≡ old.tells)
 
 pub opening_tied : (id : Identity) (old : DiskView) (journal : JournalView) (list : List (ℕ × List ℕ)) (bodies : List (List ℕ)) → Opening id old journal list → bodies ≡ bodies_in list → Tied id journal bodies
@@ -70,6 +71,7 @@ pub opening_opens : (id : Identity) (old : DiskView) (journal : JournalView) (li
 opening_opens id old journal list o = record {
   moves = record {
     file = o.rest.0;
+    attached = o.attached;
     tells = o.rest.1;
     later = o.later;
     images = o.moments;
@@ -107,6 +109,7 @@ pub record Closing (id : Identity) (old : DiskView) (why : OpenFault) (new : Dis
   pub power : (why ≡ open_fault.Fault → ⊥) → (old.power ≡ true) × (new.power ≡ true)
   pub burns : (why ≡ open_fault.Fault → ⊥) → Burns 1 old new
   pub no_more : BurnsUpTo 7 old new
+  pub attached : new.attached ≡ old.attached
   pub rest : (new.of_file ≡ old.of_file) × (new.tells ≡ old.tells)
 
 refuses : (id : Identity) (old new : DiskView) (why : OpenFault) → Closing id old why new → Refuses id why old new
@@ -132,7 +135,7 @@ gave_up (open_fault.Damaged at) h = absurd h
 
 pub unopened : {F : Type 0} (f : Reads F) (id : Identity) (old new : DiskView) (why : OpenFault) → Closing id old why new → Unbooted f id (roomless old) (boot_of why) (roomless new)
 unopened f id old new why c = record {
-  moves = record { file = c.rest.0; tells = c.rest.1; later = c.later; images = λ told. (c.moments told).0; kept = λ told. (c.moments told).1 };
+  moves = record { file = c.rest.0; attached = c.attached; tells = c.rest.1; later = c.later; images = λ told. (c.moments told).0; kept = λ told. (c.moments told).1 };
   form = record { sound = c.sound; young = c.young };
   same = λ other. c.kept (λ is. other (ap boot_of is));
   bytes = λ other told journal. (c.bytes (λ is. other (ap boot_of is)) told).0;

@@ -38,6 +38,7 @@ old_or_more list bodies body c same h = subst (λ l. (journal_of c ≡ l) ⊎ (j
 pub stays_moves : (old new : JournalView) (bodies : List (List ℕ)) (body : List ℕ) → Tied old.of old bodies → Stays old new body → Moves (roomless old.disk) (roomless new.disk) (OldOrMore bodies body)
 stays_moves old new bodies body tied h = record {
   file = h.rest.0.of_file;
+  attached = h.rest.0.attached;
   tells = h.rest.0.tells;
   later = h.later;
   images = λ told. weaker old.disk.state new.disk.state _ (OldOrMore bodies body old.disk.state) (λ c p. old_or_more (journal_of old.disk.state.kept) bodies body c (tied.kept told) p.0) (h.moments told);

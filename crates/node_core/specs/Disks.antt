@@ -1,6 +1,6 @@
 -- What a call leaves of a node's disk.
-use Rattle.std.specs.Prelude.{◌≡◌, ◌⊎◌, ℕ, ◌≤◌, List, ◌∷◌, [], ◌++◌, true, false, None}
-use Rattle.outside.specs.Disk.{DiskState, DiskView, IsImage, EachImage, IfTold, CutsPower, LeavesBy}
+use Rattle.std.specs.Prelude.{◌≡◌, ◌⊎◌, ℕ, ◌≤◌, List, ◌∷◌, [], ◌++◌, map, Option, true, false, None}
+use Rattle.outside.specs.Disk.{Attached, DiskState, DiskView, IsImage, EachImage, IfTold, CutsPower, LeavesBy}
 use Rattle.net_base.specs.declared.names.Identity.{Identity}
 use Rattle.disk_journal.specs.Journal.{IsSound, IsYoung, journal_of}
 
@@ -8,9 +8,14 @@ use Rattle.disk_journal.specs.Journal.{IsSound, IsYoung, journal_of}
 abbrev pub roomless : DiskView → DiskView
 roomless v = record v { room_end = 0; room_writes = 0 }
 
--- at every moment since the call began each image is as said, and so is what is kept; nothing is said of a disk that doesn't tell
+-- what each of these disks is attached as
+abbrev pub attached_as : List DiskView → List (Option Attached)
+attached_as disks = map (λ d. d.attached) disks
+
+-- at every moment since the call began each image is as said, and so is what is kept, and what the disk is attached as stays; nothing is said of the images of a disk that doesn't tell
 pub record Moves (old new : DiskView) (may : DiskState → List ℕ → Type 0) : Type 0 where
   pub file : new.of_file ≡ old.of_file
+  pub attached : new.attached ≡ old.attached
   pub tells : new.tells ≡ old.tells
   pub later : old.faults ≤ new.faults
   pub images : IfTold old new (λ d e. EachImage d e (may d))
@@ -42,6 +47,7 @@ OneOf d c = IsImage d.now c
 -- the power went now, and nothing else changed but that; what was pending is left as the outcome says
 pub record CutsNow (outcome : ℕ) (old new : DiskView) : Type 0 where
   pub file : new.of_file ≡ old.of_file
+  pub attached : new.attached ≡ old.attached
   pub tells : new.tells ≡ old.tells
   pub faults : new.faults ≡ old.faults
   pub state : IfTold old new CutsPower

@@ -15,7 +15,7 @@ use Rattle.node_core.specs.Takes.{AcceptsAs}
 
 -- no disk at all
 abbrev pub no_disk : DiskView
-no_disk = record { tells = false; state = record { kept = []; now = clean []; past = [] }; faults = 0; calm = false; power = false; fuse = None; of_file = false; room_end = 0; room_writes = 0 }
+no_disk = record { tells = false; state = record { kept = []; now = clean []; past = [] }; faults = 0; calm = false; power = false; fuse = None; of_file = false; attached = None; room_end = 0; room_writes = 0 }
 
 -- what contracts see of the disk, wherever it is
 abbrev pub disk_in : {D F : Type 0} → (D → DiskView) → State D F → DiskView

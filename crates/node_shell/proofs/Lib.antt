@@ -8,3 +8,4 @@ pub mod Readying
 pub mod Running
 pub mod Resting
 pub mod Opening
+pub mod Naming

@@ -134,7 +134,7 @@ boot_calm id d b k list same o =
     (omega (arith, faults, later), λ calm. ap (λ (x : DiskView). x.calm) same ∙ o.calm calm)
 
 -- a making ready before changes nothing of what is kept
-pub own_since : {F : Type 0} (f : Reads F) (id : Identity) (d k : DiskView) → k ≡ record d { faults = k.faults } → KeepsOwn f id k → KeepsOwn f id d
+pub own_since : {F : Type 0} (f : Reads F) (id : Identity) (d k : DiskView) → k ≡ record d { faults = k.faults; attached = k.attached } → KeepsOwn f id k → KeepsOwn f id d
 own_since f id d k same own = λ tells.
     subst (λ (x : DiskView). (refusal id x.state.kept ≡ None) × (misfit f id.notary id.nodes id.party (placed 16 (journal_of x.state.kept)) ≡ None)) same (own (ap (λ (x : DiskView). x.tells) same ∙ tells))
 
@@ -188,6 +188,17 @@ is_too_long status.DiskFault is = cc
 is_too_long status.NoMemory is = cc
 is_too_long status.BadJournal is = cc
 
+-- the statuses of a disk that was not made ready are 6 and 7
+pub opening_number : (s : Status) (number : ℕ) → IsOpeningStatus s → number ≡ number_of_status s → (number ≡ 6) ⊎ (number ≡ 7)
+opening_number status.DiskFault number is same = inl same
+opening_number status.NoMemory number is same = inr same
+opening_number status.Finished number is same = absurd is
+opening_number status.BadWords number is same = absurd is
+opening_number status.TooLong number is same = absurd is
+opening_number status.ReadFault number is same = absurd is
+opening_number status.WriteFault number is same = absurd is
+opening_number status.BadJournal number is same = absurd is
+
 pub is_bad_journal : (s : Status) → number_of_status s ≡ 8 → s ≡ status.BadJournal
 is_bad_journal status.BadJournal is = refl
 is_bad_journal status.Finished is = cc
@@ -199,7 +210,7 @@ is_bad_journal status.DiskFault is = cc
 is_bad_journal status.NoMemory is = cc
 
 -- a making ready before changes no cause
-cause_since : {F : Type 0} (f : Reads F) (id : Identity) (why : BootFault) (d k b : DiskView) → k ≡ record d { faults = k.faults } → d.faults ≤ k.faults → HasCause f id k why b → HasCause f id d why b
+cause_since : {F : Type 0} (f : Reads F) (id : Identity) (why : BootFault) (d k b : DiskView) → k ≡ record d { faults = k.faults; attached = k.attached } → d.faults ≤ k.faults → HasCause f id k why b → HasCause f id d why b
 cause_since f id boot.Fault d k b same later h = fails_since d k b same later h
 cause_since f id boot.Memory d k b same later h = tt
 cause_since f id boot.NotAJournal d k b same later h = λ tells.
@@ -209,10 +220,10 @@ cause_since f id (boot.WrongNode found) d k b same later h = λ tells.
 cause_since f id (boot.Damaged at) d k b same later h = λ tells.
     subst (λ (x : DiskView). ((refusal id x.state.kept ≡ Some (open_fault.Damaged at)) ⊎ MisfitsAt f id x.state.kept at) × (b.state.kept ≡ x.state.kept)) same (h (ap (λ (x : DiskView). x.tells) same ∙ tells))
 
-opened_since : (id : Identity) (d k b : DiskView) → k ≡ record d { faults = k.faults } → IsOpened id k b → IsOpened id d b
+opened_since : (id : Identity) (d k b : DiskView) → k ≡ record d { faults = k.faults; attached = k.attached } → IsOpened id k b → IsOpened id d b
 opened_since id d k b same h = subst (λ (x : DiskView). IsOpened id x b) same h
 
-refused_since : (why : BootFault) (d k b : DiskView) → k ≡ record d { faults = k.faults } → AfterRefusal why k b → AfterRefusal why d b
+refused_since : (why : BootFault) (d k b : DiskView) → k ≡ record d { faults = k.faults; attached = k.attached } → AfterRefusal why k b → AfterRefusal why d b
 refused_since why d k b same h = subst (λ (x : DiskView). AfterRefusal why x b) same h
 
 calm_since : (d k b : DiskView) → StaysBut d k → KeepsCalm k b → KeepsCalm d b

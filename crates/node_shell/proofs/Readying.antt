@@ -1,12 +1,15 @@
 -- Disks that are made ready, one after the other.
-use Rattle.std.proofs.Common.{◌≡◌, ⊎_elim, ℕ, ◌*◌, List, length, map, Some, refl, sym, ◌∙◌, ap, subst, arith, slice_set}
+use Rattle.std.proofs.Common.{◌≡◌, ⊎_elim, ℕ, ◌+◌, ◌*◌, List, length, map, Some, refl, sym, ◌∙◌, ap, subst, arith, slice_set}
 use Rattle.std.specs.Prelude.{◌<◌, ◌≤◌}
 use Rattle.std.specs.List.{slice_get}
-use Rattle.net_base.proofs.Lists.{get_there, map_set, set_length, get_beside, get_map, get_set}
+use Rattle.std.proofs.lemmas.Bool.{cases_lt}
+use Rattle.std.proofs.lemmas.Option.{same_Some}
+use Rattle.net_base.proofs.Lists.{get_there, get_other, map_set, set_length, get_beside, get_map, get_set, of_map}
 use Rattle.outside.specs.Disk.{DiskView}
 use Rattle.outside.specs.Faults.{Rose}
-use Rattle.node_shell.specs.Pairs.{first_disks}
-use Rattle.node_shell.specs.Runs.{Fails, OneFails, StaysBut, AllStay}
+use Rattle.node_core.specs.Disks.{attached_as}
+use Rattle.node_shell.specs.Pairs.{first_disks, own_name}
+use Rattle.node_shell.specs.Runs.{Fails, OneFails, StaysBut, AllStay, AreNamed}
 use Rattle.node_shell.proofs.Weaving.{first_at, first_count}
 
 -- ---- counts of faults
@@ -15,14 +18,14 @@ use Rattle.node_shell.proofs.Weaving.{first_at, first_count}
 rose_since : (a b c : ℕ) → a ≤ b → Rose b c → Rose a c
 rose_since a b c first then = omega (arith, first, then)
 
-pub fails_since : (d k b : DiskView) → k ≡ record d { faults = k.faults } → d.faults ≤ k.faults → Fails k b → Fails d b
+pub fails_since : (d k b : DiskView) → k ≡ record d { faults = k.faults; attached = k.attached } → d.faults ≤ k.faults → Fails k b → Fails d b
 fails_since d k b same later f = record { rose = rose_since d.faults k.faults b.faults later f.rose; uneasy = λ calm. f.uneasy (ap (λ (x : DiskView). x.calm) same ∙ calm) }
 
 pub stay_same : (ds : List DiskView) → AllStay ds ds
 stay_same ds = record { count = refl; each = λ p d e at there. let same : d ≡ e = cc in subst (StaysBut d) same (refl, omega arith) }
 
 pub stays_then : (a b c : DiskView) → StaysBut a b → StaysBut b c → StaysBut a c
-stays_then a b c one two = (two.0 ∙ ap (λ (x : DiskView). record x { faults = c.faults }) one.0, omega (arith, one.1, two.1))
+stays_then a b c one two = (two.0 ∙ ap (λ (x : DiskView). record x { faults = c.faults; attached = c.attached }) one.0, omega (arith, one.1, two.1))
 
 pub stay_then : (ds ks es : List DiskView) → AllStay ds ks → AllStay ks es → AllStay ds es
 stay_then ds ks es one two = record {
@@ -72,3 +75,52 @@ one_more_fails f all cur i n x y stay at within fails =
     let old = get_beside (map f cur) (map f all) i (f x) stay.count here in
     let stays = stay.each i old.0 (f x) old.1 here in
     record { place = i; own = within; before = old.0; after = f y; at = old.1; now = ap (λ l. slice_get l i) (map_set f cur i y) ∙ get_there (map f cur) i (f x) (f y) here; fails = fails_since old.0 (f x) (f y) stays.0 stays.1 fails }
+
+-- ---- names
+
+-- none is attached yet
+pub named_none : (ds : List DiskView) → AreNamed 0 ds ds
+named_none ds = record { own = λ p e before at. absurd (omega (arith, before)); rest = λ p d e above at there. ap (λ (x : DiskView). x.attached) (same_Some _ _ (sym there ∙ at)) }
+
+-- names are kept where each disk is attached as it was
+pub named_same : (place : ℕ) (ds ks es : List DiskView) → attached_as es ≡ attached_as ks → AreNamed place ds ks → AreNamed place ds es
+named_same place ds ks es same named = record {
+  own = λ p e before at. let k = under p e at in sym k.2 ∙ named.own p k.0 before k.1;
+  rest = λ p d e above at there. let k = under p e there in sym k.2 ∙ named.rest p d k.0 above at k.1;
+}
+  where
+    under : (p : ℕ) (e : DiskView) → slice_get es p ≡ Some e → (k : DiskView) × (slice_get ks p ≡ Some k) × (k.attached ≡ e.attached)
+    under p e at = of_map (λ (x : DiskView). x.attached) ks p e.attached (ap (λ l. slice_get l p) (sym same) ∙ get_map (λ (x : DiskView). x.attached) es p e at)
+
+module _ {X : Type 0} (f : X → DiskView) (all cur : List X) (i : ℕ) (x y : X) (named : AreNamed i (map f all) (map f cur)) (at : slice_get cur i ≡ Some x) where
+  -- the disk there is the new one
+  there_is : (e : DiskView) → slice_get (map f (slice_set cur i y)) i ≡ Some e → e ≡ f y
+  there_is e new = same_Some _ _ (sym new ∙ ap (λ l. slice_get l i) (map_set f cur i y) ∙ get_there (map f cur) i (f x) (f y) (get_map f cur i x at))
+
+  -- and all others are as they were
+  beside_is : (p : ℕ) (e : DiskView) → (p ≡ i → ⊥) → slice_get (map f (slice_set cur i y)) p ≡ Some e → slice_get (map f cur) p ≡ Some e
+  beside_is p e other new = sym (get_other (map f cur) i (f y) p other) ∙ sym (ap (λ l. slice_get l p) (map_set f cur i y)) ∙ new
+
+  -- one disk more was attached under its name
+  pub named_more : (f y).attached ≡ Some (own_name i) → AreNamed (i + 1) (map f all) (map f (slice_set cur i y))
+  named_more is = record {
+    own = λ p e before new. ⊎_elim
+        (λ lt. named.own p e lt (beside_is p e (λ same. omega (arith, same, lt)) new))
+        (λ above.
+        let here : p ≡ i = omega (arith, before, above) in
+        ap (λ (d : DiskView). d.attached) (there_is e (subst (λ q. slice_get (map f (slice_set cur i y)) q ≡ Some e) here new)) ∙ is ∙ ap (λ q. Some (own_name q)) (sym here))
+        (cases_lt p i);
+    rest = λ p d e above old new. named.rest p d e (omega (arith, above)) old (beside_is p e (λ same. omega (arith, same, above)) new);
+  }
+
+  -- or the attach was refused
+  pub named_stays : (f y).attached ≡ (f x).attached → AreNamed i (map f all) (map f (slice_set cur i y))
+  named_stays is = record {
+    own = λ p e before new. named.own p e before (beside_is p e (λ same. omega (arith, same, before)) new);
+    rest = λ p d e above old new. ⊎_elim
+        (λ lt. named.rest p d e above old (beside_is p e (λ same. omega (arith, same, lt)) new))
+        (λ le.
+        let here : p ≡ i = omega (arith, above, le) in
+        ap (λ (k : DiskView). k.attached) (there_is e (subst (λ q. slice_get (map f (slice_set cur i y)) q ≡ Some e) here new)) ∙ is ∙ named.rest p d (f x) above old (subst (λ q. slice_get (map f cur) q ≡ Some (f x)) (sym here) (get_map f cur i x at)))
+        (cases_lt i p);
+  }

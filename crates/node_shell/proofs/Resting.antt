@@ -254,7 +254,7 @@ module _ {F : Type 0} (m : Machine F) (f : Reads F) (nodes : ℕ) (notary : Part
         let old = get_beside es ds p under.0 stay.count under.1 in
         let stays = stay.each p old.0 under.0 old.1 under.1 in
         let s = shows.each p (node_over nodes notary p old.0) found.0 (first_at nodes notary ds p old.0 old.1) found.1 in
-        let t : NodeShows e p (node_over nodes notary p (record old.0 { faults = under.0.faults })) (faulty under.0.faults found.0) = record { identity_is = refl; tells = s.tells; images = s.images; kept = s.kept; journal = s.journal; counts = refl; calm_is = s.calm_is; file_is = s.file_is; acked_is = s.acked_is; opens = s.opens } in
+        let t : NodeShows e p (node_over nodes notary p (record old.0 { faults = under.0.faults; attached = under.0.attached })) (faulty under.0.faults found.0) = record { identity_is = refl; tells = s.tells; images = s.images; kept = s.kept; journal = s.journal; counts = refl; calm_is = s.calm_is; file_is = s.file_is; acked_is = s.acked_is; opens = s.opens } in
         subst (NodeShows e p k) found.2
         (subst (λ (z : NodeSeen). NodeShows e p z (faulty under.0.faults found.0)) (sym under.2)
         (subst (λ (v : DiskView). NodeShows e p (node_over nodes notary p v) (faulty under.0.faults found.0)) (sym stays.0) t))

@@ -1,13 +1,15 @@
 -- All disks of a run, by the first ones of its nodes.
-use Rattle.std.proofs.Common.{◌≡◌, ℕ, ◌+◌, ◌*◌, List, length, map, drop, Some, sym, ◌∙◌, ap, subst, arith}
+use Rattle.std.proofs.Common.{◌≡◌, ℕ, ◌+◌, ◌*◌, List, length, map, drop, Option, Some, sym, ◌∙◌, ap, subst, arith}
 use Rattle.std.specs.Prelude.{◌<◌, ◌≤◌}
 use Rattle.std.specs.List.{slice_get}
 use Rattle.std.proofs.lemmas.List.{length-map}
-use Rattle.outside.specs.Disk.{DiskView}
+use Rattle.outside.specs.Disk.{Attached, DiskView}
+use Rattle.net_base.proofs.Lists.{map_both}
+use Rattle.node_core.specs.Disks.{attached_as}
 use Rattle.node_shell.specs.Pairs.{first_disks, woven}
-use Rattle.node_shell.specs.Runs.{StaysBut, OneFails, AllStay}
-use Rattle.node_shell.proofs.Weaving.{woven_count, firsts, seconds, behind}
-use Rattle.node_shell.proofs.Readying.{first_stay, first_fails}
+use Rattle.node_shell.specs.Runs.{StaysBut, OneFails, AllStay, AreNamed}
+use Rattle.node_shell.proofs.Weaving.{map_woven, woven_count, firsts, seconds, behind}
+use Rattle.node_shell.proofs.Readying.{first_stay, first_fails, named_same}
 
 -- the disks were made ready, the first ones of the nodes were taken out, and others, as many, were put back
 pub record Handed {X : Type 0} (seen : X → DiskView) (n : ℕ) (olds ready own rest back ends : List X) : Type 0 where
@@ -48,6 +50,18 @@ module _ {X : Type 0} (seen : X → DiskView) (n : ℕ) (olds ready own rest bac
   pub last_second : (p : ℕ) (d e : DiskView) → p < n → slice_get (map seen olds) (2 * p + 1) ≡ Some d → slice_get (map seen ends) (2 * p + 1) ≡ Some e → StaysBut d e
   last_second p d e within at there =
       h.stay.each (2 * p + 1) d e at (seconds seen own rest ready n h.taken h.count enough p within ∙ sym (seconds seen back rest ends n (sym h.put) (h.same ∙ h.count) enough p within) ∙ there)
+
+  abbrev name : X → Option Attached
+  name x = (seen x).attached
+
+  -- each disk is attached as it was when all were made ready, where those that were put back are
+  pub last_named : (place : ℕ) → attached_as (map seen back) ≡ attached_as (map seen own) → AreNamed place (map seen olds) (map seen ready) → AreNamed place (map seen olds) (map seen ends)
+  last_named place kept named =
+      let all = λ (l : List X). map_both (λ (d : DiskView). d.attached) seen l in
+      let firsts_same : map name back ≡ map name own = sym (all back) ∙ kept ∙ all own in
+      let wove : map name ends ≡ map name ready =
+      ap (map name) h.put ∙ map_woven name back rest ∙ ap (λ l. woven l (map name rest)) firsts_same ∙ sym (map_woven name own rest) ∙ ap (map name) h.taken in
+      named_same place (map seen olds) (map seen ready) (map seen ends) (all ends ∙ wove ∙ sym (all ready)) named
 
   -- the first disks of the nodes were made ready
   pub own_stay : AllStay (first_disks n (map seen olds)) (map seen own)

@@ -1,5 +1,6 @@
 -- Which disks are which node's: each node has two, of which the first holds its journal.
-use Rattle.std.specs.Prelude.{ℕ, List, [], ◌∷◌, ◌++◌, take, codes, decimal, Bool, true, false}
+use Rattle.std.specs.Prelude.{ℕ, ◌/◌, ◌%◌, ◌==◌, List, [], ◌∷◌, ◌++◌, take, codes, decimal, Bool, true, false, None}
+use Rattle.outside.specs.Disk.{Attached}
 
 -- every other one, from the first on
 abbrev pub every_other : {X : Type 0} → List X → List X
@@ -25,3 +26,7 @@ letter_of false = codes "a"
 -- the name of a node's first or second disk
 abbrev pub disk_name : ℕ → Bool → List ℕ
 disk_name node second = codes "node-" ++ decimal node ++ codes "." ++ letter_of second
+
+-- what the disk at a place among all disks is attached as once it is made ready: in memory, under the name of its node's first or second disk
+abbrev pub own_name : ℕ → Attached
+own_name place = record { folder = None; name = disk_name (place / 2) (place % 2 == 1) }

@@ -1,5 +1,5 @@
 -- A whole run: how the network opened, and how the script went.
-use Rattle.std.specs.Prelude.{◌≡◌, ◌⊎◌, ℕ, ◌<◌, ◌≤◌, List, [], ◌∷◌, ◌++◌, length, map, Option, Some, None, codes, decimal, true, false, slice_get, ⊤}
+use Rattle.std.specs.Prelude.{◌≡◌, ◌⊎◌, ℕ, ◌*◌, ◌<◌, ◌≤◌, List, [], ◌∷◌, ◌++◌, length, map, Option, Some, None, codes, decimal, true, false, slice_get, ⊤}
 use Rattle.std.specs.Io.KnownBytes.{Appends}
 use Rattle.outside.specs.Disk.{DiskView, IfTold, IsImage}
 use Rattle.outside.specs.Faults.{Rose}
@@ -21,6 +21,7 @@ use Rattle.node_core.specs.Seen.{NodeSeen}
 use Rattle.node_core.specs.Disks.{roomless}
 use Rattle.network_core.specs.Begins.{member, nodes_over, net_over, Begun, BootsUpTo}
 use Rattle.network_core.specs.Acknowledged.{Reaches, Acknowledged, StandsOnce}
+use Rattle.node_shell.specs.Pairs.{own_name}
 use Rattle.node_shell.specs.declared.statuses.Status.{Status}
 use Rattle.node_shell.specs.declared.statuses.Status.TheVariants as status
 use Rattle.node_shell.specs.Serve.{Link, RunsShort}
@@ -125,14 +126,35 @@ LeavesFewer w v = (p : ℕ) (x y : NodeWorld) (l : List (List ℕ)) → slice_ge
 abbrev pub KeepsJournals : World → World → Type 0
 KeepsJournals w v = (p : ℕ) (x y : NodeWorld) → slice_get w.nodes p ≡ Some x → slice_get v.nodes p ≡ Some y → y.journal ≡ x.journal
 
--- a disk is as before but for its count of faults, which has not fallen
+-- a disk is as before but for its count of faults, which has not fallen, and what it is attached as
 abbrev pub StaysBut : DiskView → DiskView → Type 0
-StaysBut old new = (new ≡ record old { faults = new.faults }) × (old.faults ≤ new.faults)
+StaysBut old new = (new ≡ record old { faults = new.faults; attached = new.attached }) × (old.faults ≤ new.faults)
 
--- each of the disks is as before but for its count of faults, which has not fallen
+-- each of the disks is as before but for its count of faults, which has not fallen, and what it is attached as
 pub record AllStay (old new : List DiskView) : Type 0 where
   pub count : length new ≡ length old
   pub each : (p : ℕ) (d e : DiskView) → slice_get old p ≡ Some d → slice_get new p ≡ Some e → StaysBut d e
+
+-- the disks before a place are attached in memory under their own names, and all others as they were before
+pub record AreNamed (place : ℕ) (old new : List DiskView) : Type 0 where
+  pub own : (p : ℕ) (e : DiskView) → p < place → slice_get new p ≡ Some e → e.attached ≡ Some (own_name p)
+  pub rest : (p : ℕ) (d e : DiskView) → place ≤ p → slice_get old p ≡ Some d → slice_get new p ≡ Some e → e.attached ≡ d.attached
+
+-- of the first disks, so many, those before some place are attached under their own names, and no others
+abbrev pub StopsNaming : ℕ → List DiskView → List DiskView → Type 0
+StopsNaming count old new = (place : ℕ) × (place < count) × AreNamed place old new
+
+-- the attaching stopped at a disk of the nodes, for a disk that failed or for want of memory: nothing was read, and each disk is as before but for
+-- its count of faults and what it is attached as
+pub record StopsAttaching (nodes : ℕ) (old new : List DiskView) (count number : ℕ) : Type 0 where
+  pub named : StopsNaming (2 * nodes) old new
+  pub stay : AllStay old new
+  pub none : count ≡ 0
+  pub status_is : (number ≡ 6) ⊎ (number ≡ 7)
+
+-- both disks of each node are attached in memory under their own names, and all others as they were before; or the attaching stopped
+abbrev pub NamesDisks : ℕ → List DiskView → List DiskView → ℕ → ℕ → Type 0
+NamesDisks nodes old new count number = AreNamed (2 * nodes) old new ⊎ StopsAttaching nodes old new count number
 
 -- the count of faults of a disk rose, and the disk was not calm
 pub record Fails (old new : DiskView) : Type 0 where
@@ -180,12 +202,12 @@ HasCause frame_at id old (boot.Damaged at) new = IfTold old new (λ d e. ((refus
 abbrev pub GivesUp : Option (List ℕ) → Option (List ℕ) → Status → Type 0
 GivesUp written0 written1 s = ((s ≡ status.DiskFault) ⊎ (s ≡ status.NoMemory)) × (written1 ≡ written0)
 
--- the disks were not made ready: one failed, or memory ran out, and nothing was written; each is as before but for its count of faults
+-- the disks were not made ready: one failed, or memory ran out, and nothing was written; each is as before but for its count of faults and what it is attached as
 abbrev pub IsUnready : List DiskView → List DiskView → Option (List ℕ) → Option (List ℕ) → Status → Type 0
 IsUnready old new written0 written1 s = GivesUp written0 written1 s × AllStay old new
 
 -- an opening was refused for a cause, which what was written tells, with the number of the node: the first one, since no opening of those before it
--- refuses its disk. The disks of those keep what they kept, and those of the nodes behind it are as before but for their counts of faults;
+-- refuses its disk. The disks of those keep what they kept, and those of the nodes behind it are as before but for their counts of faults and what they are attached as;
 -- of the node's own disk only a fault may have lost what was pending. No count has fallen, and each disk that was calm is so
 pub record IsToldWhy {F : Type 0} (frame_at : Reads F) (nodes : ℕ) (notary : Party) (old new : List DiskView) (written0 written1 : Option (List ℕ)) (s : Status) : Type 0 where
   pub node : ℕ

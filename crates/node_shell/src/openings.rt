@@ -1,9 +1,9 @@
 //! How a run begins: the disks are made ready, and a first opening that was refused is told.
 
-ghost use Rattle.std.specs.Prelude.{◌≡◌, ◌≤◌, ◌*◌, length, drop, map, IfErr, IsErrOf, IfOk, string_bytes};
+ghost use Rattle.std.specs.Prelude.{◌≡◌, ◌≤◌, ◌*◌, length, drop, map, IfErr, IsErrOf, IfOk, OnOk, OnErr, Some, string_bytes};
 ghost use Rattle.outside.specs.Faults.{Rose};
-ghost use Rattle.node_shell.specs.Runs.{journal_line, RefusedWith, IsOpeningStatus, IsRefusedStatus, Fails, OneFails, StaysBut, AllStay};
-ghost use Rattle.node_shell.specs.Pairs.{letter_of, disk_name};
+ghost use Rattle.node_shell.specs.Runs.{journal_line, RefusedWith, IsOpeningStatus, IsRefusedStatus, Fails, OneFails, StaysBut, AllStay, AreNamed, StopsNaming};
+ghost use Rattle.node_shell.specs.Pairs.{letter_of, disk_name, own_name};
 
 use super::statuses::Status;
 use super::streams::write_all;
@@ -27,9 +27,11 @@ fn disk_name(alloc: Global, node: usize, second: bool) -> Result<String, AllocEr
     Ok(name)
 }
 
-/// Makes the disk at a place ready, in memory.
+/// Makes the disk at a place ready, in memory, under its own name.
 fn attach<B: Bay>(alloc: Global, disk: &mut B, place: usize) -> Result<(), Status>
     ensures stays { StaysBut (B.seen disk.old) (B.seen disk.new) }
+    ensures named { OnOk result ((B.seen disk.new).attached ≡ Some (own_name place)) }
+    ensures unnamed { OnErr result ((B.seen disk.new).attached ≡ (B.seen disk.old).attached) }
     ensures kinds { IfErr result IsOpeningStatus }
     ensures cause { IsErrOf result Status.DiskFault → Fails (B.seen disk.old) (B.seen disk.new) }
 {
@@ -91,6 +93,8 @@ pub fn attach_all<B: Bay>(alloc: Global, disks: &mut Vec<B>, nodes: usize) -> Re
     requires few { nodes ≤ 16 }
     requires disks { 2 * nodes ≤ length disks.old.items }
     ensures stay { AllStay (map B.seen disks.old.items) (map B.seen disks.new.items) }
+    ensures named { OnOk result (AreNamed (2 * nodes) (map B.seen disks.old.items) (map B.seen disks.new.items)) }
+    ensures stopped { OnErr result (StopsNaming (2 * nodes) (map B.seen disks.old.items) (map B.seen disks.new.items)) }
     ensures rest { drop (2 * nodes) disks.new.items ≡ drop (2 * nodes) disks.old.items }
     ensures kinds { IfErr result IsOpeningStatus }
     ensures cause { IsErrOf result Status.DiskFault → OneFails (2 * nodes) (map B.seen disks.old.items) (map B.seen disks.new.items) }

@@ -2,11 +2,12 @@ ghost use Rattle.std.specs.Prelude.{◌≡◌, ◌≤◌, ◌<◌, ◌↔◌, �
 ghost use Rattle.outside.specs.Disk.{DiskView};
 ghost use Rattle.outside.specs.Faults.{Rose};
 ghost use Rattle.net_model.specs.Environment.{party};
+ghost use Rattle.node_core.specs.Disks.{attached_as};
 ghost use Rattle.network_core.specs.Worlds.{World, Shows, Coherent};
 ghost use Rattle.shell_words.specs.Script.{network_of_words, IsNetwork};
 ghost use Rattle.shell_words.specs.declared.program.NetworkWords.{NetworkWords};
 ghost use Rattle.node_shell.specs.Pairs.{first_disks};
-ghost use Rattle.node_shell.specs.Runs.{RunsAs, RunsAnyhow, PlaysOrRefuses, GoesOrHalts, OneFails, IsToldWhy, KeepOwn, StaysBut, IsPlayedStatus, IsPlayedNumber, IsRunStatus, number_of_status, environment_for, over};
+ghost use Rattle.node_shell.specs.Runs.{RunsAs, RunsAnyhow, PlaysOrRefuses, GoesOrHalts, OneFails, IsToldWhy, KeepOwn, StaysBut, NamesDisks, IsPlayedStatus, IsPlayedNumber, IsRunStatus, number_of_status, environment_for, over};
 
 use super::disks::{put_back, take_first};
 use super::openings::{attach_all, refuse};
@@ -43,6 +44,7 @@ fn play<S: Source, K: Sink, B: Bay, F: FlowSet>(
     requires within { IsNetwork network }
     requires disks { length own.items ≡ network.nodes }
     ensures count { length result.2.items ≡ length own.items }
+    ensures attached { attached_as (map B.seen result.2.items) ≡ attached_as (map B.seen own.items) }
     ensures runs { let e = environment_for F.machine F.reading network in (w : World) → Shows e (over e w.now (map B.seen own.items)) w → Coherent e w
         → PlaysOrRefuses e w (map B.seen own.items) (map B.seen result.2.items) (S.left source.old) (S.left source.new) (K.written sink.old) (K.written sink.new) result.1 result.0 }
     ensures went { GoesOrHalts F.machine F.reading network.nodes (party network.notary) (map B.seen own.items) (map B.seen result.2.items) (S.left source.old) (S.left source.new) (K.written sink.old) (K.written sink.new) result.1 result.0 }
@@ -85,6 +87,7 @@ fn run_network<S: Source, K: Sink, B: Bay, F: FlowSet>(
     ensures words { result.status ≡ 2 → ⊥ }
     ensures count { length result.disks.items ≡ 32 }
     ensures rest { drop (2 * network.nodes) result.disks.items ≡ drop (2 * network.nodes) disks.items }
+    ensures named { NamesDisks network.nodes (map B.seen disks.items) (map B.seen result.disks.items) result.bytes_read result.status }
     ensures second { (p : ℕ) (d e : DiskView) → p < network.nodes → slice_get (map B.seen disks.items) (2 * p + 1) ≡ Some d → slice_get (map B.seen result.disks.items) (2 * p + 1) ≡ Some e → StaysBut d e }
     ensures own { IsPlayedNumber result.status → KeepOwn F.reading network.nodes (party network.notary) (first_disks network.nodes (map B.seen disks.items)) }
     ensures too_long { (result.status ≡ 3) ↔ (result.bytes_read ≡ 16777217) }
@@ -130,6 +133,7 @@ pub fn run<S: Source, K: Sink, B: Bay, F: FlowSet>(
     ensures words { (result.status ≡ 2) ↔ (network_of_words (map (λ s. string_bytes s) words.now) ≡ None) }
     ensures untouched { network_of_words (map (λ s. string_bytes s) words.now) ≡ None → (result.bytes_read ≡ 0) × (result.disks.items ≡ disks.items) × (S.left source.new ≡ S.left source.old) × (K.written sink.new ≡ K.written sink.old) }
     ensures disks { (length result.disks.items ≡ 32) × ((n : NetworkWords) → network_of_words (map (λ s. string_bytes s) words.now) ≡ Some n → drop (2 * n.nodes) result.disks.items ≡ drop (2 * n.nodes) disks.items) }
+    ensures named { (n : NetworkWords) → network_of_words (map (λ s. string_bytes s) words.now) ≡ Some n → NamesDisks n.nodes (map B.seen disks.items) (map B.seen result.disks.items) result.bytes_read result.status }
     ensures second { (n : NetworkWords) → network_of_words (map (λ s. string_bytes s) words.now) ≡ Some n → (p : ℕ) (d e : DiskView) → p < n.nodes → slice_get (map B.seen disks.items) (2 * p + 1) ≡ Some d → slice_get (map B.seen result.disks.items) (2 * p + 1) ≡ Some e → StaysBut d e }
     ensures own { IsPlayedNumber result.status → (n : NetworkWords) → network_of_words (map (λ s. string_bytes s) words.now) ≡ Some n → KeepOwn F.reading n.nodes (party n.notary) (first_disks n.nodes (map B.seen disks.items)) }
     ensures too_long { (result.status ≡ 3) ↔ (result.bytes_read ≡ 16777217) }

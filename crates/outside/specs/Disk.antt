@@ -134,6 +134,11 @@ FailsWriting d at n e = (e ≡ d) ⊎ (LeavesPending d at n e ⊎ LosesPower (d.
 abbrev pub FailsWritingUncut : DiskState → ℕ → ℕ → DiskState → Type 0
 FailsWritingUncut d at n e = (e ≡ d) ⊎ LeavesPending d at n e
 
+-- what a bay was attached as: a file of its name in a folder, or in memory where there is no folder. Both names are bytes
+pub record Attached : Type 0 where
+  pub folder : Option (List ℕ)
+  pub name : List ℕ
+
 -- a disk as contracts see it
 pub record DiskView : Type 0 where
   -- it tells its content; of a file's content nothing is known
@@ -146,6 +151,8 @@ pub record DiskView : Type 0 where
   -- at this write or sync from now, counted from 1, the power goes, with this outcome
   pub fuse : Option (ℕ × ℕ)
   pub of_file : Bool
+  -- what it was attached as last, none before that
+  pub attached : Option Attached
   -- so many writes that end at or below this place have room
   pub room_end : ℕ
   pub room_writes : ℕ
@@ -205,4 +212,5 @@ BurnsUpTo most old new = (calls : ℕ) × (calls ≤ most) × Burns calls old ne
 pub record SameRest (old new : DiskView) : Type 0 where
   pub tells : new.tells ≡ old.tells
   pub of_file : new.of_file ≡ old.of_file
+  pub attached : new.attached ≡ old.attached
   pub room_end : new.room_end ≡ old.room_end

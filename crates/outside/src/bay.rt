@@ -1,4 +1,4 @@
-ghost use Rattle.std.specs.Prelude.{◌≡◌, ◌≤◌, ◌<◌, ◌↔◌, true, false, OnOk, OnErr, IsErr, IsErrOf, IsNone, Some, None};
+ghost use Rattle.std.specs.Prelude.{◌≡◌, ◌≤◌, ◌<◌, ◌↔◌, true, false, OnOk, OnErr, IsErr, IsErrOf, IsNone, Some, None, option_map};
 ghost use Rattle.outside.specs.Disk.{SameRest, IfTold, CutsPower, LeavesBy};
 ghost use Rattle.outside.specs.Faults.{Rose};
 
@@ -26,11 +26,13 @@ pub struct NoFuse;
 pub trait Bay: Disk {
     /// Makes the disk ready: the file of this name in a folder, or, where there is no folder, the disk in memory as it is.
     ///
-    /// Without a folder nothing changes but the count of faults. With one the disk may tell nothing from then on, and may
-    /// be calm no longer; a disk that told nothing doesn't begin to tell. A refusal leaves all but the count of faults, which
-    /// rises at [`AttachFault::Failed`] alone.
+    /// After `Ok` contracts see what it was attached as: the folder, if there is one, and the name. Without a folder nothing
+    /// else changes but the count of faults. With one the disk may tell nothing from then on, and may be calm no longer; a
+    /// disk that told nothing doesn't begin to tell. A refusal leaves all but the count of faults, which rises at
+    /// [`AttachFault::Failed`] alone.
     fn attach(&mut self, alloc: Global, dir: Option<&str>, name: &str) -> Result<(), AttachFault>
-        ensures in_memory { IsNone dir.entry → Self.seen self.new ≡ record (Self.seen self.old) { faults = (Self.seen self.new).faults } }
+        ensures attached { OnOk result ((Self.seen self.new).attached ≡ Some (record { folder = option_map (λ s. s.now) dir.entry; name = name.now })) }
+        ensures in_memory { IsNone dir.entry → Self.seen self.new ≡ record (Self.seen self.old) { faults = (Self.seen self.new).faults; attached = (Self.seen self.new).attached } }
         ensures calm { IsNone dir.entry → (Self.seen self.old).calm ≡ true → ¬ (IsErrOf result AttachFault.Failed) }
         ensures refused { OnErr result (Self.seen self.new ≡ record (Self.seen self.old) { faults = (Self.seen self.new).faults }) }
         ensures silent { (Self.seen self.old).tells ≡ false → (Self.seen self.new).tells ≡ false }

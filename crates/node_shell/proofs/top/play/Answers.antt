@@ -2,10 +2,14 @@ use Rattle.std.proofs.Common.{◌≡◌, inl, inr, map, length, refl, sym, ◌�
 use Rattle.std.proofs.lemmas.List.{length-map}
 use Rattle.net_base.proofs.Lists.{map_both}
 use Rattle.net_model.specs.Environment.{party}
-use Rattle.node_core.specs.Disks.{roomless}
+use Rattle.outside.specs.Disk.{DiskView}
+use Rattle.node_core.specs.Disks.{roomless, attached_as}
+use Rattle.node_core.specs.Seen.{NodeSeen}
+use Rattle.network_core.proofs.Naming.{names_of, begun_names, refused_names}
 use Rattle.node_shell.specs.Runs.{IsToldWhy}
 use Rattle.node_shell.proofs.Readying.{stay_same}
 use Rattle.node_shell.proofs.Opening.{played, refused, told_why, fault_why, boots_own}
+use Rattle.node_shell.proofs.Naming.{script_keeps}
 use Rattle.node_shell.proofs.top.play.Goals as goal
 
 pub returns-in-Ok-clause-count : goal.returns-in-Ok-clause-count
@@ -66,3 +70,19 @@ returns-in-Err-clause-went g c =
       none = refl;
       why = inr (told_why g.F.FlowSet.machine g.F.Spelt.reading c.args.network.nodes (party c.args.network.notary) own _ c.in-Err.refused.node c.in-Err.refused.why _ _ _ c.requires.within.some (length-map c.args.own.items g.B.Disk.seen ∙ c.requires.disks) c.in-Err.ensures.refused c.refuse-status.ensures.refused);
     })
+
+pub returns-in-Ok-clause-attached : goal.returns-in-Ok-clause-attached
+returns-in-Ok-clause-attached g c =
+    let m = g.F.FlowSet.machine in
+    let f = g.F.Spelt.reading in
+    let own = map g.B.Disk.seen c.args.own.items in
+    let back = c.into_disks.result.items in
+    let last = c.session-end.new.net in
+    let count : length own ≡ c.args.network.nodes = length-map c.args.own.items g.B.Disk.seen ∙ c.requires.disks in
+    let out : attached_as (map g.B.Disk.seen back) ≡ names_of last.nodes =
+    map_both (λ (d : DiskView). d.attached) g.B.Disk.seen back ∙ sym (map_both (λ (d : DiskView). d.attached) (λ d. roomless (g.B.Disk.seen d)) back) ∙ ap attached_as c.into_disks.ensures ∙ map_both (λ (d : DiskView). d.attached) (λ (n : NodeSeen). n.disk) last.nodes in
+    out ∙ script_keeps m f c.in-Ok.net _ _ _ _ _ last _ c.session-end.ensures.went ∙ begun_names f c.args.network.nodes (party c.args.network.notary) own c.in-Ok.net.now c.in-Ok.net.nodes count c.in-Ok.ensures.boots
+
+pub returns-in-Err-clause-attached : goal.returns-in-Err-clause-attached
+returns-in-Err-clause-attached g c =
+    refused_names g.F.FlowSet.machine g.F.Spelt.reading c.args.network.nodes (party c.args.network.notary) (map g.B.Disk.seen c.args.own.items) c.in-Err.refused.node c.in-Err.refused.why _ c.in-Err.ensures.refused

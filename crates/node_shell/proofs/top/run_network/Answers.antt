@@ -1,12 +1,12 @@
-use Rattle.std.proofs.Common.{◌≡◌, ◌+◌, length, map, refl, sym, ◌∙◌, ap, subst, arith}
+use Rattle.std.proofs.Common.{◌≡◌, inl, inr, ◌+◌, ◌*◌, length, map, refl, sym, ◌∙◌, ap, subst, arith}
 use Rattle.net_model.specs.Environment.{party}
 use Rattle.node_shell.specs.declared.statuses.Status.TheVariants as status
 use Rattle.node_shell.specs.Pairs.{first_disks, woven}
-use Rattle.node_shell.specs.Runs.{AllStay, IsPlayedNumber, number_of_status}
+use Rattle.node_shell.specs.Runs.{AllStay, AreNamed, NamesDisks, IsPlayedNumber, number_of_status}
 use Rattle.node_shell.proofs.Weaving.{woven_count}
-use Rattle.node_shell.proofs.Readying.{stay_same, first_stay}
-use Rattle.node_shell.proofs.Running.{Handed, back_enough, last, last_count, last_behind, last_second, own_stay, one_failed}
-use Rattle.node_shell.proofs.Opening.{unready, ready_at, runs_as, is_too_long, is_disk_fault, is_bad_journal, is_played, all_own_since, told_at, went_at, went_unready}
+use Rattle.node_shell.proofs.Readying.{stay_same, first_stay, named_none}
+use Rattle.node_shell.proofs.Running.{Handed, back_enough, last, last_count, last_behind, last_second, last_named, own_stay, one_failed}
+use Rattle.node_shell.proofs.Opening.{unready, ready_at, runs_as, is_too_long, is_disk_fault, is_bad_journal, is_played, all_own_since, told_at, went_at, went_unready, opening_number}
 use Rattle.node_shell.proofs.top.run_network.Goals as goal
 
 pub returns-in_default-clause-story : goal.returns-in_default-clause-story
@@ -186,3 +186,32 @@ returns-clause-too_long g c =
     let end = c.end_with-2.ensures in
     let long = c.play-status.ensures.too_long in
     (λ three. end.2 ∙ long.0 (is_too_long c.play-status.result.0 (sym end.0 ∙ three)), λ full. end.0 ∙ ap number_of_status (long.1 (sym end.2 ∙ full)))
+
+pub returns-in_default-clause-named : goal.returns-in_default-clause-named
+returns-in_default-clause-named g c =
+    let end = c.end_with.ensures in
+    let olds = map g.B.Disk.seen c.args.disks.items in
+    let some = c.requires.within.some in
+    let stopped : NamesDisks c.args.network.nodes olds olds c.end_with.result.bytes_read c.end_with.result.status =
+    inr (record { named = (0, omega (arith, some), named_none olds); stay = stay_same olds; none = end.2; status_is = opening_number status.NoMemory c.end_with.result.status tt end.0 }) in
+    subst (λ l. NamesDisks c.args.network.nodes olds (map g.B.Disk.seen l) c.end_with.result.bytes_read c.end_with.result.status) (sym (ap (λ v. v.items) end.1)) stopped
+
+pub returns-in-Err-clause-named : goal.returns-in-Err-clause-named
+returns-in-Err-clause-named g c =
+    let end = c.end_with-in-Err.ensures in
+    let olds = map g.B.Disk.seen c.args.disks.items in
+    let stopped : NamesDisks c.args.network.nodes olds (map g.B.Disk.seen c.attach_all.new.disks.items) c.end_with-in-Err.result.bytes_read c.end_with-in-Err.result.status =
+    inr (record { named = c.in-Err.ensures.stopped; stay = c.attach_all.ensures.stay; none = end.2; status_is = opening_number c.in-Err.status c.end_with-in-Err.result.status c.in-Err.ensures.kinds end.0 }) in
+    subst (λ l. NamesDisks c.args.network.nodes olds (map g.B.Disk.seen l) c.end_with-in-Err.result.bytes_read c.end_with-in-Err.result.status) (sym (ap (λ v. v.items) end.1)) stopped
+
+pub returns-clause-named : goal.returns-clause-named
+returns-clause-named g c =
+    let n = c.args.network.nodes in
+    let olds = c.args.disks.items in
+    let ready = c.attach_all.new.disks.items in
+    let own = c.take_first.new.own.items in
+    let rest = c.take_first.new.disks.items in
+    let back = c.play-status.result.2.items in
+    let ends = c.end_with-2.result.disks.items in
+    let h : Handed g.B.Disk.seen n olds ready own rest back ends = record { few = c.requires.within.few; all = c.requires.disks; stay = c.attach_all.ensures.stay; taken = c.take_first.ensures.woven; count = c.take_first.ensures.count; same = c.play-status.ensures.count; put = ap (λ v. v.items) c.end_with-2.ensures.1 ∙ c.put_back.ensures } in
+    inl (last_named g.B.Disk.seen n olds ready own rest back ends h (2 * n) c.play-status.ensures.attached c.in_ok-attach_all.ensures.named)
