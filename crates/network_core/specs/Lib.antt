@@ -8,3 +8,4 @@ pub mod Begins
 pub mod Acknowledged
 pub mod Moments
 pub mod Ways
+pub mod Parts

@@ -10,6 +10,7 @@ mod begin;
 mod laws;
 mod mail;
 mod net;
+mod parts;
 mod serving;
 mod steps;
 
@@ -20,4 +21,5 @@ pub use laws::{
     ways_have_all_moments, ways_move_one_by_one,
 };
 pub use net::Net;
+pub use parts::NetParts;
 pub use steps::{Outcome, Step};

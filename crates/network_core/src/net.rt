@@ -8,12 +8,14 @@ ghost use Rattle.std.specs.List.{AllByRecursion};
 ghost use Rattle.network_core.specs.Answers.{Answered, AtPlace, StartServes, TurnServes, PostServes, HandServes, LoseServes, CutServes, BootServes, ClockServes, BootClock, said};
 ghost use Rattle.network_core.specs.Begins.{BeginsWorld, IsRefused, BootsUpTo, nodes_over as over_disks};
 ghost use Rattle.network_core.specs.Drains.{Drains, Drives, room};
+ghost use Rattle.network_core.specs.Parts.{IsNet, net_of};
 ghost use Rattle.network_core.specs.Rounds.{DeliversAt, HandStops, HandsStop, InOrder, Posts, Round, RoundStops, StopsAt, Turns, TurnsAt, TurnsStop, drain_outcome, heard, joined, turned};
 ghost use Rattle.network_core.specs.Served.{Serve, Follows, NetFollows, ServesPairs, FollowPairs};
 ghost use Rattle.network_core.specs.declared.net.Turning.TheVariants as turning;
 
 use super::begin::{BeginRefused, boot_all, disks_of, nodes_over};
 use super::mail::{make_room, no_frames, send_all, settle};
+use super::parts::NetParts;
 use super::serving::{boot_at, cut_at, post_at, start_at, take_at, turn_at, waits_on};
 use super::{Outcome, Step};
 use flow_machine::FlowSet;
@@ -86,12 +88,12 @@ impl<D: Bay, F: FlowSet> Net<D, F> {
         };
         let mut places = nodes_over(nodes, notary, disks, places);
         match boot_all(alloc, &mut places) {
-            Ok(now) => Ok(Net {
+            Ok(now) => Ok(Net::from_parts(NetParts {
                 waiting: no_frames(alloc, nodes as usize, lists),
                 nodes: places,
                 spare,
                 now,
-            }),
+            })),
             Err(stopped) => Err(BeginRefused {
                 disks: disks_of(places, spare),
                 node: stopped.place,
@@ -119,7 +121,45 @@ impl<D: Bay, F: FlowSet> Net<D, F> {
     pub fn into_disks(self) -> Vec<D>
         ensures { map (λ d. roomless (D.seen d)) result.items ≡ map (λ n. n.disk) self.nodes }
     {
-        disks_of(self.nodes, self.spare)
+        let parts = self.into_parts();
+        disks_of(parts.nodes, parts.spare)
+    }
+
+    /// Takes the network apart. Takes no memory.
+    pub fn into_parts(self) -> NetParts<D, F>
+        ensures same { self ≡ net_of result.nodes.items result.waiting.items result.now.0 }
+        ensures whole { IsNet F.reading self }
+        ensures empty { result.spare.items ≡ [] }
+        ensures room { length result.nodes.items ≤ vec_capacity result.spare }
+    {
+        let Net {
+            nodes,
+            waiting,
+            spare,
+            now,
+        } = self;
+        NetParts {
+            nodes,
+            waiting,
+            spare,
+            now,
+        }
+    }
+
+    /// The network of these parts. There are 16 nodes at most, each has a list of frames, and no cause of theirs is later than the moment;
+    /// so it is with the parts of a network that was taken apart. Takes no memory.
+    pub fn from_parts(parts: NetParts<D, F>) -> Net<D, F>
+        requires whole { IsNet F.reading (net_of parts.nodes.items parts.waiting.items parts.now.0) }
+        requires empty { parts.spare.items ≡ [] }
+        requires room { length parts.nodes.items ≤ vec_capacity parts.spare }
+        ensures { result ≡ net_of parts.nodes.items parts.waiting.items parts.now.0 }
+    {
+        Net {
+            nodes: parts.nodes,
+            waiting: parts.waiting,
+            spare: parts.spare,
+            now: parts.now,
+        }
     }
 
     /// Makes one step. Each answer has its cause, over any disks; over a coherent world it is also said what becomes of that world, and of

@@ -1,3 +1,4 @@
 pub mod Journals
 pub mod Fits
 pub mod Seen
+pub mod Traces

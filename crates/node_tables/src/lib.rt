@@ -7,6 +7,7 @@ mod fitting;
 mod laws;
 mod roomy;
 mod table;
+mod trace;
 
 pub use boot::{RebuildFault, rebuild};
 pub use laws::fits_as_ruled;

@@ -25,6 +25,7 @@ use crate::fitting::{
     LAST_STAMP, accepts_init, goes_on, is_lawful_item, is_new_flow, is_no_flow, made_by, rises,
 };
 use crate::roomy::Roomy;
+use crate::trace::Trace;
 use checkpoints::Flows;
 use flow_records::{FlowAfter, Step, read_step};
 use ledger_tables::LedgerTables;
@@ -37,13 +38,14 @@ use std::alloc::{AllocError, Global};
 use std::marker::Model;
 
 /// The tables of a node, seen as the bodies of its records: all else is what these make, but how many of the items that it sent are
-/// acknowledged. Nothing is asked of frames but how they are spelt, so no flow is resumed here.
+/// acknowledged. Nothing is asked of frames but how they are spelt, so no flow is resumed here. The bodies themselves are seen by
+/// contracts alone, and stand on the disk, not in memory.
 #[derive(Drop)]
 pub struct NodeTables<F: Spelt + Drop> {
     party: Party,
     nodes: u8,
     notary: Party,
-    bodies: Roomy<ByteList>,
+    bodies: Trace<ByteList>,
     causes: Roomy<Cause>,
     flows: Flows<F>,
     sessions: Sessions,
@@ -60,9 +62,9 @@ impl<F: Spelt + Drop> Model for NodeTables<F> {
 
     ghost Value = { TablesSeen };
 
-    ghost view = { λ t. record { party = t.party; nodes = t.nodes; notary = t.notary; rooms = record { store = t.ledger.store.room; vault = t.ledger.vault.room; book = t.ledger.book.room }; bodies = t.bodies.items; acked = t.sessions.acked; room = if nat_lt 0 t.bodies.room && (nat_lt 0 t.causes.room && nat_lt 0 t.flows.room) then t.sessions.room else 0 } };
+    ghost view = { λ t. record { party = t.party; nodes = t.nodes; notary = t.notary; rooms = record { store = t.ledger.store.room; vault = t.ledger.vault.room; book = t.ledger.book.room }; bodies = t.bodies; acked = t.sessions.acked; room = if nat_lt 0 t.causes.room && nat_lt 0 t.flows.room then t.sessions.room else 0 } };
 
-    ghost invariant = { λ t. (t.sessions.party ≡ t.party) × Keeps t.party F.reading F.within t.bodies.items t.causes.items (ledger_in (state_of F.reading t.bodies.items)) t.flows.flows t.sessions.list t.stamp t.moment.0 × (t.nodes ≤ 16) × (length t.sessions.acked ≡ length t.sessions.list) × HoldsLedger t.party (ledger_in (state_of F.reading t.bodies.items)) t.ledger };
+    ghost invariant = { λ t. (t.sessions.party ≡ t.party) × Keeps t.party F.reading F.within t.bodies t.causes.items (ledger_in (state_of F.reading t.bodies)) t.flows.flows t.sessions.list t.stamp t.moment.0 × (t.nodes ≤ 16) × (length t.sessions.acked ≡ length t.sessions.list) × HoldsLedger t.party (ledger_in (state_of F.reading t.bodies)) t.ledger };
 }
 
 impl<F: Spelt + Drop> NodeTables<F> {
@@ -80,7 +82,7 @@ impl<F: Spelt + Drop> NodeTables<F> {
             party,
             nodes,
             notary,
-            bodies: Roomy::new(alloc),
+            bodies: Trace::new(),
             causes: Roomy::new(alloc),
             flows: Flows::new(alloc),
             sessions: Sessions::new(alloc, party),
@@ -108,7 +110,6 @@ impl<F: Spelt + Drop> NodeTables<F> {
     {
         make_all_room(
             alloc,
-            &mut self.bodies,
             &mut self.causes,
             &mut self.flows,
             &mut self.sessions,
@@ -251,7 +252,7 @@ impl<F: Spelt + Drop> NodeTables<F> {
         self.stamp = stamp;
         self.moment = cause.moment;
         self.causes.add(cause);
-        self.bodies.add(body);
+        self.bodies.add(&body);
         self.sessions.apply(session, stamp);
         set_flow(&mut self.flows, flow);
         add_change::<F>(&mut self.ledger, self.notary, ledger);
@@ -383,7 +384,6 @@ fn only_accepts<F>(step: &Step<F>) -> bool
 /// Makes room for one more record in each of the tables.
 fn make_all_room<F: Drop>(
     alloc: Global,
-    bodies: &mut Roomy<ByteList>,
     causes: &mut Roomy<Cause>,
     flows: &mut Flows<F>,
     sessions: &mut Sessions,
@@ -391,21 +391,18 @@ fn make_all_room<F: Drop>(
     session: &SessionChange,
     change: &LedgerChange,
 ) -> Result<(), AllocError>
-    ensures bodies { bodies.new.items ≡ bodies.old.items }
     ensures causes { causes.new.items ≡ causes.old.items }
     ensures flows { flows.new.flows ≡ flows.old.flows }
     ensures party { sessions.new.party ≡ sessions.old.party }
     ensures list { sessions.new.list ≡ sessions.old.list }
     ensures acked { sessions.new.acked ≡ sessions.old.acked }
     ensures holds { KeepsLedger ledger.old ledger.new }
-    ensures bodies_room { OnOk result (0 < bodies.new.room) }
     ensures causes_room { OnOk result (0 < causes.new.room) }
     ensures flows_room { OnOk result (0 < flows.new.room) }
     ensures sessions_room { OnOk result (room_for session.now ≤ sessions.new.room) }
     ensures record_room { OnOk result (HasRecordRoom change.now.recorded ledger.new.store ledger.new.vault) }
     ensures entry_room { OnOk result (HasEntryRoom change.now.booked ledger.new.book) }
 {
-    bodies.make_room()?;
     causes.make_room()?;
     flows.make_room()?;
     sessions.make_room(alloc, session)?;

@@ -179,6 +179,11 @@ command_of (w ∷ n ∷ m ∷ []) = three_words w n m
 command_of (w ∷ n ∷ m ∷ k ∷ []) = four_words w n m k
 command_of (w ∷ n ∷ m ∷ k ∷ x ∷ more) = many_words w n
 
+-- the command, where one is known
+abbrev pub asked : Option Command → Command
+asked None = Unknown
+asked (Some command) = command
+
 -- what a line asks for: nothing that is known where it has no answer or can't be read
 abbrev pub asked_by : List ℕ → Command
 asked_by line = if has_no_answer line || not (is_readable line) then Unknown else command_of (words_of line)

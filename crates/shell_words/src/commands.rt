@@ -1,6 +1,5 @@
-ghost use Rattle.std.specs.Prelude.{◌≡◌, map, string_bytes};
-ghost use Rattle.shell_words.specs.Script.{clock_of, start_of, turn_of, picked_turn_of, post_of, deliver_of, repeat_of, lose_of, cut_of, boot_of, flows_of, flow_of};
-ghost use Rattle.shell_words.specs.Script.{one_word, two_words, frame_words, three_words, four_words, many_words, command_of};
+ghost use Rattle.std.specs.Prelude.{◌≡◌, map, string_bytes, nat_le, if◌then◌else◌, Some, None};
+ghost use Rattle.shell_words.specs.Script.{asked, one_word, two_words, frame_words, three_words, four_words, many_words, command_of};
 
 use net_base::number;
 
@@ -39,199 +38,122 @@ pub enum Command {
     Unknown,
 }
 
-fn clock_of(to: Option<u64>) -> Command
-    ensures { result ≡ clock_of to }
-{
-    match to {
-        Some(to) => Command::Clock { to },
-        None => Command::Unknown,
-    }
-}
-
-fn start_of(node: Option<u64>) -> Command
-    ensures { result ≡ start_of node }
-{
-    match node {
-        Some(node) => Command::Start { node },
-        None => Command::Unknown,
-    }
-}
-
-fn turn_of(node: Option<u64>) -> Command
-    ensures { result ≡ turn_of node }
-{
-    match node {
-        Some(node) => Command::Turn { node, pick: None },
-        None => Command::Unknown,
-    }
-}
-
-fn picked_turn_of(node: Option<u64>, flow: Option<u64>) -> Command
-    ensures { result ≡ picked_turn_of node flow }
-{
-    match (node, flow) {
-        (Some(node), Some(flow)) => Command::Turn {
-            node,
-            pick: Some(flow),
-        },
-        _ => Command::Unknown,
-    }
-}
-
-fn cut_of(node: Option<u64>, calls: Option<u64>, outcome: Option<u64>) -> Command
-    ensures { result ≡ cut_of node calls outcome }
-{
-    match (node, calls, outcome) {
-        (Some(node), Some(calls), Some(outcome)) if outcome <= 3 => {
-            let outcome = outcome as u8;
-            Command::Cut {
-                node,
-                calls,
-                outcome,
-            }
-        }
-        _ => Command::Unknown,
-    }
-}
-
-fn boot_of(node: Option<u64>) -> Command
-    ensures { result ≡ boot_of node }
-{
-    match node {
-        Some(node) => Command::Boot { node },
-        None => Command::Unknown,
-    }
-}
-
-fn flows_of(node: Option<u64>) -> Command
-    ensures { result ≡ flows_of node }
-{
-    match node {
-        Some(node) => Command::Flows { node },
-        None => Command::Unknown,
-    }
-}
-
-fn flow_of(node: Option<u64>, flow: Option<u64>) -> Command
-    ensures { result ≡ flow_of node flow }
-{
-    match (node, flow) {
-        (Some(node), Some(flow)) => Command::Flow { node, flow },
-        _ => Command::Unknown,
-    }
-}
-
-fn post_of(node: Option<u64>) -> Command
-    ensures { result ≡ post_of node }
-{
-    match node {
-        Some(node) => Command::Post { node },
-        None => Command::Unknown,
-    }
-}
-
-fn deliver_of(node: Option<u64>, place: Option<u64>) -> Command
-    ensures { result ≡ deliver_of node place }
-{
-    match (node, place) {
-        (Some(node), Some(place)) => Command::Deliver { node, place },
-        _ => Command::Unknown,
-    }
-}
-
-fn repeat_of(node: Option<u64>, place: Option<u64>) -> Command
-    ensures { result ≡ repeat_of node place }
-{
-    match (node, place) {
-        (Some(node), Some(place)) => Command::Repeat { node, place },
-        _ => Command::Unknown,
-    }
-}
-
-fn lose_of(node: Option<u64>, place: Option<u64>) -> Command
-    ensures { result ≡ lose_of node place }
-{
-    match (node, place) {
-        (Some(node), Some(place)) => Command::Lose { node, place },
-        _ => Command::Unknown,
-    }
-}
-
-fn one_word(word: &str) -> Command
-    ensures { result ≡ one_word word.now }
+fn one_word(word: &str) -> Option<Command>
+    ensures { asked result ≡ one_word word.now }
 {
     if word == "drain" {
-        Command::Drain
+        Some(Command::Drain)
     } else if word == "history" {
-        Command::History
+        Some(Command::History)
     } else if word == "quit" {
-        Command::Quit
+        Some(Command::Quit)
     } else {
-        Command::Unknown
+        None
     }
 }
 
-fn two_words(word: &str, first: &str) -> Command
-    ensures { result ≡ two_words word.now first.now }
+fn two_words(word: &str, first: &str) -> Option<Command>
+    ensures { asked result ≡ two_words word.now first.now }
 {
+    let first = number(first);
     if word == "clock" {
-        clock_of(number(first))
+        Some(Command::Clock { to: first? })
     } else if word == "turn" {
-        turn_of(number(first))
+        let pick = None;
+        Some(Command::Turn { node: first?, pick })
     } else if word == "post" {
-        post_of(number(first))
+        Some(Command::Post { node: first? })
     } else if word == "boot" {
-        boot_of(number(first))
+        Some(Command::Boot { node: first? })
     } else if word == "flows" {
-        flows_of(number(first))
+        Some(Command::Flows { node: first? })
     } else {
-        Command::Unknown
+        None
     }
 }
 
-fn many_words(word: &str, node: &str) -> Command
-    ensures { result ≡ many_words word.now node.now }
+fn many_words(word: &str, node: &str) -> Option<Command>
+    ensures { asked result ≡ many_words word.now node.now }
 {
     if word == "start" {
-        start_of(number(node))
+        let node = number(node)?;
+        Some(Command::Start { node })
     } else {
-        Command::Unknown
+        None
     }
 }
 
-fn frame_words(word: &str, node: &str, place: &str) -> Command
-    ensures { result ≡ frame_words word.now node.now place.now }
+fn frame_words(word: &str, node: &str, place: &str) -> Option<Command>
+    ensures { asked result ≡ frame_words word.now node.now place.now }
 {
     if word == "deliver" {
-        deliver_of(number(node), number(place))
+        let (node, place) = (number(node)?, number(place)?);
+        Some(Command::Deliver { node, place })
     } else if word == "repeat" {
-        repeat_of(number(node), number(place))
+        let (node, place) = (number(node)?, number(place)?);
+        Some(Command::Repeat { node, place })
     } else if word == "lose" {
-        lose_of(number(node), number(place))
+        let (node, place) = (number(node)?, number(place)?);
+        Some(Command::Lose { node, place })
     } else {
         many_words(word, node)
     }
 }
 
-fn three_words(word: &str, node: &str, flow: &str) -> Command
-    ensures { result ≡ three_words word.now node.now flow.now }
+fn three_words(word: &str, node: &str, flow: &str) -> Option<Command>
+    ensures { asked result ≡ three_words word.now node.now flow.now }
 {
     if word == "turn" {
-        picked_turn_of(number(node), number(flow))
+        let (node, flow) = (number(node)?, number(flow)?);
+        let pick = Some(flow);
+        Some(Command::Turn { node, pick })
     } else if word == "flow" {
-        flow_of(number(node), number(flow))
+        let (node, flow) = (number(node)?, number(flow)?);
+        Some(Command::Flow { node, flow })
     } else {
         frame_words(word, node, flow)
     }
 }
 
-fn four_words(word: &str, node: &str, calls: &str, outcome: &str) -> Command
-    ensures { result ≡ four_words word.now node.now calls.now outcome.now }
+fn four_words(word: &str, node: &str, calls: &str, outcome: &str) -> Option<Command>
+    ensures { asked result ≡ four_words word.now node.now calls.now outcome.now }
 {
     if word == "cut" {
-        cut_of(number(node), number(calls), number(outcome))
+        let node = number(node)?;
+        let calls = number(calls)?;
+        let outcome = outcome_of(number(outcome)?)?;
+        Some(Command::Cut {
+            node,
+            calls,
+            outcome,
+        })
     } else {
         many_words(word, node)
+    }
+}
+
+/// The outcome of a cut: 0 to 3.
+fn outcome_of(outcome: u64) -> Option<u8>
+    ensures { result ≡ (if nat_le outcome 3 then Some outcome else None) }
+{
+    if outcome <= 3 {
+        Some(outcome as u8)
+    } else {
+        None
+    }
+}
+
+/// The command that words ask for, if it is known.
+fn parse(words: &[String]) -> Option<Command>
+    ensures { asked result ≡ command_of (map (λ s. string_bytes s) words.now) }
+{
+    match words {
+        [] => None,
+        [w] => one_word(w.as_str()),
+        [w, n] => two_words(w.as_str(), n.as_str()),
+        [w, n, m] => three_words(w.as_str(), n.as_str(), m.as_str()),
+        [w, n, m, k] => four_words(w.as_str(), n.as_str(), m.as_str(), k.as_str()),
+        [w, n, _, _, _, ..] => many_words(w.as_str(), n.as_str()),
     }
 }
 
@@ -239,12 +161,8 @@ fn four_words(word: &str, node: &str, calls: &str, outcome: &str) -> Command
 pub fn command_of(words: &[String]) -> Command
     ensures { result ≡ command_of (map (λ s. string_bytes s) words.now) }
 {
-    match words {
-        [] => Command::Unknown,
-        [w] => one_word(w.as_str()),
-        [w, n] => two_words(w.as_str(), n.as_str()),
-        [w, n, m] => three_words(w.as_str(), n.as_str(), m.as_str()),
-        [w, n, m, k] => four_words(w.as_str(), n.as_str(), m.as_str(), k.as_str()),
-        [w, n, _, _, _, ..] => many_words(w.as_str(), n.as_str()),
+    match parse(words) {
+        Some(command) => command,
+        None => Command::Unknown,
     }
 }

@@ -7,4 +7,4 @@ pub returns : goal.returns
 returns g c =
     let s = c.self.inside in
     let t = c.args.step.now in
-    rw (← c.self.view_is) (c.change_fits.ensures ∙ may_is s.notary s.party (state_of g.F.Spelt.reading s.bodies.items) s.ledger t.session t.ledger c.self.invariant.4)
+    rw (← c.self.view_is) (c.change_fits.ensures ∙ may_is s.notary s.party (state_of g.F.Spelt.reading s.bodies) s.ledger t.session t.ledger c.self.invariant.4)
