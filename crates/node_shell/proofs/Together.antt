@@ -51,9 +51,6 @@ module _ {F : Type 0} (m : Machine F) (f : Reads F) (id : Identity) (old : NetSe
   pub line_in : (line : List ℕ) (reply : Reply) (new : NetSeen) → LineResponds m f line old (Some reply) new → InPair e new (λ b. RepliesTo e w line reply b.world × LineGoes m f id line (Some reply) a b)
   line_in line reply new h = by (has_no_answer line) (is_readable line) h
     where
-      ws : List (List ℕ)
-      ws = words_of line
-
       by : (blank plain : Bool)
           → MatchBool blank ((Some reply ≡ Some Silence) × (new ≡ old)) (MatchBool plain (CommandResponds m f (command_of (words_of line)) (words_of line) old (Some reply) new) ((Some reply ≡ Some (Told (outcome.Refused 1))) × (new ≡ old)))
           → InPair e new (λ b. MatchBool blank ((reply ≡ Silence) × (b.world ≡ w)) (MatchBool plain (Serves e w (command_of (words_of line)) (words_of line) reply b.world) (IsRefused 1 reply × (b.world ≡ w)))
@@ -87,43 +84,43 @@ module _ {F : Type 0} (m : Machine F) (f : Reads F) (id : Identity) (old : NetSe
 -- ---- a story of networks
 
 module _ {F : Type 0} (m : Machine F) (f : Reads F) (id : Identity) where
-  abbrev world : Environment F
-  world = environment m f id
+  abbrev env : Environment F
+  env = environment m f id
 
-  abbrev link : Pair world → List ℕ → List ℕ → Pair world → Type 0
-  link a line text b = PairLink m f id a line text b
+  abbrev paired : Pair env → List ℕ → List ℕ → Pair env → Type 0
+  paired a line text b = PairLink m f id a line text b
 
-  abbrev short : Pair world → List ℕ → Pair world → Type 0
-  short a line b = PairShort m f id a line b
+  abbrev unpaired : Pair env → List ℕ → Pair env → Type 0
+  unpaired a line b = PairShort m f id a line b
 
-  link_in : (k : NetSeen) (line text : List ℕ) (a : Pair world) → NetLink m f a.net line text k → InPair world k (λ b. PairLink m f id a line text b)
+  link_in : (k : NetSeen) (line text : List ℕ) (a : Pair env) → NetLink m f a.net line text k → InPair env k (λ b. PairLink m f id a line text b)
   link_in k line text a l =
       let b = line_in m f id a.net a.world a.shows a.coherent line l.reply k l.responds in
       record { world = b.world; shows = b.shows; coherent = b.coherent; holds = record { net = l; replies = b.holds.0; goes = b.holds.1 } }
 
-  short_in : (k : NetSeen) (line : List ℕ) (a : Pair world) → NetShort m f a.net line k → InPair world k (λ b. PairShort m f id a line b)
+  short_in : (k : NetSeen) (line : List ℕ) (a : Pair env) → NetShort m f a.net line k → InPair env k (λ b. PairShort m f id a line b)
   short_in k line a (inl l) =
       let b = left_in m f id a.net a.world a.shows a.coherent line k l.responds in
       record { world = b.world; shows = b.shows; coherent = b.coherent; holds = inl (record { net = l; leaves = b.holds.0; goes = b.holds.1 }) }
   short_in k line a (inr (text, l)) = let b = link_in k line text a l in record { world = b.world; shows = b.shows; coherent = b.coherent; holds = inr (text, b.holds) }
 
-  module _ (start : NetSeen) (first : World) (shows : Shows world start first) (coherent : Coherent world first) where
-    abbrev a : Pair world
-    a = with_world start first shows coherent
+  module _ (start : NetSeen) (first : World) (shows : Shows env start first) (coherent : Coherent env first) where
+    abbrev opening : Pair env
+    opening = with_world start first shows coherent
 
-    story_in : (lines : List (List ℕ)) (out : List ℕ) (n : NetSeen) → Story (NetLink m f) start lines out n → InPair world n (λ b. Story link a lines out b)
+    story_in : (lines : List (List ℕ)) (out : List ℕ) (n : NetSeen) → Story (NetLink m f) start lines out n → InPair env n (λ b. Story paired opening lines out b)
     story_in lines out n begins = record { world = first; shows = shows; coherent = coherent; holds = begins }
     story_in lines out n (goes_on {lines = earlier} {out = said} {before = b} line text before none linked all longer) =
         let u = story_in earlier said b before in
         let v = link_in n line text (with_world b u.world u.shows u.coherent) linked in
         record { world = v.world; shows = v.shows; coherent = v.coherent; holds = goes_on line text u.holds none v.holds all longer }
 
-    answered_in : (written0 written1 : Option (List ℕ)) (lines : List (List ℕ)) (n : NetSeen) → Answered (NetLink m f) start written0 written1 lines n → InPair world n (λ b. Answered link a written0 written1 lines b)
+    answered_in : (written0 written1 : Option (List ℕ)) (lines : List (List ℕ)) (n : NetSeen) → Answered (NetLink m f) start written0 written1 lines n → InPair env n (λ b. Answered paired opening written0 written1 lines b)
     answered_in written0 written1 lines n h =
         let u = story_in lines h.out n h.story in
         record { world = u.world; shows = u.shows; coherent = u.coherent; holds = record { out = h.out; story = u.holds; appended = h.appended } }
 
-    cut_in : (written0 written1 : Option (List ℕ)) (lines : List (List ℕ)) (n : NetSeen) → CutOff (NetLink m f) start written0 written1 lines n → InPair world n (λ b. CutOff link a written0 written1 lines b)
+    cut_in : (written0 written1 : Option (List ℕ)) (lines : List (List ℕ)) (n : NetSeen) → CutOff (NetLink m f) start written0 written1 lines n → InPair env n (λ b. CutOff paired opening written0 written1 lines b)
     cut_in written0 written1 lines n c =
         let u = story_in c.earlier c.out c.before c.story in
         let mid = with_world c.before u.world u.shows u.coherent in
@@ -135,7 +132,7 @@ module _ {F : Type 0} (m : Machine F) (f : Reads F) (id : Identity) where
           holds = record { before = mid; earlier = c.earlier; line = c.line; out = c.out; front = c.front; missing = c.missing; all = c.all; story = u.holds; open_end = c.open_end; linked = v.holds; proper = c.proper; appended = c.appended };
         }
 
-    left_off_in : (written0 written1 : Option (List ℕ)) (lines : List (List ℕ)) (n : NetSeen) → LeftOff (NetLink m f) (NetShort m f) start written0 written1 lines n → InPair world n (λ b. LeftOff link short a written0 written1 lines b)
+    left_off_in : (written0 written1 : Option (List ℕ)) (lines : List (List ℕ)) (n : NetSeen) → LeftOff (NetLink m f) (NetShort m f) start written0 written1 lines n → InPair env n (λ b. LeftOff paired unpaired opening written0 written1 lines b)
     left_off_in written0 written1 lines n l =
         let u = story_in l.earlier l.out l.before l.story in
         let mid = with_world l.before u.world u.shows u.coherent in
@@ -143,7 +140,7 @@ module _ {F : Type 0} (m : Machine F) (f : Reads F) (id : Identity) where
         record { world = v.world; shows = v.shows; coherent = v.coherent; holds = record { before = mid; earlier = l.earlier; line = l.line; out = l.out; all = l.all; story = u.holds; open_end = l.open_end; ran_short = v.holds; appended = l.appended } }
 
     module _ (left written0 written1 : Option (List ℕ)) (count : ℕ) (lines : List (List ℕ)) (rest : List ℕ) (n : NetSeen) where
-      ends_in : (s : Status) → EndsWith (NetLink m f) (NetShort m f) start left written0 written1 count lines rest n s → InPair world n (λ b. EndsWith link short a left written0 written1 count lines rest b s)
+      ends_in : (s : Status) → EndsWith (NetLink m f) (NetShort m f) start left written0 written1 count lines rest n s → InPair env n (λ b. EndsWith paired unpaired opening left written0 written1 count lines rest b s)
       ends_in status.Finished h = let x = answered_in written0 written1 _ n h.1 in record { world = x.world; shows = x.shows; coherent = x.coherent; holds = (h.0, x.holds) }
       ends_in status.BadWords h = absurd h
       ends_in status.TooLong h = let x = answered_in written0 written1 _ n h.2 in record { world = x.world; shows = x.shows; coherent = x.coherent; holds = (h.0, h.1, x.holds) }
@@ -156,7 +153,7 @@ module _ {F : Type 0} (m : Machine F) (f : Reads F) (id : Identity) where
 
     -- from each coherent world that the first network shows
     pub run_in : (left0 left1 written0 written1 : Option (List ℕ)) (count : ℕ) (n : NetSeen) (s : Status) → ScriptRun (NetLink m f) (NetShort m f) start left0 left1 written0 written1 count n s
-        → InPair world n (λ b. ScriptRun link short a left0 left1 written0 written1 count b s)
+        → InPair env n (λ b. ScriptRun paired unpaired opening left0 left1 written0 written1 count b s)
     run_in left0 left1 written0 written1 count n s r =
         let x = ends_in left1 written0 written1 count r.lines r.rest n s r.ends in
         record { world = x.world; shows = x.shows; coherent = x.coherent; holds = record { read = r.read; lines = r.lines; rest = r.rest; consumed = r.consumed; counted = r.counted; split = r.split; ends = x.holds } }
@@ -247,6 +244,12 @@ scripts_are_both m f id a b left0 left1 written0 written1 count s run = record {
 
 -- ---- the way
 
+-- from what it begins with to an end, by way of what it comes by
+record Ways {F : Type 0} (m : Machine F) (f : Reads F) (id : Identity) (a b : Pair (environment m f id)) (passes : Pair (environment m f id) → Type 0) : Type 0 where
+  pub whole : Way m f id a b
+  pub to : (u : Pair (environment m f id)) → passes u → Way m f id a u
+  pub on : (u : Pair (environment m f id)) → passes u → Way m f id u b
+
 module _ {F : Type 0} (m : Machine F) (f : Reads F) (id : Identity) where
   abbrev shown : Type 0
   shown = Pair (environment m f id)
@@ -272,12 +275,6 @@ module _ {F : Type 0} (m : Machine F) (f : Reads F) (id : Identity) where
   pub leads_on : (a b : shown) → Way m f id a b → LeadsOn m f id a b
   leads_on a b way = record { way = way; kept = kept_on_ways m f id a b way; acknowledged = acknowledged_at_all_moments m f id a b way }
 
-  -- from what it begins with to an end, by way of what it comes by
-  record Ways (a b : shown) (passes : shown → Type 0) : Type 0 where
-    pub whole : Way m f id a b
-    pub to : (u : shown) → passes u → Way m f id a u
-    pub on : (u : shown) → passes u → Way m f id u b
-
   story_way : (a : shown) (lines : List (List ℕ)) (out : List ℕ) (b : shown) → Story (PairLink m f id) a lines out b → Way m f id a b
   story_way a lines out b begins = stay refl
   story_way a lines out b (goes_on {lines = earlier} {out = said} {before = c} line text before none l all longer) = way_then a c b (story_way a earlier said c before) (link_way c line text b l)
@@ -293,11 +290,11 @@ module _ {F : Type 0} (m : Machine F) (f : Reads F) (id : Identity) where
   story_on a lines out b (goes_on {lines = earlier} {out = said} {before = c} line text before none l all longer) u (inl earlier_on) = way_then u c b (story_on a earlier said c before u earlier_on) (link_way c line text b l)
   story_on a lines out b (goes_on {lines = earlier} {out = said} {before = c} line text before none l all longer) u (inr is) = stay (sym is)
 
-  story_ways : (a : shown) (lines : List (List ℕ)) (out : List ℕ) (b : shown) (story : Story (PairLink m f id) a lines out b) → Ways a b (ComesBy story)
+  story_ways : (a : shown) (lines : List (List ℕ)) (out : List ℕ) (b : shown) (story : Story (PairLink m f id) a lines out b) → Ways m f id a b (ComesBy story)
   story_ways a lines out b story = record { whole = story_way a lines out b story; to = story_to a lines out b story; on = story_on a lines out b story }
 
   -- a last line more
-  last_ways : (a b c : shown) (passes : shown → Type 0) → Ways a b passes → Way m f id b c → Ways a c (λ u. passes u ⊎ (u ≡ c))
+  last_ways : (a b c : shown) (passes : shown → Type 0) → Ways m f id a b passes → Way m f id b c → Ways m f id a c (λ u. passes u ⊎ (u ≡ c))
   last_ways a b c passes ways last = record {
     whole = way_then a b c ways.whole last;
     to = λ u h. to_last u h;
@@ -313,7 +310,7 @@ module _ {F : Type 0} (m : Machine F) (f : Reads F) (id : Identity) where
       on_last u (inr is) = stay (sym is)
 
   module _ (a b : shown) (left written0 written1 : Option (List ℕ)) (count : ℕ) (lines : List (List ℕ)) (rest : List ℕ) where
-    ends_ways : (s : Status) (h : EndsWith (PairLink m f id) (PairShort m f id) a left written0 written1 count lines rest b s) → Ways a b (EndComesBy s h)
+    ends_ways : (s : Status) (h : EndsWith (PairLink m f id) (PairShort m f id) a left written0 written1 count lines rest b s) → Ways m f id a b (EndComesBy (PairLink m f id) (PairShort m f id) a left written0 written1 count lines rest b s h)
     ends_ways status.Finished h = story_ways a _ h.1.out b h.1.story
     ends_ways status.BadWords h = absurd h
     ends_ways status.TooLong h = story_ways a _ h.2.out b h.2.story

@@ -1,5 +1,6 @@
 -- Stories of networks together with the worlds that they show, and the way that a whole script goes.
-use Rattle.std.specs.Prelude.{◌≡◌, ◌⊎◌, inl, inr, ℕ, List, map, Option, Some, None}
+use Rattle.std.proofs.Common.{inl, inr}
+use Rattle.std.specs.Prelude.{◌≡◌, ◌⊎◌, ℕ, List, map, Option, Some, None}
 use Rattle.disk_journal.specs.Journal.{journal_of}
 use Rattle.net_base.specs.declared.causes.Cause.{Cause}
 use Rattle.net_base.specs.declared.names.Identity.{Identity}
@@ -77,18 +78,18 @@ abbrev pub ComesBy : {W : Type 0} {link : W → List ℕ → List ℕ → W → 
 ComesBy {start = start} begins u = u ≡ start
 ComesBy (goes_on {after = after} line text before none link all longer) u = ComesBy before u ⊎ (u ≡ after)
 
-module _ {W : Type 0} {link : W → List ℕ → List ℕ → W → Type 0} {short : W → List ℕ → W → Type 0} {start last : W} {left written0 written1 : Option (List ℕ)} {count : ℕ} {lines : List (List ℕ)} {rest : List ℕ} where
-  -- so the end of a script: by what the lines that were answered came by, and by what the last one left
-  abbrev pub EndComesBy : (s : Status) → EndsWith link short start left written0 written1 count lines rest last s → W → Type 0
-  EndComesBy status.Finished h u = ComesBy h.1.story u
-  EndComesBy status.BadWords h u = ⊥
-  EndComesBy status.TooLong h u = ComesBy h.2.story u
-  EndComesBy status.ReadFault h u = ComesBy h.1.story u
-  EndComesBy status.WriteFault h u = ComesBy h.0.story u ⊎ (u ≡ last)
-  EndComesBy status.DiskFault h u = ⊥
-  EndComesBy status.NoMemory (inl h) u = ComesBy h.0.story u ⊎ (u ≡ last)
-  EndComesBy status.NoMemory (inr h) u = ComesBy h.2.story u
-  EndComesBy status.BadJournal h u = ⊥
+-- so the end of a script: by what the lines that were answered came by, and by what the last one left
+abbrev pub EndComesBy : {W : Type 0} (link : W → List ℕ → List ℕ → W → Type 0) (short : W → List ℕ → W → Type 0) (start : W) (left written0 written1 : Option (List ℕ)) (count : ℕ) (lines : List (List ℕ)) (rest : List ℕ) (last : W) (s : Status)
+    → EndsWith link short start left written0 written1 count lines rest last s → W → Type 0
+EndComesBy link short start left written0 written1 count lines rest last status.Finished h = ComesBy h.1.story
+EndComesBy link short start left written0 written1 count lines rest last status.BadWords h = λ u. ⊥
+EndComesBy link short start left written0 written1 count lines rest last status.TooLong h = ComesBy h.2.story
+EndComesBy link short start left written0 written1 count lines rest last status.ReadFault h = ComesBy h.1.story
+EndComesBy link short start left written0 written1 count lines rest last status.WriteFault h = λ u. ComesBy h.0.story u ⊎ (u ≡ last)
+EndComesBy link short start left written0 written1 count lines rest last status.DiskFault h = λ u. ⊥
+EndComesBy link short start left written0 written1 count lines rest last status.NoMemory (inl h) = λ u. ComesBy h.0.story u ⊎ (u ≡ last)
+EndComesBy link short start left written0 written1 count lines rest last status.NoMemory (inr h) = ComesBy h.2.story
+EndComesBy link short start left written0 written1 count lines rest last status.BadJournal h = λ u. ⊥
 
 -- ---- laws
 
@@ -110,7 +111,7 @@ pub record IsOneWay {F : Type 0} (m : Machine F) (frame_at : Reads F) (id : Iden
 -- so of each script
 abbrev pub ScriptsAreWays : (F : Type 0) → Type 0
 ScriptsAreWays F = (m : Machine F) (f : Reads F) (id : Identity) (a b : Pair (environment m f id)) (left0 left1 written0 written1 : Option (List ℕ)) (count : ℕ) (s : Status)
-    (run : ScriptRun (PairLink m f id) (PairShort m f id) a left0 left1 written0 written1 count b s) → IsOneWay m f id a b (EndComesBy s run.ends)
+    (run : ScriptRun (PairLink m f id) (PairShort m f id) a left0 left1 written0 written1 count b s) → IsOneWay m f id a b (EndComesBy (PairLink m f id) (PairShort m f id) a left1 written0 written1 count run.lines run.rest b s run.ends)
 
 -- what a script comes to of networks together with worlds, it comes to of the worlds alone and of the networks alone
 pub record IsBoth {F : Type 0} (m : Machine F) (frame_at : Reads F) (id : Identity) (a b : Pair (environment m frame_at id))

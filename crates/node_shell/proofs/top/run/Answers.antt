@@ -3,7 +3,8 @@ use Rattle.net_base.proofs.Options.{some_eq}
 use Rattle.net_model.specs.Environment.{party}
 use Rattle.shell_words.specs.declared.program.NetworkWords.{NetworkWords}
 use Rattle.node_shell.specs.Pairs.{first_disks}
-use Rattle.node_shell.specs.Runs.{KeepOwn, RunsAnyhow}
+use Rattle.network_core.specs.Worlds.{World, Shows, Coherent}
+use Rattle.node_shell.specs.Runs.{KeepOwn, RunsAs, RunsAnyhow, environment_for, over}
 use Rattle.node_shell.proofs.top.run.Goals as goal
 
 pub returns-in-Some-clause-own : goal.returns-in-Some-clause-own
@@ -17,3 +18,13 @@ returns-in-Some-clause-went g c n is =
     subst
     (λ (k : NetworkWords). RunsAnyhow g.F.FlowSet.machine g.F.Spelt.reading k.nodes (party k.notary) (first_disks k.nodes (map g.B.Disk.seen c.args.disks.items)) (first_disks k.nodes (map g.B.Disk.seen c.run_network.result.disks.items)) (g.S.Source.left c.args.source.now) (g.S.Source.left c.run_network.new.source) (g.K.Sink.written c.args.sink.now) (g.K.Sink.written c.run_network.new.sink) c.run_network.result.bytes_read c.run_network.result.status)
     same c.run_network.ensures.went
+
+pub returns-in-Some-clause-story : goal.returns-in-Some-clause-story
+returns-in-Some-clause-story g c n is =
+    let same : c.in-Some.network ≡ n = some_eq (sym c.in-Some.is ∙ c.network_of_words.ensures.network ∙ is) in
+    let m = g.F.FlowSet.machine in
+    let f = g.F.Spelt.reading in
+    subst
+    (λ (k : NetworkWords). (w : World) → Shows (environment_for m f k) (over (environment_for m f k) w.now (first_disks k.nodes (map g.B.Disk.seen c.args.disks.items))) w → Coherent (environment_for m f k) w
+    → RunsAs m f k.nodes (party k.notary) w (first_disks k.nodes (map g.B.Disk.seen c.args.disks.items)) (first_disks k.nodes (map g.B.Disk.seen c.run_network.result.disks.items)) (g.S.Source.left c.args.source.now) (g.S.Source.left c.run_network.new.source) (g.K.Sink.written c.args.sink.now) (g.K.Sink.written c.run_network.new.sink) c.run_network.result.bytes_read c.run_network.result.status)
+    same c.run_network.ensures.story
