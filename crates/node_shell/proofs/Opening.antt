@@ -463,6 +463,7 @@ module _ {F : Type 0} (m : Machine F) (f : Reads F) (nodes : ℕ) (notary : Part
 
   one_way_with : (w v : World) (ds ks bs : List DiskView) (left0 left1 written0 written1 : Option (List ℕ)) (count : ℕ) (s : Status) → MadeReady w v → AllStay ds ks
       → PlaysOneWay m f nodes notary v ks bs left0 left1 written0 written1 count s → PlaysOneWay m f nodes notary w ds bs left0 left1 written0 written1 count s
+  unfolding goes_with plays_with
   one_way_with w v ds ks bs left0 left1 written0 written1 count s made stay p = record {
     plays = plays_with w v ds ks bs left0 left1 written0 written1 count s made stay p.plays;
     together = record {
