@@ -6,7 +6,6 @@ use Rattle.std.proofs.lemmas.List.{nil_from_length}
 use Rattle.shell_words.specs.Script.{without_cr, whole_lines, last_line, is_quit}
 use Rattle.shell_words.proofs.Splitting.{last_one}
 use Rattle.node_shell.specs.declared.session.Stop.{Stop}
-use Rattle.node_shell.specs.declared.statuses.Status.{Status}
 use Rattle.node_shell.specs.declared.statuses.Status.TheVariants as status
 use Rattle.node_shell.specs.Story.{Progress, ScriptRun, Answered, AnswerComes, status_of}
 use Rattle.node_shell.proofs.Stories.{answered_more, progress_line, run_finished, run_cut_at_end, run_cut, run_quit}

@@ -1,5 +1,5 @@
 -- A story of networks is one of them together with the worlds that they show, that is one of each alone, and it is one way.
-use Rattle.std.proofs.Common.{◌≡◌, ◌⊎◌, inl, inr, ℕ, List, [], ◌∷◌, ◌++◌, map, Bool, true, false, Option, Some, None, refl, sym, subst}
+use Rattle.std.proofs.Common.{◌≡◌, ◌⊎◌, inl, inr, ℕ, List, [], ◌++◌, Bool, true, false, Option, Some, None, refl, sym, subst}
 use Rattle.std.specs.Prelude.{◌||◌, not, if◌then◌else◌, MatchBool}
 use Rattle.net_base.specs.declared.names.Identity.{Identity}
 use Rattle.net_base.proofs.Options.{some_eq}
@@ -22,9 +22,9 @@ use Rattle.node_shell.specs.declared.replies.Reply.TheVariants.{Silence, Told}
 use Rattle.node_shell.specs.declared.statuses.Status.{Status}
 use Rattle.node_shell.specs.declared.statuses.Status.TheVariants as status
 use Rattle.node_shell.specs.Serve.{step_of, IsRefused, Makes, Serves, RepliesTo, Link, Leaves, RunsShort}
-use Rattle.node_shell.specs.Responds.{Responds, CommandResponds, LineResponds, NetLink, NetLeft, NetShort}
+use Rattle.node_shell.specs.Responds.{Responds, CommandResponds, LineResponds, NetLink, NetShort}
 use Rattle.node_shell.specs.Story.{Story, begins, goes_on, Answered, CutOff, LeftOff, EndsWith, ScriptRun}
-use Rattle.node_shell.specs.Together.{Goes, LineGoes, PairLink, PairLeft, PairShort, InPair, ComesBy, EndComesBy, LeadsOn, IsOneWay, ScriptsAreWays, IsBoth, ScriptsAreBoth}
+use Rattle.node_shell.specs.Together.{Goes, LineGoes, PairLink, PairShort, InPair, ComesBy, EndComesBy, LeadsOn, ScriptsAreWays, ScriptsAreBoth}
 use Rattle.node_shell.proofs.Shown.{shown_answers}
 
 -- ---- a line, from each coherent world that the network shows

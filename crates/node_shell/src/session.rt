@@ -191,9 +191,9 @@ pub fn session<B: Bay, F: FlowSet, S: Source, K: Sink>(
         (shows : Shows (environment F.machine F.reading id) net.old start)
         (coherent : Coherent (environment F.machine F.reading id) start)
         → InPair (environment F.machine F.reading id) net.new
-            (λ last. ScriptRun (PairLink F.machine F.reading id) (PairShort F.machine F.reading id)
-                (with_world net.old start shows coherent) (S.left source.old) (S.left source.new)
-                (K.written sink.old) (K.written sink.new) result.bytes_read last result.status) }
+        (λ last. ScriptRun (PairLink F.machine F.reading id) (PairShort F.machine F.reading id)
+        (with_world net.old start shows coherent) (S.left source.old) (S.left source.new)
+        (K.written sink.old) (K.written sink.new) result.bytes_read last result.status) }
     ensures too_long { result.status ≡ Status.TooLong ↔ (result.bytes_read ≡ 16777217) }
     ensures few { result.bytes_read ≤ 16777217 }
     ensures kinds { IsScriptStatus result.status }
