@@ -8,7 +8,7 @@ use Rattle.node_tables.specs.Journals.{Reads}
 use Rattle.network_core.specs.declared.steps.Outcome.{Outcome}
 use Rattle.network_core.specs.declared.steps.Step.{Step}
 use Rattle.network_core.specs.declared.steps.Step.TheVariants as step
-use Rattle.network_core.specs.Served.{Serve}
+use Rattle.network_core.specs.Served.{Serve, ServesPairs}
 use Rattle.network_core.specs.Answers.{Answered, answer_of}
 use Rattle.network_core.specs.Worlds.{World, NetSeen, KeepsWorld}
 use Rattle.shell_words.specs.declared.commands.Command.{Command}
@@ -115,13 +115,16 @@ module _ {F : Type 0} (m : Machine F) (f : Reads F) where
 
   -- ---- over any network
 
-  -- an outcome is told, and want of memory is
-  pub told_so : {E : Type 0} (old new : NetSeen) (s : Step) (answer : Result Outcome E) (o : Outcome) → answer ≡ Ok o → Answered m f s old answer new → StepResponds m f s old (Some (Told o)) new
-  told_so {E} old new s answer o is h = (o, as_told E m f old new s o (subst (λ r. Answered m f s old r new) is h), refl)
+  no_err : false ≡ true → ⊥
+  no_err is = cc
 
-  pub untold_so : {E G : Type 0} (old new : NetSeen) (s : Step) (result : Result Reply E) (fault : G) → IsErr result → Answered m f s old (err_outcome fault) new → StepResponds m f s old (given result) new
-  untold_so old new s (Ok reply) fault is h = cc
-  untold_so {G = G} old new s (Err why) fault is h = inr (as_untold G m f old new s fault h)
+  -- an outcome is told, and want of memory is
+  pub told_so : {E : Type 0} (old new : NetSeen) (s : Step) (answer : Result Outcome E) (o : Outcome) → answer ≡ Ok o → Answered m f s old answer new → ServesPairs m f s (Some o) old new → StepResponds m f s old (Some (Told o)) new
+  told_so {E} old new s answer o is h pairs = (o, as_told E m f old new s o (subst (λ r. Answered m f s old r new) is h), refl, pairs)
+
+  pub untold_so : {E G : Type 0} (old new : NetSeen) (s : Step) (result : Result Reply E) (fault : G) → IsErr result → Answered m f s old (err_outcome fault) new → ServesPairs m f s None old new → StepResponds m f s old (given result) new
+  untold_so old new s (Ok reply) fault is h pairs = absurd (no_err is)
+  untold_so {G = G} old new s (Err why) fault is h pairs = inr (as_untold G m f old new s fault h, pairs)
 
   pub asked_responds : (old new : NetSeen) (asked : Command) (ws : List (List ℕ)) (reply : Option Reply) → asked ≡ command_of ws → CommandResponds m f asked ws old reply new → CommandResponds m f (command_of ws) ws old reply new
   asked_responds old new asked ws reply is h = subst (λ (a : Command). CommandResponds m f a ws old reply new) is h

@@ -2,6 +2,7 @@ pub mod Stories
 pub mod Going
 pub mod Shown
 pub mod Asked
+pub mod Together
 pub mod Reached
 pub mod Weaving
 pub mod Readying

@@ -28,7 +28,7 @@ module _ {F : Type 0} (m : Machine F) (f : Reads F) where
   step_responds : (s : Step) (a b : NetSeen) (reply : Option Reply) → StepResponds m f s a reply b → Keeps a b
   step_responds s a b (Some reply) h = step_names m f s a b (answer_of (Some h.0)) h.1
   step_responds s a b None (inl is) = unmoved a b is
-  step_responds s a b None (inr answered) = step_names m f s a b (answer_of None) answered
+  step_responds s a b None (inr h) = step_names m f s a b (answer_of None) h.0
 
   responds : (s : Option Step) (asked : Command) (words : List (List ℕ)) (a b : NetSeen) (reply : Option Reply) → Responds m f s asked words a reply b → Keeps a b
   responds (Some s) asked words a b reply h = step_responds s a b reply h

@@ -23,16 +23,19 @@ use Rattle.node_core.specs.Seen.{NodeSeen, BootsAs, GaveUp, boot_of, Refuses as 
 use Rattle.node_core.specs.declared.faults.BootFault.{BootFault}
 use Rattle.node_core.specs.declared.faults.BootFault.TheVariants as boot
 use Rattle.network_core.specs.Worlds.{World, NetSeen, Shows, Coherent}
+use Rattle.network_core.specs.Drains.{with_world}
 use Rattle.network_core.specs.Begins.{member, node_over, nodes_over, no_boot, BeginsWorld, IsRefused, BootsUpTo}
 use Rattle.network_core.proofs.Reaching.{reaches_coherent, reaches_openable}
 use Rattle.network_core.proofs.Standing.{acknowledged_stands_once}
 use Rattle.network_core.proofs.Beginning.{first_at}
 use Rattle.node_shell.specs.declared.statuses.Status.{Status}
 use Rattle.node_shell.specs.declared.statuses.Status.TheVariants as status
-use Rattle.node_shell.specs.Serve.{Link, RunsShort}
-use Rattle.node_shell.specs.Story.{ScriptRun, IsScriptStatus, InSome}
-use Rattle.node_shell.specs.Runs.{over, number_of_status, Plays, Refuses, RunsAs, journal_line, PlaysOrRefuses, RefusedWith, IsOpeningStatus, Fails, OneFails, HasCause, MisfitsAt, StaysBut, KeepsCalm, IsOpened, AfterRefusal, GivesUp, IsUnready, IsToldWhy, KeepsOwn, KeepOwn, IsPlayedStatus, IsPlayedNumber, AllStay, MadeReady, GoesOrHalts, RunsAnyhow}
-use Rattle.node_shell.proofs.Readying.{fails_since, stays_then, stay_then}
+use Rattle.node_shell.specs.Responds.{NetLink, NetShort}
+use Rattle.node_shell.specs.Story.{ScriptRun, IsScriptStatus}
+use Rattle.node_shell.specs.Together.{PairLink, PairShort, InPair}
+use Rattle.node_shell.specs.Runs.{over, number_of_status, Plays, PlaysOneWay, GoesOn, Refuses, RunsAs, journal_line, PlaysOrRefuses, RefusedWith, IsOpeningStatus, Fails, OneFails, HasCause, MisfitsAt, StaysBut, KeepsCalm, IsOpened, AfterRefusal, GivesUp, IsUnready, IsToldWhy, KeepsOwn, KeepOwn, IsPlayedStatus, IsPlayedNumber, AllStay, MadeReady, GoesOrHalts, RunsAnyhow}
+use Rattle.node_shell.proofs.Readying.{fails_since, stays_then, stay_same, stay_then}
+use Rattle.node_shell.proofs.Together.{scripts_are_both}
 use Rattle.node_shell.proofs.Reached.{story_reaches, script_reaches}
 use Rattle.node_shell.proofs.Resting.{counted, begun_openable, down_openable, made_openable, stay_openable, made_same, made_then, made_fewer, same_fewer, made_journals, same_journals, stands, rests, made_coherent, made_counted, counted_shows, refused_rests, down_fewer}
 
@@ -298,28 +301,43 @@ module _ {F : Type 0} (m : Machine F) (f : Reads F) (nodes : ℕ) (notary : Part
 
   pub played : (ds bs : List DiskView) (w : World) (begun ended : NetSeen) (left0 left1 written0 written1 : Option (List ℕ)) (count : ℕ) (s : Status)
       → IsScriptStatus s → KeepOwn f nodes notary ds → BeginsWorld m f nodes notary ds begun
-      → ((id : Identity) (start : World) → Shows (environment m f id) begun start → Coherent (environment m f id) start → InSome (environment m f id) ended (λ v. ScriptRun (Link (environment m f id)) (RunsShort (environment m f id)) start left0 left1 written0 written1 count v s))
+      → BootsUpTo f nodes begun.now (nodes_over nodes notary 0 ds) begun.nodes → begun.waiting ≡ map (λ (n : NodeSeen). []) begun.nodes
+      → ScriptRun (NetLink m f) (NetShort m f) begun left0 left1 written0 written1 count ended s
+      → ((id : Identity) (start : World) (first : Shows (environment m f id) begun start) (sound : Coherent (environment m f id) start) → InPair (environment m f id) ended (λ v. ScriptRun (PairLink m f id) (PairShort m f id) (with_world begun start first sound) left0 left1 written0 written1 count v s))
       → map (λ (n : NodeSeen). n.disk) ended.nodes ≡ map roomless bs
-      → Shows e (over e w.now ds) w → Coherent e w → PlaysOrRefuses e w ds bs left0 left1 written0 written1 count s
-  played ds bs w begun ended left0 left1 written0 written1 count s script own begins ran disks shows coherent =
+      → Shows e (over e w.now ds) w → Coherent e w → PlaysOrRefuses m f nodes notary w ds bs left0 left1 written0 written1 count s
+  played ds bs w begun ended left0 left1 written0 written1 count s script own begins boots quiet went ran disks shows coherent =
       let start = begins w.now w shows coherent in
       let end = ran (member nodes notary 0) start.0 start.1 start.2 in
-      let reaches = script_reaches e start.0 left0 left1 written0 written1 count end.world s end.holds in
+      let first = with_world begun start.0 start.1 start.2 in
+      let last = with_world ended end.world end.shows end.coherent in
+      let worlds = (scripts_are_both m f (member nodes notary 0) first last left0 left1 written0 written1 count s end.holds).worlds in
+      let reaches = script_reaches e start.0 left0 left1 written0 written1 count end.world s worlds in
       inl (record {
-        is_script = script;
-        own = own;
-        ready = w;
-        made = made_same w;
-        start = start.0;
-        begins = start.3;
-        last = end.world;
-        script = end.holds;
-        rests = rests m f nodes notary ended end.world bs end.shows end.coherent disks;
-        openable = down_openable end.world (reaches_openable e start.0 end.world reaches (begun_openable e w start.0 start.3));
-        reaches = reaches;
-        coherent = λ u to. reaches_coherent e start.0 u start.2 to;
-        on_the_way = λ lines out u story. story_reaches e start.0 lines out u story;
-        acknowledged = λ u v to on. acknowledged_stands_once e u v (reaches_coherent e start.0 u start.2 to) on;
+        plays = record {
+          is_script = script;
+          own = own;
+          ready = w;
+          made = made_same w;
+          start = start.0;
+          begins = start.3;
+          last = end.world;
+          script = worlds;
+          rests = rests m f nodes notary ended end.world bs end.shows end.coherent disks;
+          openable = down_openable end.world (reaches_openable e start.0 end.world reaches (begun_openable e w start.0 start.3));
+          reaches = reaches;
+          coherent = λ u to. reaches_coherent e start.0 u start.2 to;
+          on_the_way = λ lines out u story. story_reaches e start.0 lines out u story;
+          acknowledged = λ u v to on. acknowledged_stands_once e u v (reaches_coherent e start.0 u start.2 to) on;
+        };
+        together = record {
+          went = record { ready = ds; made = stay_same ds; begun = begun; opened = boots; quiet = quiet; last = ended; script = went; back = disks };
+          shows = start.1;
+          coherent = start.2;
+          shows_last = end.shows;
+          coherent_last = end.coherent;
+          script = end.holds;
+        };
       })
 
   -- the boot that was refused
@@ -388,7 +406,7 @@ module _ {F : Type 0} (m : Machine F) (f : Reads F) (nodes : ℕ) (notary : Part
 
   pub refused : (ds bs : List DiskView) (w : World) (node : ℕ) (why : BootFault) (left written0 written1 : Option (List ℕ)) (s : Status) → 0 < nodes → length ds ≡ nodes
       → IsRefused m f nodes notary ds node why bs → RefusedWith node why written0 written1 s
-      → Shows e (over e w.now ds) w → Coherent e w → PlaysOrRefuses e w ds bs left left written0 written1 0 s
+      → Shows e (over e w.now ds) w → Coherent e w → PlaysOrRefuses m f nodes notary w ds bs left left written0 written1 0 s
   refused ds bs w node why left written0 written1 s some count r told shows coherent =
       let v = r.world w.now w shows coherent in
       inr (record {
@@ -405,7 +423,7 @@ module _ {F : Type 0} (m : Machine F) (f : Reads F) (nodes : ℕ) (notary : Part
 
   -- the disks were not made ready, or there was no memory for that
   pub unready : (ds es : List DiskView) (w : World) (left written : Option (List ℕ)) (s : Status) → IsOpeningStatus s → AllStay ds es
-      → Shows e (over e w.now ds) w → Coherent e w → PlaysOrRefuses e w ds es left left written written 0 s
+      → Shows e (over e w.now ds) w → Coherent e w → PlaysOrRefuses m f nodes notary w ds es left left written written 0 s
   unready ds es w left written s is stay shows coherent =
       let v = counted es w in
       let made = made_counted m f nodes notary w ds es stay shows in
@@ -440,6 +458,24 @@ module _ {F : Type 0} (m : Machine F) (f : Reads F) (nodes : ℕ) (notary : Part
     acknowledged = p.acknowledged;
   }
 
+  goes_with : (ds ks bs : List DiskView) (left0 left1 written0 written1 : Option (List ℕ)) (count : ℕ) (s : Status) → AllStay ds ks → GoesOn m f nodes notary ks bs left0 left1 written0 written1 count s → GoesOn m f nodes notary ds bs left0 left1 written0 written1 count s
+  goes_with ds ks bs left0 left1 written0 written1 count s stay g = record { ready = g.ready; made = stay_then ds ks g.ready stay g.made; begun = g.begun; opened = g.opened; quiet = g.quiet; last = g.last; script = g.script; back = g.back }
+
+  one_way_with : (w v : World) (ds ks bs : List DiskView) (left0 left1 written0 written1 : Option (List ℕ)) (count : ℕ) (s : Status) → MadeReady w v → AllStay ds ks
+      → PlaysOneWay m f nodes notary v ks bs left0 left1 written0 written1 count s → PlaysOneWay m f nodes notary w ds bs left0 left1 written0 written1 count s
+  unfolding goes_with plays_with
+  one_way_with w v ds ks bs left0 left1 written0 written1 count s made stay p = record {
+    plays = plays_with w v ds ks bs left0 left1 written0 written1 count s made stay p.plays;
+    together = record {
+      went = goes_with ds ks bs left0 left1 written0 written1 count s stay p.together.went;
+      shows = p.together.shows;
+      coherent = p.together.coherent;
+      shows_last = p.together.shows_last;
+      coherent_last = p.together.coherent_last;
+      script = p.together.script;
+    };
+  }
+
   refuses_with : (w v : World) (ds ks bs : List DiskView) (left0 left1 written0 written1 : Option (List ℕ)) (count : ℕ) (s : Status) → MadeReady w v → AllStay ds ks
       → Refuses e v ks bs left0 left1 written0 written1 count s → Refuses e w ds bs left0 left1 written0 written1 count s
   refuses_with w v ds ks bs left0 left1 written0 written1 count s made stay r = record {
@@ -456,24 +492,24 @@ module _ {F : Type 0} (m : Machine F) (f : Reads F) (nodes : ℕ) (notary : Part
 
   -- the disks were made ready, and then the nodes opened or one did not
   ready : (ds ks bs : List DiskView) (w : World) (left0 left1 written0 written1 : Option (List ℕ)) (count : ℕ) (s : Status) → AllStay ds ks
-      → ((v : World) → Shows e (over e v.now ks) v → Coherent e v → PlaysOrRefuses e v ks bs left0 left1 written0 written1 count s)
-      → Shows e (over e w.now ds) w → Coherent e w → PlaysOrRefuses e w ds bs left0 left1 written0 written1 count s
+      → ((v : World) → Shows e (over e v.now ks) v → Coherent e v → PlaysOrRefuses m f nodes notary v ks bs left0 left1 written0 written1 count s)
+      → Shows e (over e w.now ds) w → Coherent e w → PlaysOrRefuses m f nodes notary w ds bs left0 left1 written0 written1 count s
   ready ds ks bs w left0 left1 written0 written1 count s stay runs shows coherent =
       let v = counted ks w in
       let made = made_counted m f nodes notary w ds ks stay shows in
-      ⊎_elim (λ (p : Plays e v ks bs left0 left1 written0 written1 count s). inl (plays_with w v ds ks bs left0 left1 written0 written1 count s made stay p))
+      ⊎_elim (λ (p : PlaysOneWay m f nodes notary v ks bs left0 left1 written0 written1 count s). inl (one_way_with w v ds ks bs left0 left1 written0 written1 count s made stay p))
       (λ (r : Refuses e v ks bs left0 left1 written0 written1 count s). inr (refuses_with w v ds ks bs left0 left1 written0 written1 count s made stay r))
       (runs v (counted_shows m f nodes notary w ds ks stay shows) (made_coherent m f nodes notary w v made coherent))
 
   pub ready_at : (ds ks bs es : List DiskView) (w : World) (left0 left1 written0 written1 : Option (List ℕ)) (count : ℕ) (s : Status) → es ≡ bs → AllStay ds ks
-      → ((v : World) → Shows e (over e v.now ks) v → Coherent e v → PlaysOrRefuses e v ks bs left0 left1 written0 written1 count s)
-      → Shows e (over e w.now ds) w → Coherent e w → PlaysOrRefuses e w ds es left0 left1 written0 written1 count s
+      → ((v : World) → Shows e (over e v.now ks) v → Coherent e v → PlaysOrRefuses m f nodes notary v ks bs left0 left1 written0 written1 count s)
+      → Shows e (over e w.now ds) w → Coherent e w → PlaysOrRefuses m f nodes notary w ds es left0 left1 written0 written1 count s
   ready_at ds ks bs es w left0 left1 written0 written1 count s there stay runs shows coherent =
-      subst (λ x. PlaysOrRefuses e w ds x left0 left1 written0 written1 count s) (sym there) (ready ds ks bs w left0 left1 written0 written1 count s stay runs shows coherent)
+      subst (λ x. PlaysOrRefuses m f nodes notary w ds x left0 left1 written0 written1 count s) (sym there) (ready ds ks bs w left0 left1 written0 written1 count s stay runs shows coherent)
 
   pub runs_as : (w : World) (ds bs : List DiskView) (left0 left1 written0 written1 : Option (List ℕ)) (count counted number : ℕ) (s : Status) → number ≡ number_of_status s → counted ≡ count
-      → PlaysOrRefuses e w ds bs left0 left1 written0 written1 count s → RunsAs e w ds bs left0 left1 written0 written1 counted number
-  runs_as w ds bs left0 left1 written0 written1 count counted number s is same ran = record { status = s; is = is; ran = subst (λ n. PlaysOrRefuses e w ds bs left0 left1 written0 written1 n s) (sym same) ran }
+      → PlaysOrRefuses m f nodes notary w ds bs left0 left1 written0 written1 count s → RunsAs m f nodes notary w ds bs left0 left1 written0 written1 counted number
+  runs_as w ds bs left0 left1 written0 written1 count counted number s is same ran = record { status = s; is = is; ran = subst (λ n. PlaysOrRefuses m f nodes notary w ds bs left0 left1 written0 written1 n s) (sym same) ran }
 
 -- ---- over any disks
 
@@ -481,7 +517,7 @@ module _ {F : Type 0} (m : Machine F) (f : Reads F) (nodes : ℕ) (notary : Part
   -- the disks were made ready before
   went_since : (ds ks bs : List DiskView) (left0 left1 written0 written1 : Option (List ℕ)) (count : ℕ) (s : Status) → AllStay ds ks
       → GoesOrHalts m f nodes notary ks bs left0 left1 written0 written1 count s → GoesOrHalts m f nodes notary ds bs left0 left1 written0 written1 count s
-  went_since ds ks bs left0 left1 written0 written1 count s stay (inl g) = inl (record { ready = g.ready; made = stay_then ds ks g.ready stay g.made; begun = g.begun; opened = g.opened; quiet = g.quiet; last = g.last; script = g.script; back = g.back })
+  went_since ds ks bs left0 left1 written0 written1 count s stay (inl g) = inl (goes_with m f nodes notary ds ks bs left0 left1 written0 written1 count s stay g)
   went_since ds ks bs left0 left1 written0 written1 count s stay (inr h) =
       inr (record {
         unread = h.unread;

@@ -2,4 +2,5 @@ pub mod Pairs
 pub mod Serve
 pub mod Responds
 pub mod Story
+pub mod Together
 pub mod Runs

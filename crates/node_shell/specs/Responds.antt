@@ -13,6 +13,7 @@ use Rattle.network_core.specs.declared.steps.Outcome.TheVariants as outcome
 use Rattle.network_core.specs.declared.steps.Step.{Step}
 use Rattle.network_core.specs.Worlds.{NetSeen, KeepsWorld}
 use Rattle.network_core.specs.Answers.{Answered, answer_of}
+use Rattle.network_core.specs.Served.{ServesPairs}
 use Rattle.shell_words.specs.declared.commands.Command.{Command}
 use Rattle.shell_words.specs.declared.commands.Command.TheVariants as command
 use Rattle.shell_words.specs.Script.{has_no_answer, is_readable, words_of, command_of, asked_by}
@@ -75,10 +76,11 @@ abbrev pub given : {E : Type 0} → Result Reply E → Option Reply
 given (Ok reply) = Some reply
 given (Err fault) = None
 
--- a step was made, and its outcome, which has its cause, is told; or memory ran out before it or within it
+-- a step was made, and its outcome, which has its cause, is told; or memory ran out before it or within it. So also of each coherent world that the
+-- network shows: the step is made of both at once
 abbrev pub StepResponds : {F : Type 0} → Machine F → Reads F → Step → NetSeen → Option Reply → NetSeen → Type 0
-StepResponds m frame_at step old (Some reply) new = (o : Outcome) × Answered m frame_at step old (answer_of (Some o)) new × (reply ≡ Told o)
-StepResponds m frame_at step old None new = (new ≡ old) ⊎ Answered m frame_at step old (answer_of None) new
+StepResponds m frame_at step old (Some reply) new = (o : Outcome) × Answered m frame_at step old (answer_of (Some o)) new × (reply ≡ Told o) × ServesPairs m frame_at step (Some o) old new
+StepResponds m frame_at step old None new = (new ≡ old) ⊎ (Answered m frame_at step old (answer_of None) new × ServesPairs m frame_at step None old new)
 
 -- a command's step is made, or it makes none and changes nothing
 abbrev pub Responds : {F : Type 0} → Machine F → Reads F → Option Step → Command → List (List ℕ) → NetSeen → Option Reply → NetSeen → Type 0

@@ -21,12 +21,14 @@ use Rattle.node_core.specs.Seen.{NodeSeen}
 use Rattle.node_core.specs.Disks.{roomless}
 use Rattle.network_core.specs.Begins.{member, nodes_over, net_over, Begun, BootsUpTo}
 use Rattle.network_core.specs.Acknowledged.{Reaches, Acknowledged, StandsOnce}
+use Rattle.network_core.specs.Drains.{with_world}
 use Rattle.node_shell.specs.Pairs.{own_name}
 use Rattle.node_shell.specs.declared.statuses.Status.{Status}
 use Rattle.node_shell.specs.declared.statuses.Status.TheVariants as status
 use Rattle.node_shell.specs.Serve.{Link, RunsShort}
 use Rattle.node_shell.specs.Responds.{NetLink, NetShort}
 use Rattle.node_shell.specs.Story.{Story, ScriptRun, IsScriptStatus}
+use Rattle.node_shell.specs.Together.{PairLink, PairShort}
 
 -- the number of a status
 abbrev pub number_of_status : Status → ℕ
@@ -234,12 +236,6 @@ pub record Refuses {F : Type 0} (e : Environment F) (w : World) (old new : List 
   pub why : IsUnready old new written0 written1 s ⊎ IsToldWhy e.frame_at e.nodes e.notary old new written0 written1 s
   pub opens : AreOpenable w → GivesUp written0 written1 s
 
--- a run over disks that show this world while their nodes are down: the nodes opened and the script was played, or one did not open
-pub record RunsAs {F : Type 0} (e : Environment F) (w : World) (old new : List DiskView) (left0 left1 written0 written1 : Option (List ℕ)) (count number : ℕ) : Type 0 where
-  pub status : Status
-  pub is : number ≡ number_of_status status
-  pub ran : Plays e w old new left0 left1 written0 written1 count status ⊎ Refuses e w old new left0 left1 written0 written1 count status
-
 -- the statuses of a disk that was not made ready
 abbrev pub IsOpeningStatus : Status → Type 0
 IsOpeningStatus status.DiskFault = ⊤
@@ -272,10 +268,6 @@ IsRunStatus status.BadJournal = ⊤
 IsRunStatus status.Finished = ⊤
 IsRunStatus status.TooLong = ⊤
 IsRunStatus status.ReadFault = ⊤
-
--- the nodes opened and the script was played, or one did not open
-abbrev pub PlaysOrRefuses : {F : Type 0} → Environment F → World → List DiskView → List DiskView → Option (List ℕ) → Option (List ℕ) → Option (List ℕ) → Option (List ℕ) → ℕ → Status → Type 0
-PlaysOrRefuses e w old new left0 left1 written0 written1 count s = Plays e w old new left0 left1 written0 written1 count s ⊎ Refuses e w old new left0 left1 written0 written1 count s
 
 -- the statuses that come only once all nodes have opened
 abbrev pub IsPlayedStatus : Status → Type 0
@@ -321,3 +313,31 @@ pub record RunsAnyhow {F : Type 0} (m : Machine F) (frame_at : Reads F) (nodes :
   pub status : Status
   pub is : number ≡ number_of_status status
   pub ran : GoesOrHalts m frame_at nodes notary old new left0 left1 written0 written1 count status
+
+-- ---- over disks that show a coherent world
+
+-- the networks of the script went together with these worlds, line by line: so the script is one way (`scripts_are_ways`)
+pub record GoTogether {F : Type 0} (m : Machine F) (frame_at : Reads F) (nodes : ℕ) (notary : Party) (start last : World) (old new : List DiskView) (left0 left1 written0 written1 : Option (List ℕ)) (count : ℕ) (status : Status) : Type 0 where
+  pub went : GoesOn m frame_at nodes notary old new left0 left1 written0 written1 count status
+  pub shows : Shows (environment m frame_at (member nodes notary 0)) went.begun start
+  pub coherent : Coherent (environment m frame_at (member nodes notary 0)) start
+  pub shows_last : Shows (environment m frame_at (member nodes notary 0)) went.last last
+  pub coherent_last : Coherent (environment m frame_at (member nodes notary 0)) last
+  pub script : ScriptRun (PairLink m frame_at (member nodes notary 0)) (PairShort m frame_at (member nodes notary 0)) (with_world went.begun start shows coherent) left0 left1 written0 written1 count (with_world went.last last shows_last coherent_last) status
+
+-- the nodes opened and the script was played, and at every moment of it the networks went together with the worlds
+pub record PlaysOneWay {F : Type 0} (m : Machine F) (frame_at : Reads F) (nodes : ℕ) (notary : Party) (w : World) (old new : List DiskView) (left0 left1 written0 written1 : Option (List ℕ)) (count : ℕ) (status : Status) : Type 0 where
+  pub plays : Plays (environment m frame_at (member nodes notary 0)) w old new left0 left1 written0 written1 count status
+  pub together : GoTogether m frame_at nodes notary plays.start plays.last old new left0 left1 written0 written1 count status
+
+-- the nodes opened and the script was played, or one did not open
+abbrev pub PlaysOrRefuses : {F : Type 0} → Machine F → Reads F → ℕ → Party → World → List DiskView → List DiskView → Option (List ℕ) → Option (List ℕ) → Option (List ℕ) → Option (List ℕ) → ℕ → Status → Type 0
+PlaysOrRefuses m frame_at nodes notary w old new left0 left1 written0 written1 count s =
+    PlaysOneWay m frame_at nodes notary w old new left0 left1 written0 written1 count s
+    ⊎ Refuses (environment m frame_at (member nodes notary 0)) w old new left0 left1 written0 written1 count s
+
+-- a run over disks that show this world while their nodes are down: the nodes opened and the script was played, or one did not open
+pub record RunsAs {F : Type 0} (m : Machine F) (frame_at : Reads F) (nodes : ℕ) (notary : Party) (w : World) (old new : List DiskView) (left0 left1 written0 written1 : Option (List ℕ)) (count number : ℕ) : Type 0 where
+  pub status : Status
+  pub is : number ≡ number_of_status status
+  pub ran : PlaysOrRefuses m frame_at nodes notary w old new left0 left1 written0 written1 count status

@@ -2,8 +2,6 @@
 use Rattle.std.specs.Prelude.{◌≡◌, ℕ, ◌<◌, List, [], ◌∷◌, ◌++◌, length, Option, take, ◌⊎◌, false, true, Result, Ok, Err, ⊤}
 use Rattle.std.specs.List.{AllByRecursion}
 use Rattle.std.specs.Io.KnownBytes.{Consumes, Appends, IsAtEnd}
-use Rattle.net_model.specs.Environment.{Environment}
-use Rattle.network_core.specs.Worlds.{World, NetSeen, Shows, Coherent}
 use Rattle.shell_words.specs.Script.{AreLines, whole_lines, last_line, is_quit}
 use Rattle.node_shell.specs.declared.statuses.Status.{Status}
 use Rattle.node_shell.specs.declared.statuses.Status.TheVariants as status
@@ -54,13 +52,6 @@ pub record LeftOff {W : Type 0} (link : W → List ℕ → List ℕ → W → Ty
   pub open_end : NoneQuits earlier
   pub ran_short : short before line last
   pub appended : Appends written0 written1 out
-
--- the network shows some coherent world of which this holds
-pub record InSome {F : Type 0} (e : Environment F) (net : NetSeen) (P : World → Type 0) : Type 0 where
-  pub world : World
-  pub shows : Shows e net world
-  pub coherent : Coherent e world
-  pub holds : P world
 
 -- ---- scripts
 

@@ -1,10 +1,11 @@
 //! The shell that runs a script over a network of 1 to 16 nodes.
 //!
-//! The definitions that the contracts cite stand in `specs/`, in this order: `Serve`, `Responds`, `Story`, `Pairs`, `Runs`; those of lines and words
-//! stand in `shell_words`, those of worlds and steps in `network_core`.
+//! The definitions that the contracts cite stand in `specs/`, in this order: `Serve`, `Responds`, `Story`, `Together`, `Pairs`, `Runs`; those of lines and
+//! words stand in `shell_words`, those of worlds, steps and ways in `network_core`.
 #![tactic(auto)]
 
 mod disks;
+mod laws;
 mod openings;
 mod replies;
 mod serving;
@@ -13,4 +14,5 @@ mod statuses;
 mod streams;
 mod top;
 
+pub use laws::{scripts_are_both, scripts_are_ways};
 pub use top::{Ended, run};

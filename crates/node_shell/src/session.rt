@@ -1,13 +1,14 @@
 ghost use Rattle.std.specs.Prelude.{◌≡◌, ◌<◌, ◌≤◌, ◌+◌, ◌↔◌, [], ◌∷◌, ℕ, List, length, OnOk, IfOk, IfErr, IsErrOf, Option};
 ghost use Rattle.outside.specs.Faults.{Rose};
 ghost use Rattle.network_core.specs.Worlds.{World, NetSeen, Shows, Coherent};
+ghost use Rattle.network_core.specs.Drains.{with_world};
 ghost use Rattle.net_base.specs.declared.names.Identity.{Identity};
 ghost use Rattle.net_model.specs.Environment.{environment};
 ghost use Rattle.shell_words.specs.Script.{is_quit};
 ghost use Rattle.std.specs.Io.KnownBytes.{Consumes, IsAtEnd};
-ghost use Rattle.node_shell.specs.Serve.{Link, RunsShort};
 ghost use Rattle.node_shell.specs.Responds.{NetLink, NetShort};
-ghost use Rattle.node_shell.specs.Story.{InSome, Progress, ScriptRun, AnswerComes, IsLastStatus, IsScriptStatus, status_of};
+ghost use Rattle.node_shell.specs.Together.{InPair, PairLink, PairShort};
+ghost use Rattle.node_shell.specs.Story.{Progress, ScriptRun, AnswerComes, IsLastStatus, IsScriptStatus, status_of};
 
 use super::serving::reply_to;
 use super::statuses::Status;
@@ -186,8 +187,13 @@ pub fn session<B: Bay, F: FlowSet, S: Source, K: Sink>(
 ) -> End
     ensures count { length net.new.nodes ≡ length net.old.nodes }
     ensures went { ScriptRun (NetLink F.machine F.reading) (NetShort F.machine F.reading) net.old (S.left source.old) (S.left source.new) (K.written sink.old) (K.written sink.new) result.bytes_read net.new result.status }
-    ensures ran { (id : Identity) (start : World) → Shows (environment F.machine F.reading id) net.old start → Coherent (environment F.machine F.reading id) start
-        → InSome (environment F.machine F.reading id) net.new (λ w. ScriptRun (Link (environment F.machine F.reading id)) (RunsShort (environment F.machine F.reading id)) start (S.left source.old) (S.left source.new) (K.written sink.old) (K.written sink.new) result.bytes_read w result.status) }
+    ensures ran { (id : Identity) (start : World)
+        (shows : Shows (environment F.machine F.reading id) net.old start)
+        (coherent : Coherent (environment F.machine F.reading id) start)
+        → InPair (environment F.machine F.reading id) net.new
+        (λ last. ScriptRun (PairLink F.machine F.reading id) (PairShort F.machine F.reading id)
+        (with_world net.old start shows coherent) (S.left source.old) (S.left source.new)
+        (K.written sink.old) (K.written sink.new) result.bytes_read last result.status) }
     ensures too_long { result.status ≡ Status.TooLong ↔ (result.bytes_read ≡ 16777217) }
     ensures few { result.bytes_read ≤ 16777217 }
     ensures kinds { IsScriptStatus result.status }

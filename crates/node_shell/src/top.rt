@@ -46,7 +46,7 @@ fn play<S: Source, K: Sink, B: Bay, F: FlowSet>(
     ensures count { length result.2.items ≡ length own.items }
     ensures attached { attached_as (map B.seen result.2.items) ≡ attached_as (map B.seen own.items) }
     ensures runs { let e = environment_for F.machine F.reading network in (w : World) → Shows e (over e w.now (map B.seen own.items)) w → Coherent e w
-        → PlaysOrRefuses e w (map B.seen own.items) (map B.seen result.2.items) (S.left source.old) (S.left source.new) (K.written sink.old) (K.written sink.new) result.1 result.0 }
+        → PlaysOrRefuses F.machine F.reading network.nodes (party network.notary) w (map B.seen own.items) (map B.seen result.2.items) (S.left source.old) (S.left source.new) (K.written sink.old) (K.written sink.new) result.1 result.0 }
     ensures went { GoesOrHalts F.machine F.reading network.nodes (party network.notary) (map B.seen own.items) (map B.seen result.2.items) (S.left source.old) (S.left source.new) (K.written sink.old) (K.written sink.new) result.1 result.0 }
     ensures too_long { result.0 ≡ Status.TooLong ↔ (result.1 ≡ 16777217) }
     ensures few { result.1 ≤ 16777217 }
@@ -82,7 +82,7 @@ fn run_network<S: Source, K: Sink, B: Bay, F: FlowSet>(
     requires within { IsNetwork network }
     requires disks { length disks.items ≡ 32 }
     ensures story { let e = environment_for F.machine F.reading network in let old = first_disks network.nodes (map B.seen disks.items) in let new = first_disks network.nodes (map B.seen result.disks.items) in (w : World) → Shows e (over e w.now old) w → Coherent e w
-        → RunsAs e w old new (S.left source.old) (S.left source.new) (K.written sink.old) (K.written sink.new) result.bytes_read result.status }
+        → RunsAs F.machine F.reading network.nodes (party network.notary) w old new (S.left source.old) (S.left source.new) (K.written sink.old) (K.written sink.new) result.bytes_read result.status }
     ensures went { RunsAnyhow F.machine F.reading network.nodes (party network.notary) (first_disks network.nodes (map B.seen disks.items)) (first_disks network.nodes (map B.seen result.disks.items)) (S.left source.old) (S.left source.new) (K.written sink.old) (K.written sink.new) result.bytes_read result.status }
     ensures words { result.status ≡ 2 → ⊥ }
     ensures count { length result.disks.items ≡ 32 }
@@ -119,6 +119,10 @@ fn run_network<S: Source, K: Sink, B: Bay, F: FlowSet>(
 /// ready in memory as `node-n.a` and `node-n.b`; its journal is on the first. All disks are made ready in order, and then the nodes are
 /// opened in order. A script has at most 16,777,216 bytes. Each line of it is a command, which has one answer line or, a query, several; a
 /// blank line, one that begins with `#` and `quit` have none. The frames that wait when it ends are not kept.
+///
+/// Over disks that show a coherent world the script is one way of the network together with that world (`scripts_are_ways`). So at every
+/// moment of it, also within any call of a disk in the middle of a line, whichever image a power loss leaves of each disk, the journals are
+/// those of one run, and what was acknowledged before stands there once. Of the openings before it this is not said.
 pub fn run<S: Source, K: Sink, B: Bay, F: FlowSet>(
     alloc: Global,
     words: &[String],
@@ -128,7 +132,7 @@ pub fn run<S: Source, K: Sink, B: Bay, F: FlowSet>(
 ) -> Ended<B>
     requires { length disks.items ≡ 32 }
     ensures story { (n : NetworkWords) → network_of_words (map (λ s. string_bytes s) words.now) ≡ Some n → let e = environment_for F.machine F.reading n in let old = first_disks n.nodes (map B.seen disks.items) in let new = first_disks n.nodes (map B.seen result.disks.items) in (w : World) → Shows e (over e w.now old) w → Coherent e w
-        → RunsAs e w old new (S.left source.old) (S.left source.new) (K.written sink.old) (K.written sink.new) result.bytes_read result.status }
+        → RunsAs F.machine F.reading n.nodes (party n.notary) w old new (S.left source.old) (S.left source.new) (K.written sink.old) (K.written sink.new) result.bytes_read result.status }
     ensures went { (n : NetworkWords) → network_of_words (map (λ s. string_bytes s) words.now) ≡ Some n → RunsAnyhow F.machine F.reading n.nodes (party n.notary) (first_disks n.nodes (map B.seen disks.items)) (first_disks n.nodes (map B.seen result.disks.items)) (S.left source.old) (S.left source.new) (K.written sink.old) (K.written sink.new) result.bytes_read result.status }
     ensures words { (result.status ≡ 2) ↔ (network_of_words (map (λ s. string_bytes s) words.now) ≡ None) }
     ensures untouched { network_of_words (map (λ s. string_bytes s) words.now) ≡ None → (result.bytes_read ≡ 0) × (result.disks.items ≡ disks.items) × (S.left source.new ≡ S.left source.old) × (K.written sink.new ≡ K.written sink.old) }

@@ -1,6 +1,6 @@
 use Rattle.std.proofs.Common.{arith, refl, ◌∙◌}
 use Rattle.node_shell.proofs.Stories.{progress_start}
-use Rattle.node_shell.proofs.Going.{run_in}
+use Rattle.node_shell.proofs.Together.{run_in}
 use Rattle.node_shell.proofs.session.session.Goals as goal
 
 pub bytes-init : goal.bytes-init

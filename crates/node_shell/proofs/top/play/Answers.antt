@@ -25,7 +25,7 @@ returns-in-Ok-clause-runs g c w shows coherent =
     let own = map g.B.Disk.seen c.args.own.items in
     let count : length own ≡ n = length-map c.args.own.items g.B.Disk.seen ∙ c.requires.disks in
     let disks = sym c.into_disks.ensures ∙ sym (map_both roomless g.B.Disk.seen c.into_disks.result.items) in
-    played m f n notary own (map g.B.Disk.seen c.into_disks.result.items) w c.in-Ok.net c.session-end.new.net _ _ _ _ _ _ c.session-end.ensures.kinds (boots_own f n notary own c.in-Ok.net.now c.in-Ok.net.nodes count c.in-Ok.ensures.boots) c.in-Ok.ensures.ok c.session-end.ensures.ran disks shows coherent
+    played m f n notary own (map g.B.Disk.seen c.into_disks.result.items) w c.in-Ok.net c.session-end.new.net _ _ _ _ _ _ c.session-end.ensures.kinds (boots_own f n notary own c.in-Ok.net.now c.in-Ok.net.nodes count c.in-Ok.ensures.boots) c.in-Ok.ensures.ok c.in-Ok.ensures.boots c.in-Ok.ensures.waiting c.session-end.ensures.went c.session-end.ensures.ran disks shows coherent
 
 pub returns-in-Err-clause-runs : goal.returns-in-Err-clause-runs
 returns-in-Err-clause-runs g c w shows coherent =

@@ -214,4 +214,4 @@ returns-clause-named g c =
     let back = c.play-status.result.2.items in
     let ends = c.end_with-2.result.disks.items in
     let h : Handed g.B.Disk.seen n olds ready own rest back ends = record { few = c.requires.within.few; all = c.requires.disks; stay = c.attach_all.ensures.stay; taken = c.take_first.ensures.woven; count = c.take_first.ensures.count; same = c.play-status.ensures.count; put = ap (λ v. v.items) c.end_with-2.ensures.1 ∙ c.put_back.ensures } in
-    inl (last_named g.B.Disk.seen n olds ready own rest back ends h (2 * n) c.play-status.ensures.attached c.in_ok-attach_all.ensures.named)
+    inl (last_named g.B.Disk.seen n olds ready own rest back ends h (2 * n) c.play-status.ensures.attached c.in_default-attach_all.ensures.named)
