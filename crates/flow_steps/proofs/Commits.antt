@@ -21,7 +21,7 @@ use Rattle.flow_machine.specs.Flows.{AreWithin}
 use Rattle.flow_machine.specs.Machine.{Machine}
 use Rattle.transition_record.specs.Causes.{IsEvent, came_key_of}
 use Rattle.transition_record.specs.Changes.{IsSession, session_text, IsLedger}
-use Rattle.net_model.specs.Environment.{Environment, environment}
+use Rattle.net_model.specs.Environment.{Environment, environment, unjudged}
 use Rattle.net_model.specs.State.{NodeState, Effect, session_part}
 use Rattle.net_model.specs.Steps.{place, effect_of, answering, answered_with}
 use Rattle.net_model.specs.Enabled.{enabled_event}
@@ -84,8 +84,8 @@ begun_within within n class made small few is = first_within within n class made
 
 module _ {F : Type 0} (m : Machine F) (r : List ℕ → Result (F × List ℕ) ℕ) (id : Identity) (now n : ℕ) where
   -- the flow that answers an Init has its number
-  pub answer_owner : (key : Key) (init : Body) (flow : FlowAfter F) → Some flow ≡ begun_for (environment m r id) id.party.0 now n key init → flow.number ≡ n
-  answer_owner key (body_of.Init class first) flow is = begun_owner n class (m.begun class key (place (environment m r id) id.party.0 n 0 now)) flow is
+  pub answer_owner : (key : Key) (init : Body) (flow : FlowAfter F) → Some flow ≡ begun_for (environment (unjudged m r) id) id.party.0 now n key init → flow.number ≡ n
+  answer_owner key (body_of.Init class first) flow is = begun_owner n class (m.begun class key (place (environment (unjudged m r) id) id.party.0 n 0 now)) flow is
   answer_owner key _ flow is = cc
 
   answer_with : (key : Key) (class : ℕ) (init : Body) (made : Option (F × Act F)) (flow : Option (FlowAfter F)) (change : SessionChange) → flow ≡ option_map (first_after n class) made → session_part change ≡ answer_to key init (is_some flow) → answering key n class init made ≡ effect_by flow change (no_ledger (owner_of flow) (ends_with flow))
@@ -96,20 +96,20 @@ module _ {F : Type 0} (m : Machine F) (r : List ℕ → Result (F × List ℕ) �
       let sent : session_part change ≡ answer_to key init false = told ∙ ap (λ o. answer_to key init (is_some o)) is in
       sym ((λ i. record { flow = part_after (is i); change = session_part change }) ∙ (λ i. record { flow = part_after {F = F} None; change = sent i }))
 
-  answer_effect : (key : Key) (init : Body) (flow : Option (FlowAfter F)) (change : SessionChange) → is_init init ≡ true → flow ≡ begun_for (environment m r id) id.party.0 now n key init → session_part change ≡ answer_to key init (is_some flow)
-      → (s : NodeState F) → length s.flows ≡ n → is_new_key id.nodes id.party s.sessions key ≡ true → effect_of (environment m r id) id.party.0 s now (event.Answer key) (Some init) ≡ Some (effect_by flow change (no_ledger (owner_of flow) (ends_with flow)))
+  answer_effect : (key : Key) (init : Body) (flow : Option (FlowAfter F)) (change : SessionChange) → is_init init ≡ true → flow ≡ begun_for (environment (unjudged m r) id) id.party.0 now n key init → session_part change ≡ answer_to key init (is_some flow)
+      → (s : NodeState F) → length s.flows ≡ n → is_new_key id.nodes id.party s.sessions key ≡ true → effect_of (environment (unjudged m r) id) id.party.0 s now (event.Answer key) (Some init) ≡ Some (effect_by flow change (no_ledger (owner_of flow) (ends_with flow)))
   unfolding effect_of
   answer_effect key (body_of.Init class first) flow change init is told s same new =
-      let w = environment m r id in
+      let w = environment (unjudged m r) id in
       ap (λ b. cond b (answered_with w id.party.0 s now key (body_of.Init class first)) None) new
       ∙ ap (λ k. Some (answering key k class (body_of.Init class first) (m.begun class key (place w id.party.0 k 0 now)))) same
       ∙ ap (λ (e : Effect F). Some e) (answer_with key class (body_of.Init class first) (m.begun class key (place w id.party.0 n 0 now)) flow change is told)
   answer_effect key _ flow change init is told s same new = cc
 
   -- what answers an Init is ready
-  pub answer_ready : (within : F → Type 0) (stamp : ℕ) (moment : Moment) (key : Key) (init : Body) (flow : Option (FlowAfter F)) (change : SessionChange) → is_init init ≡ true → IsKey key → flow ≡ begun_for (environment m r id) id.party.0 now n key init → IfSome flow (IsAfter within) → session_part change ≡ answer_to key init (is_some flow)
+  pub answer_ready : (within : F → Type 0) (stamp : ℕ) (moment : Moment) (key : Key) (init : Body) (flow : Option (FlowAfter F)) (change : SessionChange) → is_init init ≡ true → IsKey key → flow ≡ begun_for (environment (unjudged m r) id) id.party.0 now n key init → IfSome flow (IsAfter within) → session_part change ≡ answer_to key init (is_some flow)
       → IsSession (owner_of flow) (Some key) change → length (session_text change) ≤ 50000 → (s : NodeState F) → length s.flows ≡ n → is_new_key id.nodes id.party s.sessions key ≡ true
-      → IsReady (environment m r id) id.party.0 now within s (Some init) (record { cause = record { stamp = stamp; moment = moment; event = event.Answer key }; flow = flow; session = change; ledger = no_ledger (owner_of flow) (ends_with flow) })
+      → IsReady (environment (unjudged m r) id) id.party.0 now within s (Some init) (record { cause = record { stamp = stamp; moment = moment; event = event.Answer key }; flow = flow; session = change; ledger = no_ledger (owner_of flow) (ends_with flow) })
   answer_ready within stamp moment key init flow change holds is_key is limits told h short s same new = record {
     effect = answer_effect key init flow change holds is told s same new;
     limits = is_key;
@@ -123,7 +123,7 @@ module _ {F : Type 0} (m : Machine F) (r : List ℕ → Result (F × List ℕ) �
 
 module _ {F : Type 0} (m : Machine F) (r : List ℕ → Result (F × List ℕ) ℕ) (id : Identity) (now : ℕ) where
   arrive_effect : (key : Key) (direction number : ℕ) (body : Body) (change : SessionChange) (s : NodeState F) (session : Session) → session_part change ≡ arrival body → session_of key s.sessions ≡ Some session → is_next id.party key direction number body session ≡ true
-      → effect_of (environment m r id) id.party.0 s now (event.Arrive key direction number) (Some body) ≡ Some (effect_by None change (no_ledger 0 false))
+      → effect_of (environment (unjudged m r) id) id.party.0 s now (event.Arrive key direction number) (Some body) ≡ Some (effect_by None change (no_ledger 0 false))
   unfolding effect_of
   arrive_effect key direction number body change s session told stands next =
       let some : Option (Effect F) = Some (record { flow = part_after {F = F} None; change = arrival body }) in
@@ -131,7 +131,7 @@ module _ {F : Type 0} (m : Machine F) (r : List ℕ → Result (F × List ℕ) �
 
   pub arrive_ready : (within : F → Type 0) (stamp : ℕ) (moment : Moment) (key : Key) (direction number : ℕ) (body : Body) (change : SessionChange) → IsKey key → direction < 256 → number < 2 ^ 32 → session_part change ≡ arrival body → IsSession 0 (Some key) change → length (session_text change) ≤ 50000
       → (s : NodeState F) (session : Session) → session_of key s.sessions ≡ Some session → is_next id.party key direction number body session ≡ true
-      → IsReady (environment m r id) id.party.0 now within s (Some body) (record { cause = record { stamp = stamp; moment = moment; event = event.Arrive key direction number }; flow = None; session = change; ledger = no_ledger 0 false })
+      → IsReady (environment (unjudged m r) id) id.party.0 now within s (Some body) (record { cause = record { stamp = stamp; moment = moment; event = event.Arrive key direction number }; flow = None; session = change; ledger = no_ledger 0 false })
   arrive_ready within stamp moment key direction number body change is_key small few told h short s session stands next = record {
     effect = arrive_effect key direction number body change s session told stands next;
     limits = (is_key, (small, few));

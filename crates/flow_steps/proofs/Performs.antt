@@ -30,7 +30,7 @@ use Rattle.flow_machine.specs.Checkpoints.{IsCheckpoint}
 use Rattle.flow_machine.specs.Flows.{KeepsLimits}
 use Rattle.flow_machine.specs.Limits.{IsPlace, IsResumed}
 use Rattle.flow_machine.specs.Machine.{Machine}
-use Rattle.net_model.specs.Environment.{Environment, environment, is_act_built}
+use Rattle.net_model.specs.Environment.{Environment, environment, is_act_built, unjudged}
 use Rattle.net_model.specs.State.{NodeState, Effect, nothing, fresh, session_part}
 use Rattle.net_model.specs.Steps.{Done, goes_on, onwards, pushes, returns, fails, opens, sends, receives, takes, performed, lapsed, lapses}
 use Rattle.net_model.specs.Enabled.{enabling, enabled_event, effect_on}
@@ -58,28 +58,28 @@ place_limits id n step now is small few by = record { me = is.0; notary = is.1.1
 module _ {F : Type 0} (m : Machine F) (r : List ℕ → Result (F × List ℕ) ℕ) (within : F → Type 0) (keeps : KeepsLimits within m) (id : Identity) (is : IsIdentity id) (now : Moment) (by : IsMoment now) (at : Checkpoint F) (limits : IsCheckpoint within at)
     (step : at.step < 2 ^ 32 - 1) where
   -- the flow is within its limits once a frame was resumed within them
-  pub gone_limits : (frame : F) (below : List F) (with : Resumed) → within frame → length below ≤ 7 → AllByRecursion within below → IsResumed with → IsFlow within (gone_on (environment m r id) id.party.0 now.0 at frame below with)
+  pub gone_limits : (frame : F) (below : List F) (with : Resumed) → within frame → length below ≤ 7 → AllByRecursion within below → IsResumed with → IsFlow within (gone_on (environment (unjudged m r) id) id.party.0 now.0 at frame below with)
   gone_limits frame below with top few rest result =
       let made = keeps.next frame with (record { me = id.party; notary = id.notary; nodes = id.nodes; flow = at.flow; step = at.step; now = now }) top result (place_limits id at.flow at.step now is limits.0 limits.1.0 by) in
       (limits.0, (omega (arith, step), (limits.1.1.0, (made.1, (made.0, (few, rest))))))
 
   called_by : (b : Bool) (frame : F) → nat_lt (length at.stack.below) 7 ≡ b → within frame
-      → IsFlow within (cond b (gone_on (environment m r id) id.party.0 now.0 at frame (at.stack.top ∷ at.stack.below) resumed.Started) (gone_on (environment m r id) id.party.0 now.0 at at.stack.top at.stack.below (resumed.Refused 49)))
+      → IsFlow within (cond b (gone_on (environment (unjudged m r) id) id.party.0 now.0 at frame (at.stack.top ∷ at.stack.below) resumed.Started) (gone_on (environment (unjudged m r) id) id.party.0 now.0 at at.stack.top at.stack.below (resumed.Refused 49)))
   called_by true frame few top =
       let short : length at.stack.below < 7 = ltb-true (length at.stack.below) 7 few in
       gone_limits frame (at.stack.top ∷ at.stack.below) resumed.Started top (omega (arith, short)) (limits.1.1.1.1.0, limits.1.1.1.1.1.1) tt
   called_by false frame few top = gone_limits at.stack.top at.stack.below (resumed.Refused 49) limits.1.1.1.1.0 limits.1.1.1.1.1.0 limits.1.1.1.1.1.1 (omega arith)
 
   -- so is it once a subflow began
-  pub called_limits : (frame : F) → within frame → IsFlow within (called (environment m r id) id.party.0 now.0 at frame)
+  pub called_limits : (frame : F) → within frame → IsFlow within (called (environment (unjudged m r) id) id.party.0 now.0 at frame)
   called_limits frame top = called_by (nat_lt (length at.stack.below) 7) frame refl top
 
-  returned_by : (value : Value) (below : List F) → IsValue value → length below ≤ 7 → AllByRecursion within below → IsFlow within (returned (environment m r id) id.party.0 now.0 at value below)
+  returned_by : (value : Value) (below : List F) → IsValue value → length below ≤ 7 → AllByRecursion within below → IsFlow within (returned (environment (unjudged m r) id) id.party.0 now.0 at value below)
   returned_by value [] v few rest = (omega (arith, step), (limits.1.1.0, v))
   returned_by value (frame ∷ below) v few rest = gone_limits frame below (resumed.Returned value) rest.0 (omega (arith, few)) rest.1 v
 
   -- so is it once a frame returned
-  pub returned_limits : (value : Value) → IsValue value → IsFlow within (returned (environment m r id) id.party.0 now.0 at value at.stack.below)
+  pub returned_limits : (value : Value) → IsValue value → IsFlow within (returned (environment (unjudged m r) id) id.party.0 now.0 at value at.stack.below)
   returned_limits value v = returned_by value at.stack.below v limits.1.1.1.1.1.0 limits.1.1.1.1.1.1
 
 module _ {F : Type 0} (w : Environment F) (me now : ℕ) (at : Checkpoint F) where

@@ -7,7 +7,7 @@ ghost use Rattle.net_base.specs.Names.{IsIdentity, IsKey};
 ghost use Rattle.session_wire.specs.Bodies.{IsBody};
 ghost use Rattle.session_wire.specs.Sessions.{Session, session_of};
 ghost use Rattle.session_wire.specs.Rules.{is_init, is_new_key, is_next};
-ghost use Rattle.net_model.specs.Environment.{environment};
+ghost use Rattle.net_model.specs.Environment.{environment, unjudged};
 ghost use Rattle.net_model.specs.State.{NodeState};
 ghost use Rattle.flow_records.specs.Steps.{no_ledger, owner_of, ends_with, IsAfter};
 ghost use Rattle.flow_steps.specs.Going.{begun_for};
@@ -34,7 +34,7 @@ fn flow_for<F: FlowSet>(
     requires identity { IsIdentity identity.now }
     requires key { IsKey key.now }
     requires body { IsBody init.now }
-    ensures flow { IfOk result (λ flow. flow ≡ begun_for (environment F.machine F.reading identity.now) identity.now.party.0 now.0 number key.now init.now) }
+    ensures flow { IfOk result (λ flow. flow ≡ begun_for (environment (unjudged F.machine F.reading) identity.now) identity.now.party.0 now.0 number key.now init.now) }
     ensures within { IfOk result (λ flow. IfSome flow (IsAfter F.within)) }
 {
     let Body::Init { class, .. } = init else {
@@ -87,7 +87,7 @@ pub fn answer_init<F: FlowSet>(
     requires body { IsBody init }
     requires init { is_init init ≡ true }
     ensures cause { IfOk result (λ step. step.cause ≡ record { stamp = stamp; moment = now; event = event.Answer key }) }
-    ensures ready { IfOk result (λ step. (s : NodeState F) → length s.flows ≡ number → is_new_key identity.now.nodes identity.now.party s.sessions key ≡ true → IsReady (environment F.machine F.reading identity.now) identity.now.party.0 now.0 F.within s (Some init) step) }
+    ensures ready { IfOk result (λ step. (s : NodeState F) → length s.flows ≡ number → is_new_key identity.now.nodes identity.now.party s.sessions key ≡ true → IsReady (environment (unjudged F.machine F.reading) identity.now) identity.now.party.0 now.0 F.within s (Some init) step) }
 {
     let cause = Cause {
         stamp,
@@ -122,7 +122,7 @@ pub fn arrive_item<F: FlowSet>(
     requires key { IsKey key }
     requires body { IsBody body }
     ensures cause { result.cause ≡ record { stamp = stamp; moment = now; event = event.Arrive key direction number } }
-    ensures ready { (id : Id) (at : ℕ) (s : NodeState F) (session : Session) → session_of key s.sessions ≡ Some session → is_next id.party key direction number body session ≡ true → IsReady (environment F.machine F.reading id) id.party.0 at F.within s (Some body) result }
+    ensures ready { (id : Id) (at : ℕ) (s : NodeState F) (session : Session) → session_of key s.sessions ≡ Some session → is_next id.party key direction number body session ≡ true → IsReady (environment (unjudged F.machine F.reading) id) id.party.0 at F.within s (Some body) result }
 {
     let cause = Cause {
         stamp,

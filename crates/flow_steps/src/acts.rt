@@ -8,7 +8,7 @@ ghost use Rattle.session_wire.specs.Rules.{owned};
 ghost use Rattle.flow_machine.specs.Checkpoints.{IsCheckpoint};
 ghost use Rattle.flow_machine.specs.declared.acts.Resumed.TheVariants.{Lapsed};
 ghost use Rattle.flow_machine.specs.declared.flows.FlowState.TheVariants.{Live};
-ghost use Rattle.net_model.specs.Environment.{environment};
+ghost use Rattle.net_model.specs.Environment.{environment, unjudged};
 ghost use Rattle.net_model.specs.State.{NodeState, nothing};
 ghost use Rattle.net_model.specs.Enabled.{enabled_event};
 ghost use Rattle.net_model.specs.Steps.{goes_on, pushes, returns, fails, opens, sends};
@@ -87,7 +87,7 @@ fn go_on<F: FlowSet>(
     requires limits { IsCheckpoint F.within at.now }
     requires identity { IsIdentity identity.now }
     requires done { IsDone at.now.flow done }
-    ensures becomes { IfOk result (λ step. Becomes F.within (goes_on (environment F.machine F.reading identity.now) identity.now.party.0 cause.moment.0 at.now (done_of done)) step) }
+    ensures becomes { IfOk result (λ step. Becomes F.within (goes_on (environment (unjudged F.machine F.reading) identity.now) identity.now.party.0 cause.moment.0 at.now (done_of done)) step) }
     ensures cause { IfOk result (λ step. step.cause ≡ cause) }
 {
     let Performed { with, change } = done;
@@ -109,7 +109,7 @@ fn push<F: FlowSet>(
     requires limits { IsCheckpoint F.within at.now }
     requires identity { IsIdentity identity.now }
     requires frame { F.within frame.now }
-    ensures becomes { IfOk result (λ step. Becomes F.within (pushes (environment F.machine F.reading identity.now) identity.now.party.0 cause.moment.0 at.now frame.now) step) }
+    ensures becomes { IfOk result (λ step. Becomes F.within (pushes (environment (unjudged F.machine F.reading) identity.now) identity.now.party.0 cause.moment.0 at.now frame.now) step) }
     ensures cause { IfOk result (λ step. step.cause ≡ cause) }
 {
     cause.moment.known();
@@ -160,7 +160,7 @@ fn give_back<F: FlowSet>(
     requires party { sessions.now.party ≡ identity.now.party }
     requires kept { AreKept identity.now.party sessions.now.list }
     requires value { IsValue value.now }
-    ensures becomes { IfOk result (λ step. (s : NodeState F) → s.sessions ≡ sessions.now.list → Becomes F.within (returns (environment F.machine F.reading identity.now) identity.now.party.0 s cause.moment.0 at.now value.now at.now.stack.below) step) }
+    ensures becomes { IfOk result (λ step. (s : NodeState F) → s.sessions ≡ sessions.now.list → Becomes F.within (returns (environment (unjudged F.machine F.reading) identity.now) identity.now.party.0 s cause.moment.0 at.now value.now at.now.stack.below) step) }
     ensures cause { IfOk result (λ step. step.cause ≡ cause) }
 {
     cause.moment.known();
@@ -219,7 +219,7 @@ fn open_session<F: FlowSet>(
     requires party { sessions.now.party ≡ identity.now.party }
     requires kept { AreKept identity.now.party sessions.now.list }
     requires first { IsValue first.now }
-    ensures becomes { IfOk result (λ step. Becomes F.within (goes_on (environment F.machine F.reading identity.now) identity.now.party.0 cause.moment.0 at.now (opens identity.now.nodes identity.now.party.0 sessions.now.list at.now.flow to class first.now)) step) }
+    ensures becomes { IfOk result (λ step. Becomes F.within (goes_on (environment (unjudged F.machine F.reading) identity.now) identity.now.party.0 cause.moment.0 at.now (opens identity.now.nodes identity.now.party.0 sessions.now.list at.now.flow to class first.now)) step) }
     ensures cause { IfOk result (λ step. step.cause ≡ cause) }
 {
     let done = open(alloc, identity, sessions, at.flow, to, class, first)?;
@@ -243,7 +243,7 @@ fn send_item<F: FlowSet>(
     requires kept { AreKept identity.now.party sessions.now.list }
     requires key { IsKey key.now }
     requires value { IsValue value.now }
-    ensures becomes { IfOk result (λ step. Becomes F.within (goes_on (environment F.machine F.reading identity.now) identity.now.party.0 cause.moment.0 at.now (sends identity.now.party.0 value.now (owned at.now.flow key.now sessions.now.list))) step) }
+    ensures becomes { IfOk result (λ step. Becomes F.within (goes_on (environment (unjudged F.machine F.reading) identity.now) identity.now.party.0 cause.moment.0 at.now (sends identity.now.party.0 value.now (owned at.now.flow key.now sessions.now.list))) step) }
     ensures cause { IfOk result (λ step. step.cause ≡ cause) }
 {
     let done = send(alloc, identity, sessions, at.flow, key, value)?;
@@ -265,7 +265,7 @@ fn receive_item<F: FlowSet>(
     requires party { sessions.now.party ≡ identity.now.party }
     requires kept { AreKept identity.now.party sessions.now.list }
     requires key { IsKey key.now }
-    ensures becomes { IfOk result (λ step. Becomes F.within (goes_on (environment F.machine F.reading identity.now) identity.now.party.0 cause.moment.0 at.now (takes_or_lapses (owned at.now.flow key.now sessions.now.list))) step) }
+    ensures becomes { IfOk result (λ step. Becomes F.within (goes_on (environment (unjudged F.machine F.reading) identity.now) identity.now.party.0 cause.moment.0 at.now (takes_or_lapses (owned at.now.flow key.now sessions.now.list))) step) }
     ensures cause { IfOk result (λ step. step.cause ≡ cause) }
 {
     let done = take_item(alloc, sessions, at.flow, key)?;
@@ -282,7 +282,7 @@ fn wake<F: FlowSet>(
     requires step { at.now.step < 2 ^ 32 - 1 }
     requires limits { IsCheckpoint F.within at.now }
     requires identity { IsIdentity identity.now }
-    ensures becomes { IfOk result (λ step. Becomes F.within (goes_on (environment F.machine F.reading identity.now) identity.now.party.0 cause.moment.0 at.now (Lapsed, nothing)) step) }
+    ensures becomes { IfOk result (λ step. Becomes F.within (goes_on (environment (unjudged F.machine F.reading) identity.now) identity.now.party.0 cause.moment.0 at.now (Lapsed, nothing)) step) }
     ensures cause { IfOk result (λ step. step.cause ≡ cause) }
 {
     cause.moment.known();
@@ -304,8 +304,8 @@ pub(crate) fn perform<F: FlowSet>(
     requires identity { IsIdentity identity.now }
     requires party { sessions.now.party ≡ identity.now.party }
     requires kept { AreKept identity.now.party sessions.now.list }
-    requires enabled { IsSome (enabled_event (environment F.machine F.reading identity.now) sessions.now.list cause.moment.0 (Live at.now)) }
-    ensures performs { IfOk result (λ step. Performs (environment F.machine F.reading identity.now) identity.now.party.0 cause.moment.0 F.within sessions.now.list at.now step) }
+    requires enabled { IsSome (enabled_event (environment (unjudged F.machine F.reading) identity.now) sessions.now.list cause.moment.0 (Live at.now)) }
+    ensures performs { IfOk result (λ step. Performs (environment (unjudged F.machine F.reading) identity.now) identity.now.party.0 cause.moment.0 F.within sessions.now.list at.now step) }
     ensures cause { IfOk result (λ step. step.cause ≡ cause) }
 {
     match &at.waiting {

@@ -4,7 +4,7 @@ ghost use Rattle.std.specs.Prelude.{◌≡◌, ◌<◌, ◌≤◌, ℕ, None, If
 ghost use Rattle.net_base.specs.declared.names.Identity.{Identity as Id};
 ghost use Rattle.flow_machine.specs.declared.flows.FlowState.TheVariants.{Live};
 ghost use Rattle.checkpoints.specs.Tables.{IsRising, live_numbers};
-ghost use Rattle.net_model.specs.Environment.{environment, is_act_built};
+ghost use Rattle.net_model.specs.Environment.{environment, is_act_built, unjudged};
 ghost use Rattle.net_model.specs.Enabled.{picked};
 ghost use Rattle.net_model.specs.Sound.{AreNumbered};
 ghost use Rattle.flow_steps.specs.Going.{event_at, event_there, first_of, flow_in};
@@ -107,7 +107,7 @@ pub fn pick_event<F: FlowSet>(
 ) -> Option<Event>
     requires numbered { AreNumbered 0 flows.now.flows }
     requires idle { IdleBelow sessions.now.list now.0 flows.now.flows idle }
-    ensures event { (id : Id) → result ≡ picked (environment F.machine F.reading id) sessions.now.list now.0 pick flows.now.flows }
+    ensures event { (id : Id) → result ≡ picked (environment (unjudged F.machine F.reading) id) sessions.now.list now.0 pick flows.now.flows }
     ensures idle { pick ≡ None → IfSome result (λ e. IdleBelow sessions.now.list now.0 flows.now.flows (flow_in e)) }
 {
     match pick {

@@ -5,7 +5,7 @@ ghost use Rattle.std.specs.List.{AllByRecursion};
 ghost use Rattle.net_base.specs.Names.{IsIdentity};
 ghost use Rattle.net_base.specs.Reading.{IsBytes};
 ghost use Rattle.net_model.specs.State.{NodeState};
-ghost use Rattle.net_model.specs.Environment.{environment};
+ghost use Rattle.net_model.specs.Environment.{environment, unjudged};
 ghost use Rattle.net_model.specs.Enabled.{picked};
 ghost use Rattle.net_model.specs.Steps.{checkpoint_of};
 ghost use Rattle.net_model.specs.Sound.{steps_of, AreNumbered};
@@ -82,7 +82,7 @@ pub fn begin<F: FlowSet>(
     args: &ByteList,
 ) -> Result<Step<F>, MakeFault>
     requires { IsIdentity identity.now }
-    ensures { (s : NodeState F) → length s.flows ≡ number → IsBegun (environment F.machine F.reading identity.now) identity.now.party.0 stamp now F.within s class args.now result }
+    ensures { (s : NodeState F) → length s.flows ≡ number → IsBegun (environment (unjudged F.machine F.reading) identity.now) identity.now.party.0 stamp now F.within s class args.now result }
 {
     let Ok(copy) = args.copy(alloc) else {
         return Err(MakeFault::Memory);
@@ -117,14 +117,14 @@ pub fn advance<F: FlowSet>(
     cause: Cause,
 ) -> Result<Step<F>, AllocError>
     requires identity { IsIdentity identity.now }
-    requires picked { (pick : Option ℕ) × (picked (environment F.machine F.reading identity.now) sessions.now.list cause.moment.0 pick flows.now.flows ≡ Some cause.event) }
+    requires picked { (pick : Option ℕ) × (picked (environment (unjudged F.machine F.reading) identity.now) sessions.now.list cause.moment.0 pick flows.now.flows ≡ Some cause.event) }
     requires steps { AllByRecursion (λ flow. steps_of flow < 2 ^ 32 - 1) flows.now.flows }
     requires limits { AllByRecursion (IsFlow F.within) flows.now.flows }
     requires numbered { AreNumbered 0 flows.now.flows }
     requires party { sessions.now.party ≡ identity.now.party }
     requires kept { AreKept identity.now.party sessions.now.list }
     ensures cause { IfOk result (λ step. step.cause ≡ cause) }
-    ensures ready { IfOk result (λ step. (s : NodeState F) → s.flows ≡ flows.now.flows → s.sessions ≡ sessions.now.list → IsReady (environment F.machine F.reading identity.now) identity.now.party.0 cause.moment.0 F.within s None step) }
+    ensures ready { IfOk result (λ step. (s : NodeState F) → s.flows ≡ flows.now.flows → s.sessions ≡ sessions.now.list → IsReady (environment (unjudged F.machine F.reading) identity.now) identity.now.party.0 cause.moment.0 F.within s None step) }
 {
     let Some(at) = live_at(flows, flow_in(&cause.event)) else {
         unreachable!();

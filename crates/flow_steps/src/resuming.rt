@@ -6,7 +6,7 @@ ghost use Rattle.ledger_types.specs.Values.{IsValue};
 ghost use Rattle.flow_machine.specs.Checkpoints.{IsCheckpoint};
 ghost use Rattle.flow_machine.specs.Limits.{IsResumed};
 ghost use Rattle.flow_machine.specs.Stacks.{Frames};
-ghost use Rattle.net_model.specs.Environment.{environment};
+ghost use Rattle.net_model.specs.Environment.{environment, unjudged};
 ghost use Rattle.net_model.specs.Steps.{place};
 ghost use Rattle.flow_steps.specs.Going.{next_state, gone_on, called, returned};
 
@@ -48,7 +48,7 @@ fn resumed<F: FlowSet>(
     requires limits { IsCheckpoint F.within at.now }
     requires frame { F.within frame.now }
     requires with { IsResumed with.now }
-    ensures { IfOk result (λ made. made ≡ F.machine.next frame.now with.now (place (environment F.machine F.reading identity.now) identity.now.party.0 at.now.flow at.now.step now.0)) }
+    ensures { IfOk result (λ made. made ≡ F.machine.next frame.now with.now (place (environment (unjudged F.machine F.reading) identity.now) identity.now.party.0 at.now.flow at.now.step now.0)) }
 {
     now.known();
     let here = place_of(identity, at.flow, at.step, now);
@@ -91,7 +91,7 @@ pub(crate) fn resume<F: FlowSet>(
     requires identity { IsIdentity identity.now }
     requires limits { IsCheckpoint F.within at.now }
     requires with { IsResumed with.now }
-    ensures { IfOk result (λ flow. flow ≡ gone_on (environment F.machine F.reading identity.now) identity.now.party.0 now.0 at.now at.now.stack.top at.now.stack.below with.now) }
+    ensures { IfOk result (λ flow. flow ≡ gone_on (environment (unjudged F.machine F.reading) identity.now) identity.now.party.0 now.0 at.now at.now.stack.top at.now.stack.below with.now) }
 {
     let (top, waiting) = resumed(alloc, identity, now, at, at.stack.top(), with)?;
     next_of(at, waiting, at.stack.with_top(alloc, top))
@@ -109,7 +109,7 @@ pub(crate) fn call<F: FlowSet>(
     requires identity { IsIdentity identity.now }
     requires limits { IsCheckpoint F.within at.now }
     requires frame { F.within frame.now }
-    ensures { IfOk result (λ flow. flow ≡ called (environment F.machine F.reading identity.now) identity.now.party.0 now.0 at.now frame.now) }
+    ensures { IfOk result (λ flow. flow ≡ called (environment (unjudged F.machine F.reading) identity.now) identity.now.party.0 now.0 at.now frame.now) }
 {
     if at.stack.depth() == 8 {
         return resume(alloc, identity, now, at, &Resumed::Refused { code: 49 });
@@ -130,7 +130,7 @@ pub(crate) fn hand_down<F: FlowSet>(
     requires identity { IsIdentity identity.now }
     requires limits { IsCheckpoint F.within at.now }
     requires value { IsValue value.now }
-    ensures { IfOk result (λ flow. flow ≡ returned (environment F.machine F.reading identity.now) identity.now.party.0 now.0 at.now value.now at.now.stack.below) }
+    ensures { IfOk result (λ flow. flow ≡ returned (environment (unjudged F.machine F.reading) identity.now) identity.now.party.0 now.0 at.now value.now at.now.stack.below) }
 {
     let Some(caller) = at.stack.caller() else {
         return Ok(FlowState::Ended {

@@ -38,9 +38,22 @@ party p = record { 0 = p }
 abbrev pub identity : {F : Type 0} → Environment F → ℕ → Identity
 identity w me = record { party = party me; nodes = w.nodes; notary = w.notary }
 
--- what is said of a transaction where no contract is known
-abbrev pub judge_without_contracts : Tx → Resolved → Verdict
-judge_without_contracts tx resolved = verdict_of (λ id t r. None) tx resolved
+-- what contracts say of a transaction with the states that it names
+abbrev pub Judgement : Type 0
+Judgement = Tx → Resolved → Verdict
+
+-- what a network means, however many nodes it has: its environment but for the identity of a node
+pub record Meaning (F : Type 0) : Type 0 where
+  pub machine : Machine F
+  pub frame_at : List ℕ → Result (F × List ℕ) ℕ
+  pub judge : Judgement
+  pub mark : Party → Hash32 → Hash32
+  pub performs : Act F → Bool
+  pub talks : Bool
+
+-- the environment of a node of this identity
+abbrev pub environment : {F : Type 0} → Meaning F → Identity → Environment F
+environment m me = record { machine = m.machine; nodes = me.nodes; notary = me.notary; judge = m.judge; mark = m.mark; frame_at = m.frame_at; performs = m.performs; talks = m.talks }
 
 -- whether nodes perform an act so far: they speak in sessions, they sleep, they begin a frame and return from one, and they fail
 unfoldable pub is_act_built : {F : Type 0} → Act F → Bool
@@ -54,7 +67,14 @@ is_act_built (act.Return value) = true
 is_act_built (act.Fail code) = true
 is_act_built _ = false
 
--- the environment of a node of this identity; it knows no contract, and marks are those of the keyed digest. What its nodes do is what
--- nodes do so far
-abbrev pub environment : {F : Type 0} → Machine F → (List ℕ → Result (F × List ℕ) ℕ) → Identity → Environment F
-environment m frame_at me = record { machine = m; nodes = me.nodes; notary = me.notary; judge = judge_without_contracts; mark = keyed_mark; frame_at = frame_at; performs = is_act_built; talks = true }
+-- what a network of a flow set means whose contracts judge so: marks are those of the keyed digest, and its nodes do what nodes do so far
+abbrev pub meaning : {F : Type 0} → Machine F → (List ℕ → Result (F × List ℕ) ℕ) → Judgement → Meaning F
+meaning m frame_at judge = record { machine = m; frame_at = frame_at; judge = judge; mark = keyed_mark; performs = is_act_built; talks = true }
+
+-- what is said of a transaction where no contract is known
+abbrev pub judge_without_contracts : Judgement
+judge_without_contracts tx resolved = verdict_of (λ id t r. None) tx resolved
+
+-- what a network of a flow set means whose nodes know no contract
+abbrev pub unjudged : {F : Type 0} → Machine F → (List ℕ → Result (F × List ℕ) ℕ) → Meaning F
+unjudged m frame_at = meaning m frame_at judge_without_contracts

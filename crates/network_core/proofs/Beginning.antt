@@ -10,7 +10,7 @@ use Rattle.net_base.specs.declared.values.Party.{Party}
 use Rattle.net_base.proofs.Lists.{get_below, all_from_get, get_beside, get_map}
 use Rattle.flow_machine.specs.Machine.{Machine}
 use Rattle.disk_journal.specs.Journal.{journal_of}
-use Rattle.net_model.specs.Environment.{Environment, environment}
+use Rattle.net_model.specs.Environment.{Environment, environment, Meaning}
 use Rattle.node_core.specs.declared.faults.BootFault.{BootFault}
 use Rattle.node_core.specs.declared.faults.BootFault.TheVariants as boot_fault
 use Rattle.node_tables.specs.Journals.{Reads, state_of}
@@ -182,9 +182,9 @@ none_at {C} (z ∷ ys) (c ∷ cs) (suc p) y is at =
 
 -- ---- the network
 
-module _ {F : Type 0} (m : Machine F) (f : Reads F) (nodes : ℕ) (notary : Party) (disks : List DiskView) where
+module _ {F : Type 0} (m : Meaning F) (nodes : ℕ) (notary : Party) (disks : List DiskView) where
   abbrev e : Environment F
-  e = environment m f (member nodes notary 0)
+  e = environment m (member nodes notary 0)
 
   abbrev olds : List NodeSeen
   olds = nodes_over nodes notary 0 disks
@@ -203,21 +203,21 @@ module _ {F : Type 0} (m : Machine F) (f : Reads F) (nodes : ℕ) (notary : Part
   all_empty (y ∷ ys) [] same each = cc
   all_empty (y ∷ ys) (c ∷ cs) same each = ap (λ a. a ∷ waits_in ys) (each zero y refl) ∙ ap (λ l. [] ∷ l) (all_empty ys cs (omega (arith, same)) (λ p z at. each (suc p) z at))
 
-  latest_at : (journal : Option (List (List ℕ))) (y : NodeWorld) (to : ℕ) → ShowsJournal journal y → y.up ≡ true → IsBy f journal to → (state_of f y.journal).moment ≤ to
+  latest_at : (journal : Option (List (List ℕ))) (y : NodeWorld) (to : ℕ) → ShowsJournal journal y → y.up ≡ true → IsBy m.frame_at journal to → (state_of m.frame_at y.journal).moment ≤ to
   latest_at None y to shown up by = absurd (true≢false (sym up ∙ shown))
   latest_at (Some b) y to shown up by = rw shown.1 by
 
-  reached_by : (journal : Option (List (List ℕ))) (y : NodeWorld) (to : ℕ) → ShowsJournal journal y → IsLast f journal to → (to ≡ 0) ⊎ (to ≡ (state_of f y.journal).moment)
+  reached_by : (journal : Option (List (List ℕ))) (y : NodeWorld) (to : ℕ) → ShowsJournal journal y → IsLast m.frame_at journal to → (to ≡ 0) ⊎ (to ≡ (state_of m.frame_at y.journal).moment)
   reached_by None y to shown last = inl last
-  reached_by (Some b) y to shown last = inr (last ∙ ap (λ l. (state_of f l).moment) (sym shown.1))
+  reached_by (Some b) y to shown last = inr (last ∙ ap (λ l. (state_of m.frame_at l).moment) (sym shown.1))
 
-  reached_at : (net : NetSeen) (v : World) → Shows e net v → (p : ℕ) (k : NodeSeen) → slice_get net.nodes p ≡ Some k → IsLast f k.journal net.now → (net.now ≡ 0) ⊎ ((q : ℕ) × (y : NodeWorld) × (slice_get v.nodes q ≡ Some y) × (net.now ≡ (state_of f y.journal).moment))
+  reached_at : (net : NetSeen) (v : World) → Shows e net v → (p : ℕ) (k : NodeSeen) → slice_get net.nodes p ≡ Some k → IsLast m.frame_at k.journal net.now → (net.now ≡ 0) ⊎ ((q : ℕ) × (y : NodeWorld) × (slice_get v.nodes q ≡ Some y) × (net.now ≡ (state_of m.frame_at y.journal).moment))
   reached_at net v shows p k i last =
       let there = get_beside net.nodes v.nodes p k (sym shows.count) i in
       ⊎_elim (λ none. inl none) (λ is. inr (p, there.0, there.1, is)) (reached_by k.journal there.0 net.now (shows.each p k there.0 i there.1).journal last)
 
   -- all nodes came up
-  pub begins_world : (net : NetSeen) → BootsUpTo f (length disks) net.now olds net.nodes → net.waiting ≡ map (λ (n : NodeSeen). []) net.nodes → BeginsWorld m f nodes notary disks net
+  pub begins_world : (net : NetSeen) → BootsUpTo m.frame_at (length disks) net.now olds net.nodes → net.waiting ≡ map (λ (n : NodeSeen). []) net.nodes → BeginsWorld m nodes notary disks net
   begins_world net b silent now w shows coherent =
       let long : length olds ≡ length disks = over_length nodes notary 0 disks in
       let counts : length net.nodes ≡ length w.nodes = b.count ∙ sym shows.count in
@@ -252,7 +252,7 @@ module _ {F : Type 0} (m : Machine F) (f : Reads F) (nodes : ℕ) (notary : Part
   abbrev Lefts : BootFault → ℕ → NodeSeen → NodeWorld → NodeWorld → Type 0
   Lefts why p k x y = NodeShows e p (lain k.identity k.disk) y × LeavesDisk why x y × (y.waiting ≡ [])
 
-  module _ (place : ℕ) (why : BootFault) (news : List NodeSeen) (stops : BootStops f place why olds news) (back : List DiskView) (handed : map roomless back ≡ map (λ n. n.disk) news) where
+  module _ (place : ℕ) (why : BootFault) (news : List NodeSeen) (stops : BootStops m.frame_at place why olds news) (back : List DiskView) (handed : map roomless back ≡ map (λ n. n.disk) news) where
     long : length back ≡ length news
     long = sym (length-map back roomless) ∙ ap length handed ∙ length-map news (λ (n : NodeSeen). n.disk)
 
@@ -285,7 +285,7 @@ module _ {F : Type 0} (m : Machine F) (f : Reads F) (nodes : ℕ) (notary : Part
         let k = get_beside olds news place n.0 (sym stops.count) n.1 in
         let x = get_beside olds w.nodes place n.0 (sym shows.count) n.1 in
         let s = stops.refused n.0 k.0 n.1 k.1 in
-        gives_up e place n.0 k.0 x.0 (shows.each place n.0 x.0 n.1 x.1) (over_down nodes notary 0 disks place n.0 n.1) (coherent_fits m f (member nodes notary 0) place w.now x.0 (coherent.each place x.0 x.1)) why s.3 (on place x.0 x.1)
+        gives_up e place n.0 k.0 x.0 (shows.each place n.0 x.0 n.1 x.1) (over_down nodes notary 0 disks place n.0 n.1) (coherent_fits m (member nodes notary 0) place w.now x.0 (coherent.each place x.0 x.1)) why s.3 (on place x.0 x.1)
 
     left_world : (now : ℕ) (w : World) → Shows e (net_over nodes notary now disks) w → Coherent e w → (v : World) × Shows e (net_over nodes notary now back) v × Coherent e v × StayDown why w v
     left_world now w shows coherent =
@@ -313,7 +313,7 @@ module _ {F : Type 0} (m : Machine F) (f : Reads F) (nodes : ℕ) (notary : Part
           down,
         )
 
-    refused_boot : (d b : DiskView) → slice_get disks place ≡ Some d → slice_get back place ≡ Some b → BootsAs f (node_over nodes notary place d) (no_boot why) (node_over nodes notary place b)
+    refused_boot : (d b : DiskView) → slice_get disks place ≡ Some d → slice_get back place ≡ Some b → BootsAs m.frame_at (node_over nodes notary place d) (no_boot why) (node_over nodes notary place b)
     refused_boot d b i j =
         let old = first_at nodes notary disks place d i in
         let node = get_beside back news place b long j in
@@ -321,9 +321,9 @@ module _ {F : Type 0} (m : Machine F) (f : Reads F) (nodes : ℕ) (notary : Part
         let s = stops.refused (node_over nodes notary place d) k old node.1 in
         let same : lain k.identity k.disk ≡ node_over nodes notary place b = sym (same_node (member nodes notary place) k.identity (roomless b) k.disk (sym s.2) (disk_back place b k j node.1)) in
         let whole : k ≡ lain k.identity k.disk = closed k s.0 s.1 in
-        subst (λ (z : NodeSeen). BootsAs f (node_over nodes notary place d) (no_boot why) z) (whole ∙ same) s
+        subst (λ (z : NodeSeen). BootsAs m.frame_at (node_over nodes notary place d) (no_boot why) z) (whole ∙ same) s
 
-    up_there : (p : ℕ) (d b : DiskView) → p < place → slice_get disks p ≡ Some d → slice_get back p ≡ Some b → (k : NodeSeen) × BootsAs f (node_over nodes notary p d) came_up k × (roomless b ≡ k.disk)
+    up_there : (p : ℕ) (d b : DiskView) → p < place → slice_get disks p ≡ Some d → slice_get back p ≡ Some b → (k : NodeSeen) × BootsAs m.frame_at (node_over nodes notary p d) came_up k × (roomless b ≡ k.disk)
     up_there p d b before i j =
         let old = first_at nodes notary disks p d i in
         let node = get_beside back news p b long j in
@@ -336,7 +336,7 @@ module _ {F : Type 0} (m : Machine F) (f : Reads F) (nodes : ℕ) (notary : Part
         let same = stops.rest p (node_over nodes notary p d) node.0 past old node.1 in
         disk_back p b node.0 j node.1 ∙ ap (λ z. z.disk) same
 
-    pub refused_world : IsRefused m f nodes notary disks place why back
+    pub refused_world : IsRefused m nodes notary disks place why back
     refused_world =
         let first = get_below disks place (omega (arith, stops.within, over_length nodes notary 0 disks)) in
         let last = get_below back place (omega (arith, stops.within, over_length nodes notary 0 disks, count)) in
@@ -349,7 +349,7 @@ module _ {F : Type 0} (m : Machine F) (f : Reads F) (nodes : ℕ) (notary : Part
         }
 
   -- nothing was booted
-  pub refused_early : IsRefused m f nodes notary disks 0 boot_fault.Memory disks
+  pub refused_early : IsRefused m nodes notary disks 0 boot_fault.Memory disks
   refused_early = record {
     count = refl;
     refused = inl (refl, refl, refl);

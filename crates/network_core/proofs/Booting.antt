@@ -12,7 +12,7 @@ use Rattle.net_base.proofs.Lists.{get_there, all_weaken, get_beside, all_set}
 use Rattle.flow_machine.specs.Machine.{Machine}
 use Rattle.disk_journal.specs.Journal.{journal_of, placed, WasSpelt}
 use Rattle.disk_journal.specs.declared.fault.OpenFault.TheVariants as open_fault
-use Rattle.net_model.specs.Environment.{Environment, environment, party}
+use Rattle.net_model.specs.Environment.{Environment, environment, party, Meaning}
 use Rattle.node_core.specs.declared.faults.BootFault.{BootFault}
 use Rattle.node_core.specs.declared.faults.BootFault.TheVariants as boot_fault
 use Rattle.node_tables.specs.Fits.{misfit}
@@ -234,8 +234,8 @@ boot_any e p n k x result shows fit (inl (up, is, same)) = rw is (x, subst (λ (
 boot_any e p n k x result shows fit (inr (down, (mid, answer, restored, s, so))) = rw so (boots e p n mid k x shows fit down restored answer s)
 
 -- the records of a node's journal fit in a coherent world
-pub coherent_fits : {F : Type 0} (m : Machine F) (f : Reads F) (id : Identity) (p now : ℕ) (x : NodeWorld) → NodeCoherent (environment m f id) p now x → misfit f id.notary id.nodes (party p) (placed 16 x.journal) ≡ None
-coherent_fits m f id p now x coherent = let sound = coherent.every x.journal (inl refl) in local_fits (environment m f id) p 16 x.journal sound.local sound.whole
+pub coherent_fits : {F : Type 0} (m : Meaning F) (id : Identity) (p now : ℕ) (x : NodeWorld) → NodeCoherent (environment m id) p now x → misfit m.frame_at id.notary id.nodes (party p) (placed 16 x.journal) ≡ None
+coherent_fits m id p now x coherent = let sound = coherent.every x.journal (inl refl) in local_fits (environment m id) p 16 x.journal sound.local sound.whole
 
 -- no journal of a coherent world is later than its moment
 by_of : {F : Type 0} (e : Environment F) (p now : ℕ) (n : NodeSeen) (x : NodeWorld) (bodies : List (List ℕ)) → NodeShows e p n x → NodeCoherent e p now x → n.journal ≡ Some bodies → (state_of e.frame_at bodies).moment ≤ now
@@ -266,17 +266,17 @@ clock_stays : {F : Type 0} (f : Reads F) (now : ℕ) (o : Option Outcome) (journ
 clock_stays f now (Some outcome.Booted) journal le = omega (arith, le)
 clock_stays f now other journal le = refl
 
-pub boot_world : {F E : Type 0} (m : Machine F) (f : Reads F) (p : ℕ) (old new : NetSeen) (result : Result Outcome E) → BootClock f p old result new → AtPlace p old result new (λ n r k. BootServes f n r k) → KeepsWorld m f old new (λ e w v. WorldPlace p w (said result) v (λ x o y. WorldBoots e x o y))
-boot_world m f p old new result clock at id w shows coherent =
-    let e = environment m f id in
+pub boot_world : {F E : Type 0} (m : Meaning F) (p : ℕ) (old new : NetSeen) (result : Result Outcome E) → BootClock m.frame_at p old result new → AtPlace p old result new (λ n r k. BootServes m.frame_at n r k) → KeepsWorld m old new (λ e w v. WorldPlace p w (said result) v (λ x o y. WorldBoots e x o y))
+boot_world m p old new result clock at id w shows coherent =
+    let e = environment m id in
     let mid : NetSeen = record { nodes = new.nodes; waiting = new.waiting; now = old.now } in
     let there =
-    place_world_of m f p old mid result (λ n r k. BootServes f n r k) (λ e t x o y. WorldBoots e x o y)
-    (λ id t n k x s c b. boot_any (environment m f id) p n k x result s (coherent_fits m f id p t x c) b)
-    (λ id w v c h. boot_coherent (environment m f id) p w v (said result) c h)
-    refl (at_mid p old new result (λ n r k. BootServes f n r k) at) id w shows coherent in
+    place_world_of m p old mid result (λ n r k. BootServes m.frame_at n r k) (λ e t x o y. WorldBoots e x o y)
+    (λ id t n k x s c b. boot_any (environment m id) p n k x result s (coherent_fits m id p t x c) b)
+    (λ id w v c h. boot_coherent (environment m id) p w v (said result) c h)
+    refl (at_mid p old new result (λ n r k. BootServes m.frame_at n r k) at) id w shows coherent in
     let last = last_at e p mid there.0 there.1 there.2 (slice_get new.nodes p) refl in
-    let stays : new.now ≡ old.now = clock ∙ clock_stays f old.now (said result) (journal_at p new) last in
+    let stays : new.now ≡ old.now = clock ∙ clock_stays m.frame_at old.now (said result) (journal_at p new) last in
     let same : new ≡ mid = ap (λ t. record { nodes = new.nodes; waiting = new.waiting; now = t }) stays in
     (there.0, subst (λ (z : NetSeen). Shows e z there.0) (sym same) there.1, there.2, there.3)
 

@@ -9,7 +9,7 @@ use Rattle.session_table.specs.Tables.{unacked}
 use Rattle.session_frames.specs.Sending.{AreMessages}
 use Rattle.session_frames.specs.declared.sending.Outgoing.{Outgoing}
 use Rattle.flow_machine.specs.Machine.{Machine}
-use Rattle.net_model.specs.Environment.{Environment, environment, party}
+use Rattle.net_model.specs.Environment.{Environment, environment, party, Meaning}
 use Rattle.node_tables.specs.Journals.{Reads, state_of}
 use Rattle.node_core.specs.declared.faults.TakeFault.TheVariants as take_fault
 use Rattle.node_core.specs.Seen.{NodeSeen}
@@ -54,9 +54,9 @@ mail_shows e os net w shows = record {
 
 -- ---- posts
 
-module _ {F : Type 0} (m : Machine F) (f : Reads F) (id : Identity) (p : ℕ) (old new : NetSeen) (w : World) (shows : Shows (environment m f id) old w) (coherent : Coherent (environment m f id) w) where
+module _ {F : Type 0} (m : Meaning F) (id : Identity) (p : ℕ) (old new : NetSeen) (w : World) (shows : Shows (environment m id) old w) (coherent : Coherent (environment m id) w) where
   abbrev e : Environment F
-  e = environment m f id
+  e = environment m id
 
   abbrev Keeps : Option Outcome → Type 0
   Keeps o = (v : World) × Shows e new v × Coherent e v × WorldPosts e p w o v
@@ -65,19 +65,19 @@ module _ {F : Type 0} (m : Machine F) (f : Reads F) (id : Identity) (p : ℕ) (o
     post_stays : (o : Option Outcome) → new ≡ old → PostsFrom e p w x o w → Keeps o
     post_stays o same h = (w, subst (λ (z : NetSeen). Shows e z w) (sym same) shows, coherent, inr (x, there, h))
 
-    post_any : (o : Option Outcome) → Posting f n old o new → Keeps o
+    post_any : (o : Option Outcome) → Posting m.frame_at n old o new → Keeps o
     post_any None s = post_stays None s.1 (up_of n.journal x s.0 shown.journal, refl)
     post_any (Some (outcome.Posted count)) (bodies, here, messages, is, same) =
         let stands = stands_of n.journal bodies x here shown.journal in
-        let mine = unacked_at f n.identity.party bodies n.acked in
+        let mine = unacked_at m.frame_at n.identity.party bodies n.acked in
         let os = unacked_at e.frame_at (party p) x.journal x.acked in
-        let one : mine ≡ unacked_at f (party p) bodies n.acked = ap (λ (i : Identity). unacked_at f i.party bodies n.acked) shown.identity_is in
-        let two : unacked_at f (party p) bodies n.acked ≡ unacked_at f (party p) bodies x.acked = ap (λ a. unacked_at f (party p) bodies a) (sym shown.acked_is) in
-        let three : unacked_at f (party p) bodies x.acked ≡ os = ap (λ b. unacked_at f (party p) b x.acked) (sym stands.1) in
+        let one : mine ≡ unacked_at m.frame_at (party p) bodies n.acked = ap (λ (i : Identity). unacked_at m.frame_at i.party bodies n.acked) shown.identity_is in
+        let two : unacked_at m.frame_at (party p) bodies n.acked ≡ unacked_at m.frame_at (party p) bodies x.acked = ap (λ a. unacked_at m.frame_at (party p) bodies a) (sym shown.acked_is) in
+        let three : unacked_at m.frame_at (party p) bodies x.acked ≡ os = ap (λ b. unacked_at m.frame_at (party p) b x.acked) (sym stands.1) in
         let all : mine ≡ os = one ∙ two ∙ three in
         let v : World = record { nodes = sent_all os w.nodes; now = w.now } in
-        let lawful : AreMessages (party p) (unacked (party p) (state_of f x.journal).sessions x.acked) =
-        rw (stands.1, shown.acked_is) (subst (λ (i : Identity). AreMessages i.party (unacked i.party (state_of f bodies).sessions n.acked)) shown.identity_is messages) in
+        let lawful : AreMessages (party p) (unacked (party p) (state_of m.frame_at x.journal).sessions x.acked) =
+        rw (stands.1, shown.acked_is) (subst (λ (i : Identity). AreMessages i.party (unacked i.party (state_of m.frame_at bodies).sessions n.acked)) shown.identity_is messages) in
         let counted : count ≡ count_new os w.nodes = is ∙ ap (λ l. count_fresh l old.waiting) all ∙ sym (count_is os w.nodes ∙ ap (count_fresh os) shows.waiting) in
         let goes : WorldPosts e p w (Some (outcome.Posted count)) v = inr (x, there, (stands.0, counted, refl, lawful)) in
         let now_is : new ≡ record { nodes = old.nodes; waiting = mailed os old.waiting; now = old.now } = same ∙ ap (λ l. record { nodes = old.nodes; waiting = mailed l old.waiting; now = old.now }) all in
@@ -85,18 +85,18 @@ module _ {F : Type 0} (m : Machine F) (f : Reads F) (id : Identity) (p : ℕ) (o
     post_any (Some (outcome.Refused code)) s = post_stays (Some (outcome.Refused code)) s.2 (s.0, down_of n.journal x s.1 shown.journal, refl)
     post_any (Some _) s = absurd s
 
-pub post_world : {F E : Type 0} (m : Machine F) (f : Reads F) (p : ℕ) (old new : NetSeen) (result : Result Outcome E) → PostServes f p old result new → KeepsWorld m f old new (λ e w v. WorldPosts e p w (said result) v)
-post_world m f p old new result (inl (past, is, same)) id w shows coherent =
-    (w, subst (λ (z : NetSeen). Shows (environment m f id) z w) (sym same) shows, coherent, inl (omega (arith, past, shows.count), is, refl))
-post_world m f p old new result (inr (n, at, posting)) id w shows coherent =
+pub post_world : {F E : Type 0} (m : Meaning F) (p : ℕ) (old new : NetSeen) (result : Result Outcome E) → PostServes m.frame_at p old result new → KeepsWorld m old new (λ e w v. WorldPosts e p w (said result) v)
+post_world m p old new result (inl (past, is, same)) id w shows coherent =
+    (w, subst (λ (z : NetSeen). Shows (environment m id) z w) (sym same) shows, coherent, inl (omega (arith, past, shows.count), is, refl))
+post_world m p old new result (inr (n, at, posting)) id w shows coherent =
     let found = get_beside old.nodes w.nodes p n (sym shows.count) at in
-    post_any m f id p old new w shows coherent n found.0 (shows.each p n found.0 at found.1) found.1 (said result) posting
+    post_any m id p old new w shows coherent n found.0 (shows.each p n found.0 at found.1) found.1 (said result) posting
 
 -- ---- deliveries
 
-module _ {F : Type 0} (m : Machine F) (f : Reads F) (id : Identity) (repeated : Bool) (p i : ℕ) (old new : NetSeen) (w : World) (shows : Shows (environment m f id) old w) (coherent : Coherent (environment m f id) w) (n : NodeSeen) (x : NodeWorld) (frames : List (List ℕ)) (shown : NodeShows (environment m f id) p n x) (at : slice_get old.nodes p ≡ Some n) (there : slice_get w.nodes p ≡ Some x) (waits : x.waiting ≡ frames) where
+module _ {F : Type 0} (m : Meaning F) (id : Identity) (repeated : Bool) (p i : ℕ) (old new : NetSeen) (w : World) (shows : Shows (environment m id) old w) (coherent : Coherent (environment m id) w) (n : NodeSeen) (x : NodeWorld) (frames : List (List ℕ)) (shown : NodeShows (environment m id) p n x) (at : slice_get old.nodes p ≡ Some n) (there : slice_get w.nodes p ≡ Some x) (waits : x.waiting ≡ frames) where
   abbrev e2 : Environment F
-  e2 = environment m f id
+  e2 = environment m id
 
   abbrev Hands : Option Outcome → Type 0
   Hands o = (v : World) × Shows e2 new v × Coherent e2 v × WorldHands e2 repeated p i w o v
@@ -124,13 +124,13 @@ module _ {F : Type 0} (m : Machine F) (f : Reads F) (id : Identity) (repeated : 
     clock = shows.clock;
   }
 
-  handed_any : (journal : Option (List (List ℕ))) (o : Option Outcome) → n.journal ≡ journal → IsSome journal → Handed m f repeated p i n frames old o new → Hands o
+  handed_any : (journal : Option (List (List ℕ))) (o : Option Outcome) → n.journal ≡ journal → IsSome journal → Handed m repeated p i n frames old o new → Hands o
   handed_any None o here up h = cc
   handed_any (Some bodies) o here up h =
       let stands = stands_of n.journal bodies x here shown.journal in
       let at_i : slice_get x.waiting i ≡ Some h.bytes = ap (λ l. slice_get l i) waits ∙ h.there in
       let answers = MatchOption-at_some _ _ bodies here h.takes in
-      let went = takes m f id p old.now n h.node x shown h.bytes bodies here stands h.answer h.counted (λ said judges. never_garbled e2 p i w x h.bytes said coherent there at_i judges) answers in
+      let went = takes m id p old.now n h.node x shown h.bytes bodies here stands h.answer h.counted (λ said judges. never_garbled e2 p i w x h.bytes said coherent there at_i judges) answers in
       let y = went.0 in
       let b = waits_on repeated o in
       let sent = take_sent h.answer in
@@ -142,20 +142,20 @@ module _ {F : Type 0} (m : Machine F) (f : Reads F) (id : Identity) (repeated : 
       let goes : WorldHands e2 repeated p i w o v = inr (x, there, inr (stands.0, inr (h.bytes, y, sent, at_i, two, refl))) in
       (v, shows_now, hand_coherent e2 repeated p i w v o coherent goes, goes)
 
-  hand_any : (o : Option Outcome) → Handing m f repeated p i n frames old o new → Hands o
+  hand_any : (o : Option Outcome) → Handing m repeated p i n frames old o new → Hands o
   hand_any o (inl (none, is, same)) = (w, subst (λ (z : NetSeen). Shows e2 z w) (sym same) shows, coherent, inr (x, there, inl (down_of n.journal x none shown.journal, is, refl)))
   hand_any o (inr (up, inl (none, is, same))) =
       (w, subst (λ (z : NetSeen). Shows e2 z w) (sym same) shows, coherent, inr (x, there, inr (up_of n.journal x up shown.journal, inl (ap (λ l. slice_get l i) waits ∙ none, is, refl))))
   hand_any o (inr (up, inr h)) = handed_any n.journal o refl up h
 
-pub hand_world : {F E : Type 0} (m : Machine F) (f : Reads F) (repeated : Bool) (p i : ℕ) (old new : NetSeen) (result : Result Outcome E) → HandServes m f repeated p i old result new → KeepsWorld m f old new (λ e w v. WorldHands e repeated p i w (said result) v)
-hand_world m f repeated p i old new result (inl (past, is, same)) id w shows coherent =
-    (w, subst (λ (z : NetSeen). Shows (environment m f id) z w) (sym same) shows, coherent, inl (omega (arith, past, shows.count), is, refl))
-hand_world m f repeated p i old new result (inr (n, frames, at, waiting, handing)) id w shows coherent =
+pub hand_world : {F E : Type 0} (m : Meaning F) (repeated : Bool) (p i : ℕ) (old new : NetSeen) (result : Result Outcome E) → HandServes m repeated p i old result new → KeepsWorld m old new (λ e w v. WorldHands e repeated p i w (said result) v)
+hand_world m repeated p i old new result (inl (past, is, same)) id w shows coherent =
+    (w, subst (λ (z : NetSeen). Shows (environment m id) z w) (sym same) shows, coherent, inl (omega (arith, past, shows.count), is, refl))
+hand_world m repeated p i old new result (inr (n, frames, at, waiting, handing)) id w shows coherent =
     let found = get_beside old.nodes w.nodes p n (sym shows.count) at in
     let there : slice_get (waits_in w.nodes) p ≡ Some found.0.waiting = slice_get-map (λ (z : NodeWorld). z.waiting) w.nodes p ∙ ap (option_map (λ (z : NodeWorld). z.waiting)) found.1 in
     let waits : found.0.waiting ≡ frames = same_Some _ _ (sym there ∙ ap (λ l. slice_get l p) shows.waiting ∙ waiting) in
-    hand_any m f id repeated p i old new w shows coherent n found.0 frames (shows.each p n found.0 at found.1) at found.1 waits (said result) handing
+    hand_any m id repeated p i old new w shows coherent n found.0 frames (shows.each p n found.0 at found.1) at found.1 waits (said result) handing
 
 -- ---- what a frame that was handed over came to
 
@@ -167,9 +167,9 @@ parted_short : (repeated : Bool) (place at : ℕ) (frames : List (List ℕ)) (wa
 parted_short true place at frames waiting = refl
 parted_short false place at frames waiting = refl
 
-module _ {F : Type 0} (m : Machine F) (f : Reads F) (repeated : Bool) (place at : ℕ) (old new : NetSeen) (n : NodeSeen) (frames : List (List ℕ)) (there : slice_get old.nodes place ≡ Some n) (up : IsSome n.journal) (waits : slice_get old.waiting place ≡ Some frames) where
+module _ {F : Type 0} (m : Meaning F) (repeated : Bool) (place at : ℕ) (old new : NetSeen) (n : NodeSeen) (frames : List (List ℕ)) (there : slice_get old.nodes place ≡ Some n) (up : IsSome n.journal) (waits : slice_get old.waiting place ≡ Some frames) where
   -- memory ran out before the frame was handed over
-  pub handed_short : {E : Type 0} (r : Result Outcome E) → IsErr r → at < length frames → new ≡ old → HandServes m f repeated place at old r new
+  pub handed_short : {E : Type 0} (r : Result Outcome E) → IsErr r → at < length frames → new ≡ old → HandServes m repeated place at old r new
   handed_short (Ok o) err lt same = cc
   handed_short (Err x) err lt same =
       let found = get_below frames at lt in
@@ -185,7 +185,7 @@ module _ {F : Type 0} (m : Machine F) (f : Reads F) (repeated : Bool) (place at 
             there = found.1;
             answer = Err take_fault.Memory;
             node = n;
-            takes = memory_answers (environment m f n.identity) old.now found.0 n n.journal refl up;
+            takes = memory_answers (environment m n.identity) old.now found.0 n n.journal refl up;
             counted = tt;
             outcome_is = refl;
             nodes = ap (λ (z : NetSeen). z.nodes) same ∙ sym (set_own old.nodes place n there);
@@ -196,8 +196,8 @@ module _ {F : Type 0} (m : Machine F) (f : Reads F) (repeated : Bool) (place at 
       )
 
   -- memory ran out as the node took it
-  pub handed_err : {E G : Type 0} (r : Result Outcome E) (a : Result Reply G) (x : G) (bytes : List ℕ) (k : NodeSeen) → IsErr r → a ≡ Err x → slice_get frames at ≡ Some bytes → TakeServes m f old.now bytes n a k
-      → new.nodes ≡ slice_set old.nodes place k → new.waiting ≡ old.waiting → new.now ≡ old.now → HandServes m f repeated place at old r new
+  pub handed_err : {E G : Type 0} (r : Result Outcome E) (a : Result Reply G) (x : G) (bytes : List ℕ) (k : NodeSeen) → IsErr r → a ≡ Err x → slice_get frames at ≡ Some bytes → TakeServes m old.now bytes n a k
+      → new.nodes ≡ slice_set old.nodes place k → new.waiting ≡ old.waiting → new.now ≡ old.now → HandServes m repeated place at old r new
   handed_err (Ok o) a x bytes k err was found serves nodes waiting now = cc
   handed_err (Err y) a x bytes k err was found (answer, takes, reached_is, sent_is, counted) nodes waiting now =
       inr (
@@ -223,8 +223,8 @@ module _ {F : Type 0} (m : Machine F) (f : Reads F) (repeated : Bool) (place at 
       )
 
   -- the node took it
-  pub handed_done : (E : Type 0) {G : Type 0} (a : Result Reply G) (reply : Reply) (bytes : List ℕ) (k : NodeSeen) (b : Bool) → a ≡ Ok reply → slice_get frames at ≡ Some bytes → TakeServes m f old.now bytes n a k → b ≡ waits_on repeated (Some reply.outcome)
-      → new.nodes ≡ slice_set old.nodes place k → new.waiting ≡ mailed (option_to_list reply.ack) (parted b place at frames old.waiting) → new.now ≡ old.now → HandServes {E = E} m f repeated place at old (Ok reply.outcome) new
+  pub handed_done : (E : Type 0) {G : Type 0} (a : Result Reply G) (reply : Reply) (bytes : List ℕ) (k : NodeSeen) (b : Bool) → a ≡ Ok reply → slice_get frames at ≡ Some bytes → TakeServes m old.now bytes n a k → b ≡ waits_on repeated (Some reply.outcome)
+      → new.nodes ≡ slice_set old.nodes place k → new.waiting ≡ mailed (option_to_list reply.ack) (parted b place at frames old.waiting) → new.now ≡ old.now → HandServes {E = E} m repeated place at old (Ok reply.outcome) new
   handed_done E a reply bytes k b was found (answer, takes, reached_is, sent_is, counted) is nodes waiting now =
       inr (
         n,

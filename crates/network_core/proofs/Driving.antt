@@ -4,7 +4,7 @@ use Rattle.flow_machine.specs.Machine.{Machine}
 use Rattle.net_base.specs.declared.names.Identity.{Identity}
 use Rattle.network_core.proofs.Mapping.{Maps, round_map, drains_map}
 use Rattle.net_base.proofs.Lists.{set_length}
-use Rattle.net_model.specs.Environment.{Environment, environment}
+use Rattle.net_model.specs.Environment.{Environment, environment, Meaning}
 use Rattle.node_tables.specs.Journals.{Reads}
 use Rattle.node_core.specs.Seen.{NodeSeen}
 use Rattle.node_core.specs.declared.faults.TurnFault.{TurnFault}
@@ -60,24 +60,24 @@ answer_is (Some o) = refl
 answer_is None = refl
 
 -- what is said of an outcome is said whatever stands for want of memory
-module _ {F E : Type 0} (m : Machine F) (f : Reads F) (p : ℕ) (old new : NetSeen) (r : Result Outcome E) (o : Option Outcome) (was : said r ≡ o) where
+module _ {F E : Type 0} (m : Meaning F) (p : ℕ) (old new : NetSeen) (r : Result Outcome E) (o : Option Outcome) (was : said r ≡ o) where
   outcome_is : said (answer_of o) ≡ said r
   outcome_is = answer_is o ∙ sym was
 
-  turn_bare : AtPlace p old r new (λ n a k. TurnServes m f old.now None n a k) → AtPlace p old (answer_of o) new (λ n a k. TurnServes m f old.now None n a k)
+  turn_bare : AtPlace p old r new (λ n a k. TurnServes m old.now None n a k) → AtPlace p old (answer_of o) new (λ n a k. TurnServes m old.now None n a k)
   turn_bare (inl (past, is, same)) = inl (past, outcome_is ∙ is, same)
   turn_bare (inr (n, k, at, nodes, waiting, (answer, answers, so))) = inr (n, k, at, nodes, waiting, (answer, answers, outcome_is ∙ so))
 
-  pub net_turn : AtPlace p old r new (λ n a k. TurnServes m f old.now None n a k) → new.now ≡ old.now → NetTurn m f p old o new
+  pub net_turn : AtPlace p old r new (λ n a k. TurnServes m old.now None n a k) → new.now ≡ old.now → NetTurn m p old o new
   net_turn at clock = (turn_bare at, clock)
 
-  pub net_post : PostServes f p old r new → NetPost f p old o new
+  pub net_post : PostServes m.frame_at p old r new → NetPost m.frame_at p old o new
   net_post (inl (past, is, same)) = inl (past, outcome_is ∙ is, same)
-  net_post (inr (n, at, posting)) = inr (n, at, subst (λ (a : Option Outcome). Posting f n old a new) (sym outcome_is) posting)
+  net_post (inr (n, at, posting)) = inr (n, at, subst (λ (a : Option Outcome). Posting m.frame_at n old a new) (sym outcome_is) posting)
 
-  pub net_hand : HandServes m f false p 0 old r new → NetHand m f p old o new
+  pub net_hand : HandServes m false p 0 old r new → NetHand m p old o new
   net_hand (inl (past, is, same)) = inl (past, outcome_is ∙ is, same)
-  net_hand (inr (n, frames, at, waits, handing)) = inr (n, frames, at, waits, subst (λ (a : Option Outcome). Handing m f false p 0 n frames old a new) (sym outcome_is) handing)
+  net_hand (inr (n, frames, at, waits, handing)) = inr (n, frames, at, waits, subst (λ (a : Option Outcome). Handing m false p 0 n frames old a new) (sym outcome_is) handing)
 
 -- a step at one place keeps the number of nodes
 pub same_count : {E : Type 0} (p : ℕ) (old new : NetSeen) (result : Result Outcome E) (serves : NodeSeen → Result Outcome E → NodeSeen → Type 0) → AtPlace p old result new serves → length new.nodes ≡ length old.nodes
@@ -105,31 +105,31 @@ take_says (Err take_fault.Full) o code is full so = absurd (full cc)
 take_says (Err take_fault.Memory) o code is full so = absurd cc
 take_says (Err take_fault.Fault) o code is full so = absurd cc
 
-module _ {F : Type 0} (m : Machine F) (f : Reads F) where
-  post_same : (n : NodeSeen) (old new : NetSeen) (o : Option Outcome) → Posting f n old o new → (new.nodes ≡ old.nodes) × (new.now ≡ old.now)
+module _ {F : Type 0} (m : Meaning F) where
+  post_same : (n : NodeSeen) (old new : NetSeen) (o : Option Outcome) → Posting m.frame_at n old o new → (new.nodes ≡ old.nodes) × (new.now ≡ old.now)
   post_same n old new None s = (ap (λ z. z.nodes) s.1, ap (λ z. z.now) s.1)
   post_same n old new (Some (outcome.Posted count)) s = (ap (λ z. z.nodes) s.4, ap (λ z. z.now) s.4)
   post_same n old new (Some (outcome.Refused code)) s = (ap (λ z. z.nodes) s.2, ap (λ z. z.now) s.2)
   post_same n old new (Some _) s = absurd s
 
   -- a post changes no node, and no moment
-  pub post_keeps : {E : Type 0} (p : ℕ) (old new : NetSeen) (result : Result Outcome E) → PostServes f p old result new → (new.nodes ≡ old.nodes) × (new.now ≡ old.now)
+  pub post_keeps : {E : Type 0} (p : ℕ) (old new : NetSeen) (result : Result Outcome E) → PostServes m.frame_at p old result new → (new.nodes ≡ old.nodes) × (new.now ≡ old.now)
   post_keeps p old new result (inl (past, is, same)) = (ap (λ z. z.nodes) same, ap (λ z. z.now) same)
   post_keeps p old new result (inr (n, at, posting)) = post_same n old new (said result) posting
 
-  net_last : (p : ℕ) (o : Outcome) (w v : NetSeen) → p < length w.nodes → ((g : ℕ) → o ≡ outcome.Moved g → ⊥) → (o ≡ outcome.Refused 9 → ⊥) → NetTurn m f p w (Some o) v → IsLastTurn o
+  net_last : (p : ℕ) (o : Outcome) (w v : NetSeen) → p < length w.nodes → ((g : ℕ) → o ≡ outcome.Moved g → ⊥) → (o ≡ outcome.Refused 9 → ⊥) → NetTurn m p w (Some o) v → IsLastTurn o
   net_last p o w v lt moved full (inl (past, is, same), clock) = absurd (omega (arith, lt, past))
   net_last p o w v lt moved full (inr (n, k, at, nodes, waiting, (answer, answers, so)), clock) = turn_says answer o moved full so
 
-  net_over : (p code : ℕ) (w v : NetSeen) (o : Outcome) → p < length w.nodes → o ≡ outcome.Refused code → (code ≡ 9 → ⊥) → NetHand m f p w (Some o) v → (o ≡ outcome.Refused 7) ⊎ (o ≡ outcome.Refused 3)
+  net_over : (p code : ℕ) (w v : NetSeen) (o : Outcome) → p < length w.nodes → o ≡ outcome.Refused code → (code ≡ 9 → ⊥) → NetHand m p w (Some o) v → (o ≡ outcome.Refused 7) ⊎ (o ≡ outcome.Refused 3)
   net_over p code w v o lt is full (inl (past, two, same)) = absurd (omega (arith, lt, past))
   net_over p code w v o lt is full (inr (n, frames, at, waits, inl (none, three, same))) = inr cc
   net_over p code w v o lt is full (inr (n, frames, at, waits, inr (up, inl (none, seven, same)))) = inl cc
   net_over p code w v o lt is full (inr (n, frames, at, waits, inr (up, inr h))) = take_says h.answer o code is full h.outcome_is
 
-  pub net_laws : DrainLaws (net_steps m f)
+  pub net_laws : DrainLaws (net_steps m)
   net_laws = record {
-    turn_count = λ p w v o at. same_count p w v (answer_of o) (λ n r k. TurnServes m f w.now None n r k) at.0;
+    turn_count = λ p w v o at. same_count p w v (answer_of o) (λ n r k. TurnServes m w.now None n r k) at.0;
     post_count = λ p w v o at. ap length (post_keeps p w v (answer_of o) at).0;
     turn_last = net_last;
     hand_over = λ p d code w u v o lt is full hand. inl (o, hand, net_over p code u v o lt is full hand);
@@ -139,9 +139,9 @@ module _ {F : Type 0} (m : Machine F) (f : Reads F) where
 
   module _ (id : Identity) where
     abbrev Both : Type 0
-    Both = Pair (environment m f id)
+    Both = Pair (environment m id)
 
-    pub to_world : Maps (pair_steps m f id) (world_steps (environment m f id)) (λ (a : Both). a.world)
+    pub to_world : Maps (pair_steps m id) (world_steps (environment m id)) (λ (a : Both). a.world)
     to_world = record {
       count = λ a. a.shows.count;
       turn = λ p a o b h. h.1;
@@ -150,7 +150,7 @@ module _ {F : Type 0} (m : Machine F) (f : Reads F) where
       ends = λ p d a c b h. ⊎_elim (λ over. (over.0, over.1.1, over.2)) (λ still. still.2) h;
     }
 
-    pub to_net : Maps (pair_steps m f id) (net_steps m f) (λ (a : Both). a.net)
+    pub to_net : Maps (pair_steps m id) (net_steps m) (λ (a : Both). a.net)
     to_net = record {
       count = λ a. refl;
       turn = λ p a o b h. h.0;
@@ -159,7 +159,7 @@ module _ {F : Type 0} (m : Machine F) (f : Reads F) where
       ends = λ p d a c b h. ⊎_elim (λ over. inl (over.0, over.1.0, over.2)) (λ still. still.1) h;
     }
 
-    pub pair_laws : DrainLaws (pair_steps m f id)
+    pub pair_laws : DrainLaws (pair_steps m id)
     pair_laws = record {
       turn_count = λ p a b o h. net_laws.turn_count p a.net b.net o h.0;
       post_count = λ p a b o h. net_laws.post_count p a.net b.net o h.0;
@@ -168,52 +168,52 @@ module _ {F : Type 0} (m : Machine F) (f : Reads F) where
     }
 
   -- what is said of worlds follows
-  pub worlds_of : (old new : NetSeen) (o : Option Outcome) → KeepsPair m f old new (λ id a b. PairDrains m f id o a b) → KeepsWorld m f old new (λ e w v. WorldDrains e w o v)
+  pub worlds_of : (old new : NetSeen) (o : Option Outcome) → KeepsPair m old new (λ id a b. PairDrains m id o a b) → KeepsWorld m old new (λ e w v. WorldDrains e w o v)
   worlds_of old new o pairs id w shows coherent =
       let b = pairs id w shows coherent in
-      (b.0, b.1, b.2, (drains_map (pair_steps m f id) (world_steps (environment m f id)) (λ (z : Pair (environment m f id)). z.world) (to_world id) (with_world old w shows coherent) o (with_world new b.0 b.1 b.2) b.3.0, b.3.1))
+      (b.0, b.1, b.2, (drains_map (pair_steps m id) (world_steps (environment m id)) (λ (z : Pair (environment m id)). z.world) (to_world id) (with_world old w shows coherent) o (with_world new b.0 b.1 b.2) b.3.0, b.3.1))
 
   -- ---- one thing after another
 
   -- nothing was done yet
-  pub drives_none : (old new : NetSeen) (goal : DrainGoal) → new ≡ old → ((W : Type 0) (s : DrainSteps W) (w : W) → goal W s w w) → Drives m f old new goal
+  pub drives_none : (old new : NetSeen) (goal : DrainGoal) → new ≡ old → ((W : Type 0) (s : DrainSteps W) (w : W) → goal W s w w) → Drives m old new goal
   drives_none old new goal same holds = record {
     pairs = λ id w shows coherent.
-        let e = environment m f id in
+        let e = environment m id in
         let a = with_world old w shows coherent in
-        subst (λ (n : NetSeen). (v : World) × (later : Shows e n v) × (sound : Coherent e v) × goal (Pair e) (pair_steps m f id) a (with_world n v later sound)) (sym same) (w, shows, coherent, holds (Pair e) (pair_steps m f id) a);
-    seen = subst (λ (n : NetSeen). goal NetSeen (net_steps m f) old n) (sym same) (holds NetSeen (net_steps m f) old);
+        subst (λ (n : NetSeen). (v : World) × (later : Shows e n v) × (sound : Coherent e v) × goal (Pair e) (pair_steps m id) a (with_world n v later sound)) (sym same) (w, shows, coherent, holds (Pair e) (pair_steps m id) a);
+    seen = subst (λ (n : NetSeen). goal NetSeen (net_steps m) old n) (sym same) (holds NetSeen (net_steps m) old);
     clock = ap (λ (z : NetSeen). z.now) same;
     left = omega (arith, ap room same);
     count = ap (λ (z : NetSeen). length z.nodes) same;
   }
 
-  pub drives_map : (old new : NetSeen) (goal wider : DrainGoal) → ((W : Type 0) (s : DrainSteps W) → DrainLaws s → (w v : W) → goal W s w v → wider W s w v) → Drives m f old new goal → Drives m f old new wider
+  pub drives_map : (old new : NetSeen) (goal wider : DrainGoal) → ((W : Type 0) (s : DrainSteps W) → DrainLaws s → (w v : W) → goal W s w v → wider W s w v) → Drives m old new goal → Drives m old new wider
   drives_map old new goal wider map d = record {
     pairs = λ id w shows coherent.
         let one = d.pairs id w shows coherent in
-        (one.0, one.1, one.2, map (Pair (environment m f id)) (pair_steps m f id) (pair_laws id) (with_world old w shows coherent) (with_world new one.0 one.1 one.2) one.3);
-    seen = map NetSeen (net_steps m f) net_laws old new d.seen;
+        (one.0, one.1, one.2, map (Pair (environment m id)) (pair_steps m id) (pair_laws id) (with_world old w shows coherent) (with_world new one.0 one.1 one.2) one.3);
+    seen = map NetSeen (net_steps m) net_laws old new d.seen;
     clock = d.clock;
     left = d.left;
     count = d.count;
   }
 
   -- one thing after another
-  pub drives_then : (old mid new : NetSeen) (first second wider : DrainGoal) → ((W : Type 0) (s : DrainSteps W) → DrainLaws s → (w u v : W) → first W s w u → second W s u v → wider W s w v) → Drives m f old mid first → Drives m f mid new second → Drives m f old new wider
+  pub drives_then : (old mid new : NetSeen) (first second wider : DrainGoal) → ((W : Type 0) (s : DrainSteps W) → DrainLaws s → (w u v : W) → first W s w u → second W s u v → wider W s w v) → Drives m old mid first → Drives m mid new second → Drives m old new wider
   drives_then old mid new first second wider join before after = record {
     pairs = λ id w shows coherent.
         let one = before.pairs id w shows coherent in
         let two = after.pairs id one.0 one.1 one.2 in
-        (two.0, two.1, two.2, join (Pair (environment m f id)) (pair_steps m f id) (pair_laws id) (with_world old w shows coherent) (with_world mid one.0 one.1 one.2) (with_world new two.0 two.1 two.2) one.3 two.3);
-    seen = join NetSeen (net_steps m f) net_laws old mid new before.seen after.seen;
+        (two.0, two.1, two.2, join (Pair (environment m id)) (pair_steps m id) (pair_laws id) (with_world old w shows coherent) (with_world mid one.0 one.1 one.2) (with_world new two.0 two.1 two.2) one.3 two.3);
+    seen = join NetSeen (net_steps m) net_laws old mid new before.seen after.seen;
     clock = after.clock ∙ before.clock;
     left = omega (arith, before.left, after.left);
     count = after.count ∙ before.count;
   }
 
   -- a world that the network shows has as many nodes
-  pub drives_counted : (old new : NetSeen) (goal : DrainGoal) → Drives m f old new goal → Drives m f old new (λ W s w v. (s.count w ≡ length old.nodes) × goal W s w v)
+  pub drives_counted : (old new : NetSeen) (goal : DrainGoal) → Drives m old new goal → Drives m old new (λ W s w v. (s.count w ≡ length old.nodes) × goal W s w v)
   drives_counted old new goal d = record {
     pairs = λ id w shows coherent.
         let one = d.pairs id w shows coherent in
@@ -227,32 +227,32 @@ module _ {F : Type 0} (m : Machine F) (f : Reads F) where
   -- ---- how a drain ends
 
   -- behind a round in which nothing was committed the network is quiet
-  quiet_pairs : (old mid new : NetSeen) → Drives m f old mid (λ W s w v. SomeRounds s w v) → Drives m f mid new (λ W s w v. Round s 0 w v) → KeepsPair m f old new (λ id a b. PairDrains m f id (Some (outcome.Drained false)) a b)
+  quiet_pairs : (old mid new : NetSeen) → Drives m old mid (λ W s w v. SomeRounds s w v) → Drives m mid new (λ W s w v. Round s 0 w v) → KeepsPair m old new (λ id a b. PairDrains m id (Some (outcome.Drained false)) a b)
   quiet_pairs old mid new before after id w shows coherent =
       let one = before.pairs id w shows coherent in
       let two = after.pairs id one.0 one.1 one.2 in
       let a = with_world old w shows coherent in
       let c = with_world mid one.0 one.1 one.2 in
       let b = with_world new two.0 two.1 two.2 in
-      (two.0, two.1, two.2, (drain_ends (pair_steps m f id) a c b one.3 two.3, λ is. quiet (environment m f id) one.0 two.0 one.2 (round_map (pair_steps m f id) (world_steps (environment m f id)) (λ (z : Pair (environment m f id)). z.world) (to_world id) 0 c b two.3)))
+      (two.0, two.1, two.2, (drain_ends (pair_steps m id) a c b one.3 two.3, λ is. quiet (environment m id) one.0 two.0 one.2 (round_map (pair_steps m id) (world_steps (environment m id)) (λ (z : Pair (environment m id)). z.world) (to_world id) 0 c b two.3)))
 
-  pub drains_quiet : (old mid new : NetSeen) → Drives m f old mid (λ W s w v. SomeRounds s w v) → Drives m f mid new (λ W s w v. Round s 0 w v) → Drains m f old (Some (outcome.Drained false)) new
+  pub drains_quiet : (old mid new : NetSeen) → Drives m old mid (λ W s w v. SomeRounds s w v) → Drives m mid new (λ W s w v. Round s 0 w v) → Drains m old (Some (outcome.Drained false)) new
   drains_quiet old mid new before after = record {
     pairs = quiet_pairs old mid new before after;
     world = worlds_of old new (Some (outcome.Drained false)) (quiet_pairs old mid new before after);
-    seen = drain_ends (net_steps m f) old mid new before.seen after.seen;
+    seen = drain_ends (net_steps m) old mid new before.seen after.seen;
     clock = after.clock ∙ before.clock;
     left = omega (arith, before.left, after.left);
     count = after.count ∙ before.count;
   }
 
   -- a full journal or want of memory stopped it
-  stopped_pairs : (old new : NetSeen) (o : Option Outcome) → (o ≡ Some (outcome.Drained false) → ⊥) → Drives m f old new (λ W s w v. DrainsTo s w o v) → KeepsPair m f old new (λ id a b. PairDrains m f id o a b)
+  stopped_pairs : (old new : NetSeen) (o : Option Outcome) → (o ≡ Some (outcome.Drained false) → ⊥) → Drives m old new (λ W s w v. DrainsTo s w o v) → KeepsPair m old new (λ id a b. PairDrains m id o a b)
   stopped_pairs old new o other d id w shows coherent =
       let one = d.pairs id w shows coherent in
       (one.0, one.1, one.2, (one.3, λ is. absurd (other is)))
 
-  pub drains_stopped : (old new : NetSeen) (o : Option Outcome) → (o ≡ Some (outcome.Drained false) → ⊥) → Drives m f old new (λ W s w v. DrainsTo s w o v) → Drains m f old o new
+  pub drains_stopped : (old new : NetSeen) (o : Option Outcome) → (o ≡ Some (outcome.Drained false) → ⊥) → Drives m old new (λ W s w v. DrainsTo s w o v) → Drains m old o new
   drains_stopped old new o other d = record {
     pairs = stopped_pairs old new o other d;
     world = worlds_of old new o (stopped_pairs old new o other d);

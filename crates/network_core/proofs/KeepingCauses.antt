@@ -42,4 +42,4 @@ module _ {F : Type 0} (e : Environment F) (net : NetSeen) (w : World) (shows : S
       stands_chosen e p lists journal at local known.place cause stays
 
 pub acknowledged_at_all_moments : {F : Type 0} → AcknowledgedAtAllMoments F
-acknowledged_at_all_moments m f id a b way s on images choice p cause known = stands_at (environment m f id) a.net a.world a.shows a.coherent s (kept_on_ways m f id a b way s on) images choice p cause known
+acknowledged_at_all_moments m id a b way s on images choice p cause known = stands_at (environment m id) a.net a.world a.shows a.coherent s (kept_on_ways m id a b way s on) images choice p cause known

@@ -8,7 +8,7 @@ use Rattle.outside.proofs.Moments.{only}
 use Rattle.net_base.specs.declared.names.Identity.{Identity}
 use Rattle.net_base.proofs.Lists.{get_beside, get_map, get_set, get_there, set_length}
 use Rattle.flow_machine.specs.Machine.{Machine}
-use Rattle.net_model.specs.Environment.{Environment, environment}
+use Rattle.net_model.specs.Environment.{Environment, environment, Meaning}
 use Rattle.node_tables.specs.Journals.{Reads}
 use Rattle.node_core.specs.Seen.{NodeSeen}
 use Rattle.network_core.specs.Worlds.{World, NetSeen, Shows, Coherent}
@@ -61,9 +61,9 @@ at_one e w b c shows coherent link q j k d at after since =
       get_there (now_of c) q k.disk.state.now d (now_there c q k after),
     )
 
-module _ {F : Type 0} (m : Machine F) (f : Reads F) (id : Identity) where
+module _ {F : Type 0} (m : Meaning F) (id : Identity) where
   abbrev e : Environment F
-  e = environment m f id
+  e = environment m id
 
   abbrev Full : (a b : Pair e) → (Instant → Type 0) → Type 0
   Full a b on = (q : ℕ) (n k : NodeSeen) (d : Durable) → slice_get a.net.nodes q ≡ Some n → slice_get b.net.nodes q ≡ Some k → IsSince n.disk.state k.disk.state d → (s : Instant) × on s × (slice_get s q ≡ Some d)
@@ -105,10 +105,10 @@ module _ {F : Type 0} (m : Machine F) (f : Reads F) (id : Identity) where
             (parts n.disk.state j.0.disk.state k.disk.state d first.0 second.0 first.1 second.1 since);
       }
 
-  known_of : (a b : Pair e) (way : Way m f id a b) → Known a b (IsOn way)
+  known_of : (a b : Pair e) (way : Way m id a b) → Known a b (IsOn way)
   known_of a b (stay is) = subst (λ (z : Pair e). Known a z (λ s. s ≡ now_of a.net)) (sym is) (begin a)
-  known_of a c (by_part {b = b} p o way does) = more a b c (IsOn way) (known_of a b way) (part_link m f id p o b c does)
-  known_of a c (by_step {b = b} st o way drain answered serve) = more a b c (IsOn way) (known_of a b way) (step_link m f id b.net c.net b.world b.shows b.coherent st (answer_of o) drain answered)
+  known_of a c (by_part {b = b} p o way does) = more a b c (IsOn way) (known_of a b way) (part_link m id p o b c does)
+  known_of a c (by_step {b = b} st o way drain answered serve) = more a b c (IsOn way) (known_of a b way) (step_link m id b.net c.net b.world b.shows b.coherent st (answer_of o) drain answered)
 
 pub ways_have_all_moments : {F : Type 0} → WaysHaveAllMoments F
-ways_have_all_moments m f id a b way q n k d at after since = (known_of m f id a b way).full q n k d at after since
+ways_have_all_moments m id a b way q n k d at after since = (known_of m id a b way).full q n k d at after since

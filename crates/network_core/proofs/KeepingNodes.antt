@@ -16,7 +16,7 @@ use Rattle.session_frames.specs.Items.{GoesFurther}
 use Rattle.session_frames.specs.Judging.{IsJudged}
 use Rattle.flow_machine.specs.Machine.{Machine}
 use Rattle.disk_journal.specs.Journal.{IsSound, WasSpelt, journal_of}
-use Rattle.net_model.specs.Environment.{Environment, environment, identity}
+use Rattle.net_model.specs.Environment.{Environment, environment, identity, Meaning}
 use Rattle.net_model.specs.Runs.{accepts}
 use Rattle.node_core.specs.declared.faults.StartFault.{StartFault}
 use Rattle.node_core.specs.declared.faults.StartFault.TheVariants as start_fault
@@ -85,9 +85,9 @@ module _ {F : Type 0} (e : Environment F) (w : World) (p : ℕ) (n : NodeSeen) w
     sound = λ all. form.sound tells all;
   }
 
-module _ {F : Type 0} (m : Machine F) (f : Reads F) (id : Identity) (w : World) (p : ℕ) (n k : NodeSeen) (x : NodeWorld) (shows : NodeShows (environment m f id) p n x) (coherent : Coherent (environment m f id) w) (there : slice_get w.nodes p ≡ Some x) where
+module _ {F : Type 0} (m : Meaning F) (id : Identity) (w : World) (p : ℕ) (n k : NodeSeen) (x : NodeWorld) (shows : NodeShows (environment m id) p n x) (coherent : Coherent (environment m id) w) (there : slice_get w.nodes p ≡ Some x) where
   abbrev e : Environment F
-  e = environment m f id
+  e = environment m id
 
   abbrev Goes : Type 0
   Goes = DiskGoes e w p n k
@@ -104,13 +104,13 @@ module _ {F : Type 0} (m : Machine F) (f : Reads F) (id : Identity) (w : World) 
     spells b image = ⊎_elim (λ is. is) (λ is. absurd (none-some _ (sym stands.2 ∙ is))) (shows.images b image)
 
     -- one record was on its way
-    moved : (ev : Event) (item : Option Sent) (body : List ℕ) → Pends (environment m f n.identity) n.identity.party.0 w.now bodies ev item body → ((i : Sent) → item ≡ Some i → accepts ev ≡ true) → (Pends e p w.now x.journal ev item body → IsSenders e w p x x ev item)
+    moved : (ev : Event) (item : Option Sent) (body : List ℕ) → Pends (environment m n.identity) n.identity.party.0 w.now bodies ev item body → ((i : Sent) → item ≡ Some i → accepts ev ≡ true) → (Pends e p w.now x.journal ev item body → IsSenders e w p x x ev item)
         → k.identity ≡ n.identity → Moves n.disk k.disk (OldOrMore bodies body) → KeepsForm n.identity n.disk k.disk → Goes
     moved ev item body pends fit sends id_is moves form =
         let b = n.disk.state.now.synced in
         let image = synced_image n.disk.state.now in
         let was : journal_of b ≡ x.journal = spells b image in
-        let mine : Pends e p w.now x.journal ev item body = subst (λ (l : List (List ℕ)). Pends e p w.now l ev item body) (sym stands.1) (pends_here m f id p w.now n k x shows bodies ev item body pends) in
+        let mine : Pends e p w.now x.journal ev item body = subst (λ (l : List (List ℕ)). Pends e p w.now l ev item body) (sym stands.1) (pends_here m id p w.now n k x shows bodies ev item body pends) in
         let adds : (l : List (List ℕ)) → l ≡ bodies ++ body ∷ [] → Adds e w p (journal_of b) l = λ l is. subst (λ (o : List (List ℕ)). Adds e w p o l) (sym was) (record { event = ev; item = item; body = body; pends = mine; is = is ∙ ap (λ (o : List (List ℕ)). o ++ body ∷ []) (sym stands.1); fits = fit; sender = sends mine }) in
         record {
           identity_is = id_is;
@@ -120,16 +120,16 @@ module _ {F : Type 0} (m : Machine F) (f : Reads F) (id : Identity) (w : World) 
           sound = λ all. form.sound shows.tells all;
         }
 
-    commits : (ev : Event) (item : Option Sent) → ((i : Sent) → item ≡ Some i → accepts ev ≡ true) → ((body : List ℕ) → Pends e p w.now x.journal ev item body → IsSenders e w p x x ev item) → Commits (environment m f n.identity) w.now bodies ev item n k → Goes
+    commits : (ev : Event) (item : Option Sent) → ((i : Sent) → item ≡ Some i → accepts ev ≡ true) → ((body : List ℕ) → Pends e p w.now x.journal ev item body → IsSenders e w p x x ev item) → Commits (environment m n.identity) w.now bodies ev item n k → Goes
     commits ev item fit sends c = moved ev item c.body c.appended.pends fit (sends c.body) c.identity c.appended.moves c.appended.form
 
-    faults : (ev : Event) (item : Option Sent) → ((i : Sent) → item ≡ Some i → accepts ev ≡ true) → ((body : List ℕ) → Pends e p w.now x.journal ev item body → IsSenders e w p x x ev item) → Faults (environment m f n.identity) w.now bodies ev item n k → Goes
+    faults : (ev : Event) (item : Option Sent) → ((i : Sent) → item ≡ Some i → accepts ev ≡ true) → ((body : List ℕ) → Pends e p w.now x.journal ev item body → IsSenders e w p x x ev item) → Faults (environment m n.identity) w.now bodies ev item n k → Goes
     faults ev item fit sends c = moved ev item c.body c.failing.pends fit (sends c.body) c.identity c.failing.moves c.failing.form
 
     no_item : (ev : Event) (i : Sent) → None ≡ Some i → accepts ev ≡ true
     no_item ev i is = cc
 
-    start_up : (class : ℕ) (args : List ℕ) (answer : Result ℕ StartFault) → StartsAs (environment m f n.identity) w.now class args bodies n answer k → Goes
+    start_up : (class : ℕ) (args : List ℕ) (answer : Result ℕ StartFault) → StartsAs (environment m n.identity) w.now class args bodies n answer k → Goes
     start_up class args (Ok g) s = commits (event.Start g class args) None (no_item (event.Start g class args)) (λ body pends. none_senders e w p x x (event.Start g class args) body pends) s.1
     start_up class args (Err start_fault.NodeDown) s = absurd s
     start_up class args (Err start_fault.UnknownClass) s = stays s.1
@@ -137,10 +137,10 @@ module _ {F : Type 0} (m : Machine F) (f : Reads F) (id : Identity) (w : World) 
     start_up class args (Err start_fault.Full) s = stays s.2
     start_up class args (Err start_fault.Memory) s = stays s
     start_up class args (Err start_fault.Fault) s =
-        let ev = event.Start (flow_count (environment m f n.identity) bodies) class args in
+        let ev = event.Start (flow_count (environment m n.identity) bodies) class args in
         faults ev None (no_item ev) (λ body pends. none_senders e w p x x ev body pends) s
 
-    turn_up : (pick : Option ℕ) (answer : Result Turned TurnFault) → TurnsAs (environment m f n.identity) w.now pick bodies n answer k → Goes
+    turn_up : (pick : Option ℕ) (answer : Result Turned TurnFault) → TurnsAs (environment m n.identity) w.now pick bodies n answer k → Goes
     turn_up pick (Ok turned.Idle) s = stays s.1
     turn_up pick (Ok (turned.Moved g)) s = commits s.0 None (no_item s.0) (λ body pends. none_senders e w p x x s.0 body pends) s.3
     turn_up pick (Err turn_fault.NodeDown) s = absurd s
@@ -156,8 +156,8 @@ module _ {F : Type 0} (m : Machine F) (f : Reads F) (id : Identity) (w : World) 
     -- ---- a frame
 
     module _ (i : ℕ) (bytes : List ℕ) (waits : slice_get x.waiting i ≡ Some bytes) where
-      accepts_as : (from : Party) (key : Key) (direction number : ℕ) (item : Sent) → ((j : Sent) → Some item ≡ Some j → accepts (accepting (state_of f bodies).sessions key direction number) ≡ true)
-          → ((body : List ℕ) → Pends e p w.now x.journal (accepting (state_of f bodies).sessions key direction number) (Some item) body → IsSenders e w p x x (accepting (state_of f bodies).sessions key direction number) (Some item)) → (answer : Result Taken TakeFault) → AcceptsAs (environment m f n.identity) w.now bodies from key direction number item n answer k → Goes
+      accepts_as : (from : Party) (key : Key) (direction number : ℕ) (item : Sent) → ((j : Sent) → Some item ≡ Some j → accepts (accepting (state_of m.frame_at bodies).sessions key direction number) ≡ true)
+          → ((body : List ℕ) → Pends e p w.now x.journal (accepting (state_of m.frame_at bodies).sessions key direction number) (Some item) body → IsSenders e w p x x (accepting (state_of m.frame_at bodies).sessions key direction number) (Some item)) → (answer : Result Taken TakeFault) → AcceptsAs (environment m n.identity) w.now bodies from key direction number item n answer k → Goes
       accepts_as from key direction number item fit sends (Ok (taken.Took upto ack)) s = commits _ (Some item) fit sends s.2
       accepts_as from key direction number item fit sends (Ok taken.Acked) s = absurd s
       accepts_as from key direction number item fit sends (Ok (taken.Again expected ack)) s = absurd s
@@ -170,7 +170,7 @@ module _ {F : Type 0} (m : Machine F) (f : Reads F) (id : Identity) (w : World) 
       accepts_as from key direction number item fit sends (Err take_fault.Memory) s = absurd s
       accepts_as from key direction number item fit sends (Err take_fault.Fault) s = faults _ (Some item) fit sends s
 
-      responds : (said : Judged) → IsJudged n.identity (state_of f bodies).sessions bytes said → GoesFurther n.identity (state_of f bodies).sessions said → (answer : Result Taken TakeFault) → Responds (environment m f n.identity) w.now bodies said n answer k → Goes
+      responds : (said : Judged) → IsJudged n.identity (state_of m.frame_at bodies).sessions bytes said → GoesFurther n.identity (state_of m.frame_at bodies).sessions said → (answer : Result Taken TakeFault) → Responds (environment m n.identity) w.now bodies said n answer k → Goes
       responds judged.Garbled judges further answer s = stays s.1
       responds (judged.NotMine to) judges further answer s = stays s.1
       responds judged.NoSession judges further answer s = stays s.1
@@ -181,25 +181,25 @@ module _ {F : Type 0} (m : Machine F) (f : Reads F) (id : Identity) (w : World) 
           let item : Sent = record { body = body; stamp = stamp } in
           let next : Judged = judged.Next from key direction number stamp body in
           let to : (P : List (List ℕ) → Identity → Type 0) → P bodies n.identity → P x.journal (identity e p) = λ P h. subst (λ (l : List (List ℕ)). P l (identity e p)) (sym stands.1) (subst (λ (i : Identity). P bodies i) shows.identity_is h) in
-          let said_x : IsJudged (identity e p) (state_of f x.journal).sessions bytes next = to (λ l i. IsJudged i (state_of f l).sessions bytes next) judges in
-          let further_x : GoesFurther (identity e p) (state_of f x.journal).sessions next = to (λ l i. GoesFurther i (state_of f l).sessions next) further in
+          let said_x : IsJudged (identity e p) (state_of m.frame_at x.journal).sessions bytes next = to (λ l i. IsJudged i (state_of m.frame_at l).sessions bytes next) judges in
+          let further_x : GoesFurther (identity e p) (state_of m.frame_at x.journal).sessions next = to (λ l i. GoesFurther i (state_of m.frame_at l).sessions next) further in
           accepts_as from key direction number item
-          (subst (λ (l : List (List ℕ)). (j : Sent) → Some item ≡ Some j → accepts (accepting (state_of f l).sessions key direction number) ≡ true) stands.1 (fits e w p x coherent there stands.0 i bytes waits from key direction number stamp body said_x further_x))
-          (λ more pends. subst (λ (l : List (List ℕ)). IsSenders e w p x x (accepting (state_of f l).sessions key direction number) (Some item)) stands.1 (senders e w p x coherent there stands.0 i bytes waits from key direction number stamp body said_x further_x x))
+          (subst (λ (l : List (List ℕ)). (j : Sent) → Some item ≡ Some j → accepts (accepting (state_of m.frame_at l).sessions key direction number) ≡ true) stands.1 (fits e w p x coherent there stands.0 i bytes waits from key direction number stamp body said_x further_x))
+          (λ more pends. subst (λ (l : List (List ℕ)). IsSenders e w p x x (accepting (state_of m.frame_at l).sessions key direction number) (Some item)) stands.1 (senders e w p x coherent there stands.0 i bytes waits from key direction number stamp body said_x further_x x))
           answer s
 
-      takes_as : (answer : Result Taken TakeFault) → TakesAs (environment m f n.identity) w.now bytes bodies n answer k → Goes
+      takes_as : (answer : Result Taken TakeFault) → TakesAs (environment m n.identity) w.now bytes bodies n answer k → Goes
       takes_as answer (inl (is, same)) = stays same
       takes_as answer (inr (said, judges, further, s)) = responds said judges further answer s
 
   -- ---- any node
 
-  pub start_goes : (class : ℕ) (args : List ℕ) (journal : Option (List (List ℕ))) (answer : Result ℕ StartFault) → n.journal ≡ journal → StartAnswers (environment m f n.identity) w.now class args n answer k → Goes
+  pub start_goes : (class : ℕ) (args : List ℕ) (journal : Option (List (List ℕ))) (answer : Result ℕ StartFault) → n.journal ≡ journal → StartAnswers (environment m n.identity) w.now class args n answer k → Goes
   start_goes class args None answer here s =
       let q : (answer ≡ Err start_fault.NodeDown) × (k ≡ n) = MatchOption-at_none _ _ here s in stays q.1
   start_goes class args (Some bodies) answer here s = start_up bodies here class args answer (MatchOption-at_some _ _ bodies here s)
 
-  pub turn_goes : (pick : Option ℕ) (journal : Option (List (List ℕ))) (answer : Result Turned TurnFault) → n.journal ≡ journal → TurnAnswers (environment m f n.identity) w.now pick n answer k → Goes
+  pub turn_goes : (pick : Option ℕ) (journal : Option (List (List ℕ))) (answer : Result Turned TurnFault) → n.journal ≡ journal → TurnAnswers (environment m n.identity) w.now pick n answer k → Goes
   turn_goes pick None answer here s =
       let q : (answer ≡ Err turn_fault.NodeDown) × (k ≡ n) = MatchOption-at_none _ _ here s in stays q.1
   turn_goes pick (Some bodies) answer here s = turn_up bodies here pick answer (MatchOption-at_some _ _ bodies here s)
@@ -209,7 +209,7 @@ module _ {F : Type 0} (m : Machine F) (f : Reads F) (id : Identity) (w : World) 
       let q : (answer ≡ Err cut_fault.NodeDown) × (k ≡ n) = MatchOption-at_none _ _ here s in stays q.1
   cut_goes calls kind (Some bodies) answer here s = cut_up bodies here calls kind answer (MatchOption-at_some _ _ bodies here s)
 
-  pub take_goes : (i : ℕ) (bytes : List ℕ) → slice_get x.waiting i ≡ Some bytes → (journal : Option (List (List ℕ))) (answer : Result Taken TakeFault) → n.journal ≡ journal → TakeAnswers (environment m f n.identity) w.now bytes n answer k → Goes
+  pub take_goes : (i : ℕ) (bytes : List ℕ) → slice_get x.waiting i ≡ Some bytes → (journal : Option (List (List ℕ))) (answer : Result Taken TakeFault) → n.journal ≡ journal → TakeAnswers (environment m n.identity) w.now bytes n answer k → Goes
   take_goes i bytes waits None answer here s =
       let q : (answer ≡ Err take_fault.NodeDown) × (k ≡ n) = MatchOption-at_none _ _ here s in stays q.1
   take_goes i bytes waits (Some bodies) answer here s = takes_as bodies here i bytes waits answer (MatchOption-at_some _ _ bodies here s)
@@ -225,6 +225,6 @@ module _ {F : Type 0} (m : Machine F) (f : Reads F) (id : Identity) (w : World) 
         sound = λ all. subst (λ (z : DiskState). EachImage z k.disk.state (IsSound n.identity)) same (subst (λ (i : Identity). EachImage mid.disk.state k.disk.state (IsSound i)) r.identity (form.sound tells (subst (λ (i : Identity). (c : List ℕ) → IsImage mid.disk.state.now c → IsSound i c) (sym r.identity) (subst (λ (z : DiskState). (c : List ℕ) → IsImage z.now c → IsSound n.identity c) (sym same) all))));
       }
 
-  pub boot_goes : (mid : NodeSeen) {T : Type 0} (answer : Result T BootFault) → Restored n mid → BootsAs f mid answer k → Goes
+  pub boot_goes : (mid : NodeSeen) {T : Type 0} (answer : Result T BootFault) → Restored n mid → BootsAs m.frame_at mid answer k → Goes
   boot_goes mid (Ok u) r s = booted mid r s.3 s.4.opens.moves s.4.opens.form
   boot_goes mid (Err why) r s = booted mid r s.2 s.3.moves s.3.form

@@ -6,7 +6,7 @@ use Rattle.std.proofs.lemmas.Option.{same_Some, slice_get-map}
 use Rattle.net_base.specs.declared.names.Identity.{Identity}
 use Rattle.net_base.proofs.Lists.{get_beside, set_length}
 use Rattle.flow_machine.specs.Machine.{Machine}
-use Rattle.net_model.specs.Environment.{Environment, environment}
+use Rattle.net_model.specs.Environment.{Environment, environment, Meaning}
 use Rattle.node_tables.specs.Journals.{Reads}
 use Rattle.node_core.specs.Seen.{NodeSeen, StartAnswers, TurnAnswers}
 use Rattle.node_core.specs.Takes.{TakeAnswers}
@@ -41,9 +41,9 @@ set_link e w p old new n k at nodes goes = record {
       subst (λ (z : NodeSeen). DiskGoes e w p z b) first (subst (λ (z : NodeSeen). DiskGoes e w p n z) (sym second) goes);
 }
 
-module _ {F : Type 0} (m : Machine F) (f : Reads F) (id : Identity) (old new : NetSeen) (w : World) (shows : Shows (environment m f id) old w) (coherent : Coherent (environment m f id) w) where
+module _ {F : Type 0} (m : Meaning F) (id : Identity) (old new : NetSeen) (w : World) (shows : Shows (environment m id) old w) (coherent : Coherent (environment m id) w) where
   abbrev e : Environment F
-  e = environment m f id
+  e = environment m id
 
   abbrev Goes : Type 0
   Goes = Link e w old new
@@ -58,25 +58,25 @@ module _ {F : Type 0} (m : Machine F) (f : Reads F) (id : Identity) (old new : N
       let x = get_beside old.nodes w.nodes p n (sym shows.count) at in
       set_link e w p old new n k at nodes (one n k x.0 (shows.each p n x.0 at x.1) x.1 served)
 
-  pub start_link : {E : Type 0} (p class : ℕ) (args : List ℕ) (r : Result Outcome E) → AtPlace p old r new (λ n r k. StartServes m f old.now class args n r k) → Goes
-  start_link p class args r at = place_link p r (λ n r k. StartServes m f old.now class args n r k)
-      (λ n k x shown there s. start_goes m f id w p n k x shown coherent there class args n.journal s.0 refl (subst (λ (t : ℕ). StartAnswers (environment m f n.identity) t class args n s.0 k) (sym shows.clock) s.1)) at
+  pub start_link : {E : Type 0} (p class : ℕ) (args : List ℕ) (r : Result Outcome E) → AtPlace p old r new (λ n r k. StartServes m old.now class args n r k) → Goes
+  start_link p class args r at = place_link p r (λ n r k. StartServes m old.now class args n r k)
+      (λ n k x shown there s. start_goes m id w p n k x shown coherent there class args n.journal s.0 refl (subst (λ (t : ℕ). StartAnswers (environment m n.identity) t class args n s.0 k) (sym shows.clock) s.1)) at
 
-  pub turn_link : {E : Type 0} (p : ℕ) (pick : Option ℕ) (r : Result Outcome E) → AtPlace p old r new (λ n r k. TurnServes m f old.now pick n r k) → Goes
-  turn_link p pick r at = place_link p r (λ n r k. TurnServes m f old.now pick n r k)
-      (λ n k x shown there s. turn_goes m f id w p n k x shown coherent there pick n.journal s.0 refl (subst (λ (t : ℕ). TurnAnswers (environment m f n.identity) t pick n s.0 k) (sym shows.clock) s.1)) at
+  pub turn_link : {E : Type 0} (p : ℕ) (pick : Option ℕ) (r : Result Outcome E) → AtPlace p old r new (λ n r k. TurnServes m old.now pick n r k) → Goes
+  turn_link p pick r at = place_link p r (λ n r k. TurnServes m old.now pick n r k)
+      (λ n k x shown there s. turn_goes m id w p n k x shown coherent there pick n.journal s.0 refl (subst (λ (t : ℕ). TurnAnswers (environment m n.identity) t pick n s.0 k) (sym shows.clock) s.1)) at
 
   pub cut_link : {E : Type 0} (p calls kind : ℕ) (r : Result Outcome E) → AtPlace p old r new (λ n r k. CutServes calls kind n r k) → Goes
-  cut_link p calls kind r at = place_link p r (λ n r k. CutServes calls kind n r k) (λ n k x shown there s. cut_goes m f id w p n k x shown coherent there calls kind n.journal s.0 refl s.1) at
+  cut_link p calls kind r at = place_link p r (λ n r k. CutServes calls kind n r k) (λ n k x shown there s. cut_goes m id w p n k x shown coherent there calls kind n.journal s.0 refl s.1) at
 
-  pub boot_link : {E : Type 0} (p : ℕ) (r : Result Outcome E) → AtPlace p old r new (λ n r k. BootServes f n r k) → Goes
-  boot_link p r at = place_link p r (λ n r k. BootServes f n r k) (λ n k x shown there s. by n k x shown there s) at
+  pub boot_link : {E : Type 0} (p : ℕ) (r : Result Outcome E) → AtPlace p old r new (λ n r k. BootServes m.frame_at n r k) → Goes
+  boot_link p r at = place_link p r (λ n r k. BootServes m.frame_at n r k) (λ n k x shown there s. by n k x shown there s) at
     where
-      by : (n k : NodeSeen) (x : NodeWorld) → NodeShows e p n x → slice_get w.nodes p ≡ Some x → BootServes f n r k → DiskGoes e w p n k
+      by : (n k : NodeSeen) (x : NodeWorld) → NodeShows e p n x → slice_get w.nodes p ≡ Some x → BootServes m.frame_at n r k → DiskGoes e w p n k
       by n k x shown there (inl (up, is, same)) = unchanged e w p n k same
-      by n k x shown there (inr (down, (mid, answer, restored, boots, so))) = boot_goes m f id w p n k x shown coherent there mid answer restored boots
+      by n k x shown there (inr (down, (mid, answer, restored, boots, so))) = boot_goes m id w p n k x shown coherent there mid answer restored boots
 
-  handing_link : (repeated : Bool) (p i : ℕ) (n : NodeSeen) (frames : List (List ℕ)) (o : Option Outcome) → slice_get old.nodes p ≡ Some n → slice_get old.waiting p ≡ Some frames → Handing m f repeated p i n frames old o new → Goes
+  handing_link : (repeated : Bool) (p i : ℕ) (n : NodeSeen) (frames : List (List ℕ)) (o : Option Outcome) → slice_get old.nodes p ≡ Some n → slice_get old.waiting p ≡ Some frames → Handing m repeated p i n frames old o new → Goes
   handing_link repeated p i n frames o at waits (inl (none, is, same)) = same_net same
   handing_link repeated p i n frames o at waits (inr (up, inl (none, is, same))) = same_net same
   handing_link repeated p i n frames o at waits (inr (up, inr h)) =
@@ -85,14 +85,14 @@ module _ {F : Type 0} (m : Machine F) (f : Reads F) (id : Identity) (old new : N
       let wait : x.0.waiting ≡ frames = same_Some _ _ (sym there ∙ ap (λ l. slice_get l p) shows.waiting ∙ waits) in
       let at_i : slice_get x.0.waiting i ≡ Some h.bytes = ap (λ l. slice_get l i) wait ∙ h.there in
       set_link e w p old new n h.node at h.nodes
-      (take_goes m f id w p n h.node x.0 (shows.each p n x.0 at x.1) coherent x.1 i h.bytes at_i n.journal h.answer refl (subst (λ (t : ℕ). TakeAnswers (environment m f n.identity) t h.bytes n h.answer h.node) (sym shows.clock) h.takes))
+      (take_goes m id w p n h.node x.0 (shows.each p n x.0 at x.1) coherent x.1 i h.bytes at_i n.journal h.answer refl (subst (λ (t : ℕ). TakeAnswers (environment m n.identity) t h.bytes n h.answer h.node) (sym shows.clock) h.takes))
 
-  pub hand_link : {E : Type 0} (repeated : Bool) (p i : ℕ) (r : Result Outcome E) → HandServes m f repeated p i old r new → Goes
+  pub hand_link : {E : Type 0} (repeated : Bool) (p i : ℕ) (r : Result Outcome E) → HandServes m repeated p i old r new → Goes
   hand_link repeated p i r (inl (past, is, same)) = same_net same
   hand_link repeated p i r (inr (n, frames, at, waits, handing)) = handing_link repeated p i n frames (said r) at waits handing
 
-  pub post_link : {E : Type 0} (p : ℕ) (r : Result Outcome E) → PostServes f p old r new → Goes
-  post_link p r at = still e w old new (post_keeps m f p old new r at).0
+  pub post_link : {E : Type 0} (p : ℕ) (r : Result Outcome E) → PostServes m.frame_at p old r new → Goes
+  post_link p r at = still e w old new (post_keeps m p old new r at).0
 
   pub clock_link : (to : ℕ) (o : Outcome) → ClockServes to old o new → Goes
   clock_link to o (inl (past, is, same)) = same_net same
@@ -104,7 +104,7 @@ module _ {F : Type 0} (m : Machine F) (f : Reads F) (id : Identity) (old new : N
   lose_link p i r (inr (frames, at, inr (bytes, there, is, same))) = still e w old new (ap (λ (z : NetSeen). z.nodes) same)
 
   -- any step but a drain
-  pub step_link : {E : Type 0} (s : Step) (r : Result Outcome E) → (s ≡ step.Drain → ⊥) → Answered m f s old r new → Goes
+  pub step_link : {E : Type 0} (s : Step) (r : Result Outcome E) → (s ≡ step.Drain → ⊥) → Answered m s old r new → Goes
   step_link (step.Clock to) r other h = clock_link to.0 h.0 h.2
   step_link (step.Start node class args) r other h = start_link node class args r h.0
   step_link (step.Turn node pick) r other h = turn_link node pick r h.0
@@ -117,7 +117,7 @@ module _ {F : Type 0} (m : Machine F) (f : Reads F) (id : Identity) (old new : N
   step_link step.Drain r other h = absurd (other refl)
 
 -- a turn, a post or a delivery of a drain
-pub part_link : {F : Type 0} (m : Machine F) (f : Reads F) (id : Identity) (p : ℕ) (o : Option Outcome) (a b : Pair (environment m f id)) → DoesAt (pair_steps m f id) p a o b → Link (environment m f id) a.world a.net b.net
-part_link m f id p o a b (inl turn) = turn_link m f id a.net b.net a.world a.shows a.coherent p None (answer_of o) turn.0.0
-part_link m f id p o a b (inr (inl post)) = post_link m f id a.net b.net a.world a.shows a.coherent p (answer_of o) post.0
-part_link m f id p o a b (inr (inr hand)) = hand_link m f id a.net b.net a.world a.shows a.coherent false p 0 (answer_of o) hand.0
+pub part_link : {F : Type 0} (m : Meaning F) (id : Identity) (p : ℕ) (o : Option Outcome) (a b : Pair (environment m id)) → DoesAt (pair_steps m id) p a o b → Link (environment m id) a.world a.net b.net
+part_link m id p o a b (inl turn) = turn_link m id a.net b.net a.world a.shows a.coherent p None (answer_of o) turn.0.0
+part_link m id p o a b (inr (inl post)) = post_link m id a.net b.net a.world a.shows a.coherent p (answer_of o) post.0
+part_link m id p o a b (inr (inr hand)) = hand_link m id a.net b.net a.world a.shows a.coherent false p 0 (answer_of o) hand.0

@@ -7,7 +7,7 @@ use Rattle.net_base.specs.declared.causes.Cause.{Cause}
 use Rattle.net_base.proofs.Lists.{get_beside, get_map}
 use Rattle.flow_machine.specs.Machine.{Machine}
 use Rattle.disk_journal.specs.Journal.{IsSound, journal_of}
-use Rattle.net_model.specs.Environment.{Environment, environment}
+use Rattle.net_model.specs.Environment.{Environment, environment, Meaning}
 use Rattle.node_tables.specs.Journals.{Reads, causes_of}
 use Rattle.node_core.specs.Seen.{NodeSeen}
 use Rattle.network_core.specs.Worlds.{World, NetSeen, Shows, Coherent}
@@ -60,24 +60,24 @@ module _ {F : Type 0} (e : Environment F) where
     now = then_kept a b (now_of c) along (kept_between e w b c shows coherent link (now_of c) (now_between e w b c shows coherent link));
   }
 
-module _ {F : Type 0} (m : Machine F) (f : Reads F) (id : Identity) where
+module _ {F : Type 0} (m : Meaning F) (id : Identity) where
   abbrev e : Environment F
-  e = environment m f id
+  e = environment m id
 
-  along : (a b : Pair e) → Way m f id a b → Along e a.net b.net
+  along : (a b : Pair e) → Way m id a b → Along e a.net b.net
   along a b (stay is) = subst (λ (z : Pair e). Along e a.net z.net) (sym is) (begin_along e a.net a.world a.shows a.coherent)
-  along a c (by_part {b = b} p o way does) = then_along e a.net b.net c.net b.world b.shows b.coherent (along a b way) (part_link m f id p o b c does)
-  along a c (by_step {b = b} s o way drain answered serve) = then_along e a.net b.net c.net b.world b.shows b.coherent (along a b way) (step_link m f id b.net c.net b.world b.shows b.coherent s (answer_of o) drain answered)
+  along a c (by_part {b = b} p o way does) = then_along e a.net b.net c.net b.world b.shows b.coherent (along a b way) (part_link m id p o b c does)
+  along a c (by_step {b = b} s o way drain answered serve) = then_along e a.net b.net c.net b.world b.shows b.coherent (along a b way) (step_link m id b.net c.net b.world b.shows b.coherent s (answer_of o) drain answered)
 
-  kept : (a b : Pair e) (way : Way m f id a b) (s : Instant) → IsOn way s → IsKept e a.net s
+  kept : (a b : Pair e) (way : Way m id a b) (s : Instant) → IsOn way s → IsKept e a.net s
   kept a b (stay is) s on = subst (IsKept e a.net) (sym on) (begin_along e a.net a.world a.shows a.coherent).now
   kept a c (by_part {b = b} p o way does) s on =
-      ⊎_elim (λ before. kept a b way s before) (λ between. then_kept e a.net b.net s (along a b way) (kept_between e b.world b.net c.net b.shows b.coherent (part_link m f id p o b c does) s between)) on
+      ⊎_elim (λ before. kept a b way s before) (λ between. then_kept e a.net b.net s (along a b way) (kept_between e b.world b.net c.net b.shows b.coherent (part_link m id p o b c does) s between)) on
   kept a c (by_step {b = b} st o way drain answered serve) s on =
-      ⊎_elim (λ before. kept a b way s before) (λ between. then_kept e a.net b.net s (along a b way) (kept_between e b.world b.net c.net b.shows b.coherent (step_link m f id b.net c.net b.world b.shows b.coherent st (answer_of o) drain answered) s between)) on
+      ⊎_elim (λ before. kept a b way s before) (λ between. then_kept e a.net b.net s (along a b way) (kept_between e b.world b.net c.net b.shows b.coherent (step_link m id b.net c.net b.world b.shows b.coherent st (answer_of o) drain answered) s between)) on
 
 pub kept_on_ways : {F : Type 0} → KeptOnWays F
-kept_on_ways m f id a b way s on = kept m f id a b way s on
+kept_on_ways m id a b way s on = kept m id a b way s on
 
 -- ---- one disk at a time
 
@@ -90,7 +90,7 @@ one_moves e w old new link = record {
 }
 
 pub ways_move_one_by_one : {F : Type 0} → WaysMoveOneByOne F
-ways_move_one_by_one m f id a b (stay is) = tt
-ways_move_one_by_one m f id a c (by_part {b = b} p o way does) = (ways_move_one_by_one m f id a b way, one_moves (environment m f id) b.world b.net c.net (part_link m f id p o b c does))
-ways_move_one_by_one m f id a c (by_step {b = b} s o way drain answered serve) =
-    (ways_move_one_by_one m f id a b way, one_moves (environment m f id) b.world b.net c.net (step_link m f id b.net c.net b.world b.shows b.coherent s (answer_of o) drain answered))
+ways_move_one_by_one m id a b (stay is) = tt
+ways_move_one_by_one m id a c (by_part {b = b} p o way does) = (ways_move_one_by_one m id a b way, one_moves (environment m id) b.world b.net c.net (part_link m id p o b c does))
+ways_move_one_by_one m id a c (by_step {b = b} s o way drain answered serve) =
+    (ways_move_one_by_one m id a b way, one_moves (environment m id) b.world b.net c.net (step_link m id b.net c.net b.world b.shows b.coherent s (answer_of o) drain answered))

@@ -13,7 +13,7 @@ use Rattle.session_wire.specs.Sessions.{Sent}
 use Rattle.session_frames.specs.declared.judged.Judged.{Judged}
 use Rattle.session_frames.specs.declared.judged.Judged.TheVariants as judged
 use Rattle.flow_machine.specs.Machine.{Machine}
-use Rattle.net_model.specs.Environment.{Environment, environment}
+use Rattle.net_model.specs.Environment.{Environment, environment, Meaning}
 use Rattle.node_core.specs.declared.faults.StartFault.{StartFault}
 use Rattle.node_core.specs.declared.faults.StartFault.TheVariants as start_fault
 use Rattle.node_core.specs.declared.faults.TurnFault.{TurnFault}
@@ -53,7 +53,7 @@ names_of ns = map name_of ns
 
 -- ---- one node
 
-module _ {F : Type 0} (m : Machine F) (f : Reads F) (now : ℕ) (n k : NodeSeen) where
+module _ {F : Type 0} (m : Meaning F) (now : ℕ) (n k : NodeSeen) where
   abbrev Same : Type 0
   Same = name_of k ≡ name_of n
 
@@ -61,7 +61,7 @@ module _ {F : Type 0} (m : Machine F) (f : Reads F) (now : ℕ) (n k : NodeSeen)
   same is = ap name_of is
 
   abbrev w : Environment F
-  w = environment m f n.identity
+  w = environment m n.identity
 
   commits : (bodies : List (List ℕ)) (ev : Event) (item : Option Sent) → Commits w now bodies ev item n k → Same
   commits bodies ev item c = c.appended.moves.attached
@@ -149,7 +149,7 @@ restored_same n k r = ap (λ (v : DiskView). v.attached) r.disk
 
 -- ---- a network
 
-module _ {F : Type 0} (m : Machine F) (f : Reads F) (old new : NetSeen) where
+module _ {F : Type 0} (m : Meaning F) (old new : NetSeen) where
   abbrev Names : Type 0
   Names = names_of new.nodes ≡ names_of old.nodes
 
@@ -168,27 +168,27 @@ module _ {F : Type 0} (m : Machine F) (f : Reads F) (old new : NetSeen) where
   place_names p r serves one (inl (past, is, unchanged)) = same_net unchanged
   place_names p r serves one (inr (n, k, at, nodes, waiting, served)) = set_names p n k at nodes (one n k served)
 
-  boot_names : {E : Type 0} (p : ℕ) (r : Result Outcome E) → AtPlace p old r new (λ n r k. BootServes f n r k) → Names
-  boot_names p r at = place_names p r (λ n r k. BootServes f n r k) (λ n k s. by n k s) at
+  boot_names : {E : Type 0} (p : ℕ) (r : Result Outcome E) → AtPlace p old r new (λ n r k. BootServes m.frame_at n r k) → Names
+  boot_names p r at = place_names p r (λ n r k. BootServes m.frame_at n r k) (λ n k s. by n k s) at
     where
-      by : (n k : NodeSeen) → BootServes f n r k → name_of k ≡ name_of n
+      by : (n k : NodeSeen) → BootServes m.frame_at n r k → name_of k ≡ name_of n
       by n k (inl (up, is, unchanged)) = ap name_of unchanged
-      by n k (inr (down, (mid, answer, restored, boots, so))) = boot_same f mid k answer boots ∙ restored_same n mid restored
+      by n k (inr (down, (mid, answer, restored, boots, so))) = boot_same m.frame_at mid k answer boots ∙ restored_same n mid restored
 
-  turn_names : {E : Type 0} (p : ℕ) (pick : Option ℕ) (r : Result Outcome E) → AtPlace p old r new (λ n r k. TurnServes m f old.now pick n r k) → Names
-  turn_names p pick r at = place_names p r (λ n r k. TurnServes m f old.now pick n r k) (λ n k s. turn_same m f old.now n k pick n.journal s.0 refl s.1) at
+  turn_names : {E : Type 0} (p : ℕ) (pick : Option ℕ) (r : Result Outcome E) → AtPlace p old r new (λ n r k. TurnServes m old.now pick n r k) → Names
+  turn_names p pick r at = place_names p r (λ n r k. TurnServes m old.now pick n r k) (λ n k s. turn_same m old.now n k pick n.journal s.0 refl s.1) at
 
-  handing_names : (repeated : Bool) (p i : ℕ) (n : NodeSeen) (frames : List (List ℕ)) (o : Option Outcome) → slice_get old.nodes p ≡ Some n → Handing m f repeated p i n frames old o new → Names
+  handing_names : (repeated : Bool) (p i : ℕ) (n : NodeSeen) (frames : List (List ℕ)) (o : Option Outcome) → slice_get old.nodes p ≡ Some n → Handing m repeated p i n frames old o new → Names
   handing_names repeated p i n frames o at (inl (none, is, unchanged)) = same_net unchanged
   handing_names repeated p i n frames o at (inr (up, inl (none, is, unchanged))) = same_net unchanged
-  handing_names repeated p i n frames o at (inr (up, inr h)) = set_names p n h.node at h.nodes (take_same m f old.now n h.node h.bytes n.journal h.answer refl h.takes)
+  handing_names repeated p i n frames o at (inr (up, inr h)) = set_names p n h.node at h.nodes (take_same m old.now n h.node h.bytes n.journal h.answer refl h.takes)
 
-  hand_names : {E : Type 0} (repeated : Bool) (p i : ℕ) (r : Result Outcome E) → HandServes m f repeated p i old r new → Names
+  hand_names : {E : Type 0} (repeated : Bool) (p i : ℕ) (r : Result Outcome E) → HandServes m repeated p i old r new → Names
   hand_names repeated p i r (inl (past, is, unchanged)) = same_net unchanged
   hand_names repeated p i r (inr (n, frames, at, waits, handing)) = handing_names repeated p i n frames (said r) at handing
 
-  post_names : {E : Type 0} (p : ℕ) (r : Result Outcome E) → PostServes f p old r new → Names
-  post_names p r at = same_nodes (post_keeps m f p old new r at).0
+  post_names : {E : Type 0} (p : ℕ) (r : Result Outcome E) → PostServes m.frame_at p old r new → Names
+  post_names p r at = same_nodes (post_keeps m p old new r at).0
 
   clock_names : (to : ℕ) (o : Outcome) → ClockServes to old o new → Names
   clock_names to o (inl (past, is, unchanged)) = same_net unchanged
@@ -199,36 +199,36 @@ module _ {F : Type 0} (m : Machine F) (f : Reads F) (old new : NetSeen) where
   lose_names p i r (inr (frames, at, inl (none, is, unchanged))) = same_net unchanged
   lose_names p i r (inr (frames, at, inr (bytes, there, is, lost))) = same_nodes (ap (λ (z : NetSeen). z.nodes) lost)
 
-  does_names : (p : ℕ) (o : Option Outcome) → DoesAt (net_steps m f) p old o new → Names
+  does_names : (p : ℕ) (o : Option Outcome) → DoesAt (net_steps m) p old o new → Names
   does_names p o (inl turn) = turn_names p None (answer_of o) turn.0
   does_names p o (inr (inl post)) = post_names p (answer_of o) post
   does_names p o (inr (inr hand)) = hand_names false p 0 (answer_of o) hand
 
 -- a drain's turns, posts and deliveries, and how the deliveries at a place end
-module _ {F : Type 0} (m : Machine F) (f : Reads F) where
+module _ {F : Type 0} (m : Meaning F) where
   abbrev Keeps : NetSeen → NetSeen → Type 0
   Keeps a b = names_of b.nodes ≡ names_of a.nodes
 
-  ends_names : (a old mid new : NetSeen) (p d : ℕ) → Keeps a mid → NetEnds m f p d old mid new → Keeps a new
-  ends_names a old mid new p d before (inl (o, hand, over)) = hand_names m f mid new false p 0 (answer_of (Some o)) hand ∙ before
-  ends_names a old mid new p d before (inr (waiting, is)) = same_net m f mid new is ∙ before
+  ends_names : (a old mid new : NetSeen) (p d : ℕ) → Keeps a mid → NetEnds m p d old mid new → Keeps a new
+  ends_names a old mid new p d before (inl (o, hand, over)) = hand_names m mid new false p 0 (answer_of (Some o)) hand ∙ before
+  ends_names a old mid new p d before (inr (waiting, is)) = same_net m mid new is ∙ before
 
   -- no step of a network changes what a disk is attached as
-  pub step_names : {E : Type 0} (s : Step) (old new : NetSeen) (r : Result Outcome E) → Answered m f s old r new → Keeps old new
-  step_names (step.Clock to) old new r h = clock_names m f old new to.0 h.0 h.2
+  pub step_names : {E : Type 0} (s : Step) (old new : NetSeen) (r : Result Outcome E) → Answered m s old r new → Keeps old new
+  step_names (step.Clock to) old new r h = clock_names m old new to.0 h.0 h.2
   step_names (step.Start node class args) old new r h =
-      place_names m f old new node r (λ n r k. StartServes m f old.now class args n r k) (λ n k s. start_same m f old.now n k class args n.journal s.0 refl s.1) h.0
-  step_names (step.Turn node pick) old new r h = turn_names m f old new node pick r h.0
-  step_names (step.Post node) old new r h = post_names m f old new node r h
-  step_names (step.Deliver node at) old new r h = hand_names m f old new false node at r h
-  step_names (step.Repeat node at) old new r h = hand_names m f old new true node at r h
-  step_names (step.Lose node at) old new r h = lose_names m f old new node at r h
-  step_names (step.Cut node calls kind) old new r (inl odd) = same_net m f old new odd.2
+      place_names m old new node r (λ n r k. StartServes m old.now class args n r k) (λ n k s. start_same m old.now n k class args n.journal s.0 refl s.1) h.0
+  step_names (step.Turn node pick) old new r h = turn_names m old new node pick r h.0
+  step_names (step.Post node) old new r h = post_names m old new node r h
+  step_names (step.Deliver node at) old new r h = hand_names m old new false node at r h
+  step_names (step.Repeat node at) old new r h = hand_names m old new true node at r h
+  step_names (step.Lose node at) old new r h = lose_names m old new node at r h
+  step_names (step.Cut node calls kind) old new r (inl odd) = same_net m old new odd.2
   step_names (step.Cut node calls kind) old new r (inr known) =
-      place_names m f old new node r (λ n r k. CutServes calls kind n r k) (λ n k s. cut_same m f old.now n k calls kind n.journal s.0 refl s.1) known.1
-  step_names (step.Boot node) old new r h = boot_names m f old new node r h.0
+      place_names m old new node r (λ n r k. CutServes calls kind n r k) (λ n k s. cut_same m old.now n k calls kind n.journal s.0 refl s.1) known.1
+  step_names (step.Boot node) old new r h = boot_names m old new node r h.0
   step_names step.Drain old new r h =
-      drains_go (net_steps m f) Keeps (λ w v is. same_net m f w v is) (λ w u v p o before does. does_names m f u v p o does ∙ before) ends_names old (said r) new h.0
+      drains_go (net_steps m) Keeps (λ w v is. same_net m w v is) (λ w u v p o before does. does_names m u v p o does ∙ before) ends_names old (said r) new h.0
 
 -- ---- the beginning of a network
 
@@ -251,12 +251,12 @@ module _ {F : Type 0} (f : Reads F) (nodes : ℕ) (notary : Party) (ds : List Di
       let booted = r.done p (node_over nodes notary p d.0) k.0 (omega (arith, within, count)) (first_at nodes notary ds p d.0 d.1) k.1 in
       sym k.2 ∙ boot_same f (node_over nodes notary p d.0) k.0 came_up booted ∙ d.2)
 
-module _ {F : Type 0} (m : Machine F) (f : Reads F) (nodes : ℕ) (notary : Party) (ds : List DiskView) (node : ℕ) (why : BootFault) (bs : List DiskView) (r : IsRefused m f nodes notary ds node why bs) where
+module _ {F : Type 0} (m : Meaning F) (nodes : ℕ) (notary : Party) (ds : List DiskView) (node : ℕ) (why : BootFault) (bs : List DiskView) (r : IsRefused m nodes notary ds node why bs) where
   refused_name : (p : ℕ) (d b : DiskView) → slice_get ds p ≡ Some d → slice_get bs p ≡ Some b → b.attached ≡ d.attached
   refused_name p d b at there = ⊎_elim
       (λ (before : p < node).
       let up = r.earlier p d b before at there in
-      ap (λ (v : DiskView). v.attached) up.2 ∙ boot_same f (node_over nodes notary p d) up.0 came_up up.1)
+      ap (λ (v : DiskView). v.attached) up.2 ∙ boot_same m.frame_at (node_over nodes notary p d) up.0 came_up up.1)
       (λ (behind : node ≤ p).
       ⊎_elim (λ (above : node < p). ap (λ (v : DiskView). v.attached) (r.later p d b above at there))
       (λ (below : p ≤ node).
@@ -266,11 +266,11 @@ module _ {F : Type 0} (m : Machine F) (f : Reads F) (nodes : ℕ) (notary : Part
       (cases_lt p node)
     where
       own : slice_get ds node ≡ Some d → slice_get bs node ≡ Some b
-          → ((why ≡ boot_fault.Memory) × (node ≡ 0) × (bs ≡ ds)) ⊎ ((x : DiskView) × (y : DiskView) × (slice_get ds node ≡ Some x) × (slice_get bs node ≡ Some y) × BootsAs f (node_over nodes notary node x) (no_boot why) (node_over nodes notary node y))
+          → ((why ≡ boot_fault.Memory) × (node ≡ 0) × (bs ≡ ds)) ⊎ ((x : DiskView) × (y : DiskView) × (slice_get ds node ≡ Some x) × (slice_get bs node ≡ Some y) × BootsAs m.frame_at (node_over nodes notary node x) (no_boot why) (node_over nodes notary node y))
           → b.attached ≡ d.attached
       own old new (inl (short, first, same)) = ap (λ (v : DiskView). v.attached) (same_Some _ _ (sym new ∙ ap (λ (l : List DiskView). slice_get l node) same ∙ old))
       own old new (inr (x, y, was, is, boots)) =
-          ap (λ (v : DiskView). v.attached) (same_Some _ _ (sym new ∙ is)) ∙ boot_same f (node_over nodes notary node x) (node_over nodes notary node y) (no_boot why) boots ∙ ap (λ (v : DiskView). v.attached) (same_Some _ _ (sym was ∙ old))
+          ap (λ (v : DiskView). v.attached) (same_Some _ _ (sym new ∙ is)) ∙ boot_same m.frame_at (node_over nodes notary node x) (node_over nodes notary node y) (no_boot why) boots ∙ ap (λ (v : DiskView). v.attached) (same_Some _ _ (sym was ∙ old))
 
   -- nor does a boot that is refused
   pub refused_names : attached_as bs ≡ attached_as ds

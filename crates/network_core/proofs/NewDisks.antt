@@ -9,7 +9,7 @@ use Rattle.net_base.specs.declared.values.Party.{Party}
 use Rattle.net_base.proofs.Lists.{all_get, get_beside, map_twice, of_map}
 use Rattle.flow_machine.specs.Machine.{Machine}
 use Rattle.disk_journal.specs.Journal.{found, journal_of}
-use Rattle.net_model.specs.Environment.{Environment, environment}
+use Rattle.net_model.specs.Environment.{Environment, environment, Meaning}
 use Rattle.net_model.specs.State.{Record, fresh, replay}
 use Rattle.net_model.specs.Runs.{IsMatchedFrom}
 use Rattle.node_tables.specs.Journals.{Reads, records_of, state_of}
@@ -38,9 +38,9 @@ spells_none d l (inr other) = cc
 waits_none : (ds : List DiskView) (nodes : ℕ) → map (λ (x : NodeWorld). x.waiting) (map unused ds) ≡ map (λ d. []) ds
 waits_none ds nodes = map_twice (λ (x : NodeWorld). x.waiting) unused (λ d. []) ds (λ d. refl)
 
-module _ {F : Type 0} (m : Machine F) (f : Reads F) (nodes : ℕ) (notary : Party) (now : ℕ) (disks : List DiskView) (many : length disks ≡ nodes) (new : AllByRecursion IsNew disks) where
+module _ {F : Type 0} (m : Meaning F) (nodes : ℕ) (notary : Party) (now : ℕ) (disks : List DiskView) (many : length disks ≡ nodes) (new : AllByRecursion IsNew disks) where
   abbrev e : Environment F
-  e = environment m f (member nodes notary 0)
+  e = environment m (member nodes notary 0)
 
   abbrev w : World
   w = record { nodes = map unused disks; now = now }
@@ -79,16 +79,16 @@ module _ {F : Type 0} (m : Machine F) (f : Reads F) (nodes : ℕ) (notary : Part
   silent_at p x j = let there = of_map unused disks p x j in ap (λ (z : NodeWorld). z.waiting) (sym there.2)
 
   none_sound : (p : ℕ) → Sound e p now []
-  none_sound p = record { local = tt; whole = refl; by = let zero_is = no_moment f in omega (arith, zero_is) }
+  none_sound p = record { local = tt; whole = refl; by = let zero_is = no_moment m.frame_at in omega (arith, zero_is) }
 
   agrees : (lists : List (List (List ℕ))) → Choice w lists → Agrees e w lists
   agrees lists choice = record {
     matched = λ p records at.
-        let spelt = of_map (records_of f) lists p records at in
+        let spelt = of_map (records_of m.frame_at) lists p records at in
         let there = get_beside lists (map unused disks) p spelt.0 choice.count spelt.1 in
         let empty : spelt.0 ≡ [] = spelt_at p there.0 spelt.0 there.1 (choice.each p there.0 spelt.0 there.1 spelt.1) in
-        let none : records ≡ [] = sym spelt.2 ∙ ap (records_of f) empty in
-        subst (λ (rs : List (Record F)). IsMatchedFrom (map replay (map (records_of f) lists)) p fresh rs) (sym none) tt;
+        let none : records ≡ [] = sym spelt.2 ∙ ap (records_of m.frame_at) empty in
+        subst (λ (rs : List (Record F)). IsMatchedFrom (map replay (map (records_of m.frame_at) lists)) p fresh rs) (sym none) tt;
     waits = λ p x at. subst (λ (frames : List (List ℕ)). AllByRecursion (WaitsAt (states_of e lists) p) frames) (sym (silent_at p x at)) tt;
     arrived = λ p x at up. absurd (true≢false (sym up ∙ down_at p x at));
   }
@@ -103,19 +103,19 @@ module _ {F : Type 0} (m : Machine F) (f : Reads F) (nodes : ℕ) (notary : Part
   }
 
 pub new_disks_are_coherent : {F : Type 0} → NewDisksAreCoherent F
-new_disks_are_coherent m f nodes notary now disks many new = (
-  w m f nodes notary now disks many new,
+new_disks_are_coherent m nodes notary now disks many new = (
+  w m nodes notary now disks many new,
   record {
     count = length-map disks unused ∙ sym (over_length nodes notary 0 disks);
-    each = shown_at m f nodes notary now disks many new;
+    each = shown_at m nodes notary now disks many new;
     waiting = waits_none disks nodes;
     clock = refl;
   },
   record {
     count = length-map disks unused ∙ many;
-    each = node_coherent m f nodes notary now disks many new;
-    numbers = λ p x at up. absurd (true≢false (sym up ∙ down_at m f nodes notary now disks many new p x at));
-    agrees = agrees m f nodes notary now disks many new;
+    each = node_coherent m nodes notary now disks many new;
+    numbers = λ p x at up. absurd (true≢false (sym up ∙ down_at m nodes notary now disks many new p x at));
+    agrees = agrees m nodes notary now disks many new;
   },
-  openable_at m f nodes notary now disks many new,
+  openable_at m nodes notary now disks many new,
 )

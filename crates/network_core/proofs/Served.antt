@@ -17,7 +17,7 @@ use Rattle.session_frames.specs.Judging.{IsJudged}
 use Rattle.flow_machine.specs.Machine.{Machine}
 use Rattle.flow_machine.specs.declared.flow_set.MakeFault.TheVariants as make
 use Rattle.disk_journal.specs.Journal.{journal_of}
-use Rattle.net_model.specs.Environment.{Environment, environment, identity, party}
+use Rattle.net_model.specs.Environment.{Environment, environment, identity, party, Meaning}
 use Rattle.net_model.specs.Steps.{place}
 use Rattle.node_core.specs.declared.faults.StartFault.{StartFault}
 use Rattle.node_core.specs.declared.faults.StartFault.TheVariants as start_fault
@@ -43,24 +43,24 @@ use Rattle.network_core.specs.Answers.{start_outcome, turn_outcome, cut_outcome,
 use Rattle.network_core.specs.Serves.{WorldStarts, WorldTurns, WorldCuts, WorldCommits, WorldFaults, WorldTakes, Hears, HearsNext, RefusesStart, RefusesTurn}
 use Rattle.network_core.proofs.Stands.{Goes, commits_world, faults_world, shows_down, shows_same, images_now, young_now}
 
-module _ {F : Type 0} (m : Machine F) (f : Reads F) (id : Identity) (p now : ℕ) (n k : NodeSeen) (x : NodeWorld) (shows : NodeShows (environment m f id) p n x) where
+module _ {F : Type 0} (m : Meaning F) (id : Identity) (p now : ℕ) (n k : NodeSeen) (x : NodeWorld) (shows : NodeShows (environment m id) p n x) where
   abbrev e : Environment F
-  e = environment m f id
+  e = environment m id
 
   stays : (goal : NodeWorld → Type 0) → k ≡ n → goal x → Goes e p x k goal
   stays goal same holds = (x, subst (λ (z : NodeSeen). NodeShows e p z x) (sym same) shows, refl, holds)
 
   -- what is true of the node's own environment is true of the network's
-  at_home : (P : Environment F → ℕ → Type 0) → P (environment m f n.identity) n.identity.party.0 → P e p
-  at_home P h = subst (λ (i : Identity). P (environment m f i) i.party.0) shows.identity_is h
+  at_home : (P : Environment F → ℕ → Type 0) → P (environment m n.identity) n.identity.party.0 → P e p
+  at_home P h = subst (λ (i : Identity). P (environment m i) i.party.0) shows.identity_is h
 
   was_down : n.journal ≡ None → x.up ≡ false
   was_down here = rw here at shows.journal
 
-  start_up : (class : ℕ) (args : List ℕ) (bodies : List (List ℕ)) → n.journal ≡ Some bodies → (x.up ≡ true) × (x.journal ≡ bodies) × (x.other ≡ None) → (answer : Result ℕ StartFault) → StartsAs (environment m f n.identity) now class args bodies n answer k
+  start_up : (class : ℕ) (args : List ℕ) (bodies : List (List ℕ)) → n.journal ≡ Some bodies → (x.up ≡ true) × (x.journal ≡ bodies) × (x.other ≡ None) → (answer : Result ℕ StartFault) → StartsAs (environment m n.identity) now class args bodies n answer k
       → Goes e p x k (λ y. WorldStarts e p now class args x (start_outcome answer) y)
   start_up class args bodies here stands (Ok g) s =
-      let to = commits_world m f id p now n k x shows bodies here _ _ s.1 in
+      let to = commits_world m id p now n k x shows bodies here _ _ s.1 in
       (to.0, to.1, to.2, (rw stands.1 s.0, to.3))
   start_up class args bodies here stands (Err start_fault.NodeDown) s = absurd s
   start_up class args bodies here stands (Err start_fault.UnknownClass) s =
@@ -71,29 +71,29 @@ module _ {F : Type 0} (m : Machine F) (f : Reads F) (id : Identity) (p now : ℕ
       stays (λ y. RefusesStart e p now class args x 9 × (y ≡ x)) s.2 (inr (stands.0, inr (inr (refl, rw stands.1 (at_home (λ a q. IsOk (a.machine.made class args (place a q (flow_count a bodies) 0 now))) s.0), rw stands.1 s.1))), refl)
   start_up class args bodies here stands (Err start_fault.Memory) s = stays (λ y. (x.up ≡ true) × (y ≡ x)) s (stands.0, refl)
   start_up class args bodies here stands (Err start_fault.Fault) s =
-      let to = faults_world m f id p now n k x shows bodies here _ _ s in
+      let to = faults_world m id p now n k x shows bodies here _ _ s in
       (to.0, to.1, to.2, subst (λ (b : List (List ℕ)). WorldFaults e p now (event.Start (flow_count e b) class args) None x to.0) (sym stands.1) to.3)
 
-  pub start_any : (class : ℕ) (args : List ℕ) (journal : Option (List (List ℕ))) (answer : Result ℕ StartFault) → n.journal ≡ journal → StartAnswers (environment m f n.identity) now class args n answer k → Goes e p x k (λ y. WorldStarts e p now class args x (start_outcome answer) y)
+  pub start_any : (class : ℕ) (args : List ℕ) (journal : Option (List (List ℕ))) (answer : Result ℕ StartFault) → n.journal ≡ journal → StartAnswers (environment m n.identity) now class args n answer k → Goes e p x k (λ y. WorldStarts e p now class args x (start_outcome answer) y)
   start_any class args None answer here s =
       let q : (answer ≡ Err start_fault.NodeDown) × (k ≡ n) = MatchOption-at_none _ _ here s in
       rw q.0 (stays (λ y. RefusesStart e p now class args x 3 × (y ≡ x)) q.1 (inl (refl, was_down here), refl))
   start_any class args (Some bodies) answer here s = start_up class args bodies here (rw here at shows.journal) answer (MatchOption-at_some _ _ bodies here s)
 
-  turn_up : (pick : Option ℕ) (bodies : List (List ℕ)) → n.journal ≡ Some bodies → (x.up ≡ true) × (x.journal ≡ bodies) × (x.other ≡ None) → (answer : Result Turned TurnFault) → TurnsAs (environment m f n.identity) now pick bodies n answer k → Goes e p x k (λ y. WorldTurns e p now pick x (turn_outcome answer) y)
+  turn_up : (pick : Option ℕ) (bodies : List (List ℕ)) → n.journal ≡ Some bodies → (x.up ≡ true) × (x.journal ≡ bodies) × (x.other ≡ None) → (answer : Result Turned TurnFault) → TurnsAs (environment m n.identity) now pick bodies n answer k → Goes e p x k (λ y. WorldTurns e p now pick x (turn_outcome answer) y)
   turn_up pick bodies here stands (Ok turned.Idle) s = stays (λ y. (x.up ≡ true) × (picked_at e now pick x.journal ≡ None) × (y ≡ x)) s.1 (stands.0, rw stands.1 s.0, refl)
   turn_up pick bodies here stands (Ok (turned.Moved g)) s =
-      let to = commits_world m f id p now n k x shows bodies here _ _ s.3 in
+      let to = commits_world m id p now n k x shows bodies here _ _ s.3 in
       (to.0, to.1, to.2, (s.0, rw stands.1 s.1, s.2, to.3))
   turn_up pick bodies here stands (Err turn_fault.NodeDown) s = absurd s
   turn_up pick bodies here stands (Err turn_fault.Full) s = stays (λ y. RefusesTurn e now pick x 9 × (y ≡ x)) s.3 (inr (refl, stands.0, rw stands.1 s.2, s.0, rw stands.1 s.1), refl)
   turn_up pick bodies here stands (Err turn_fault.Memory) s =
       stays (λ y. (x.up ≡ true) × (is_full e.frame_at 0 x.journal ≡ false) × ((event : Event) × (picked_at e now pick x.journal ≡ Some event)) × (y ≡ x)) s.3 (stands.0, rw stands.1 s.2, (s.0, rw stands.1 s.1), refl)
   turn_up pick bodies here stands (Err turn_fault.Fault) s =
-      let to = faults_world m f id p now n k x shows bodies here _ _ s.2 in
+      let to = faults_world m id p now n k x shows bodies here _ _ s.2 in
       (to.0, to.1, to.2, (s.0, rw stands.1 s.1, to.3))
 
-  pub turn_any : (pick : Option ℕ) (journal : Option (List (List ℕ))) (answer : Result Turned TurnFault) → n.journal ≡ journal → TurnAnswers (environment m f n.identity) now pick n answer k → Goes e p x k (λ y. WorldTurns e p now pick x (turn_outcome answer) y)
+  pub turn_any : (pick : Option ℕ) (journal : Option (List (List ℕ))) (answer : Result Turned TurnFault) → n.journal ≡ journal → TurnAnswers (environment m n.identity) now pick n answer k → Goes e p x k (λ y. WorldTurns e p now pick x (turn_outcome answer) y)
   turn_any pick None answer here s =
       let q : (answer ≡ Err turn_fault.NodeDown) × (k ≡ n) = MatchOption-at_none _ _ here s in
       rw q.0 (stays (λ y. RefusesTurn e now pick x 3 × (y ≡ x)) q.1 (inl (refl, was_down here), refl))
@@ -161,12 +161,12 @@ module _ {F : Type 0} (m : Machine F) (f : Reads F) (id : Identity) (p now : ℕ
     Heard said answer y = (o : Outcome) × (take_outcome answer ≡ Some o) × Hears e p now said x o y (take_sent answer)
 
     -- an item that comes next
-    accepts : (from : Party) (key : Key) (direction number : ℕ) (item : Sent) (answer : Result Taken TakeFault) → IsCounted answer → AcceptsAs (environment m f n.identity) now bodies from key direction number item n answer k
+    accepts : (from : Party) (key : Key) (direction number : ℕ) (item : Sent) (answer : Result Taken TakeFault) → IsCounted answer → AcceptsAs (environment m n.identity) now bodies from key direction number item n answer k
         → Goes e p x k (λ y. (o : Outcome) × (take_outcome answer ≡ Some o) × HearsNext e p now from key direction number item x o y (take_sent answer))
     accepts from key direction number item (Ok (taken.Took upto ack)) counted s =
-        let to = commits_world m f id p now n k x shows bodies here _ _ s.2 in
+        let to = commits_world m id p now n k x shows bodies here _ _ s.2 in
         let sent : ack ∷ [] ≡ ack_to (party p) from key direction (number + 1) ∷ [] = ap (λ a. a ∷ []) (s.1 ∙ ap (λ (i : Identity). ack_to i.party from key direction (number + 1)) shows.identity_is) in
-        (to.0, to.1, to.2, (outcome.Took upto, refl, (s.0, subst (λ (b : List (List ℕ)). WorldCommits e p now (accepting (state_of f b).sessions key direction number) (Some item) x to.0) (sym stands.1) to.3, sent, counted)))
+        (to.0, to.1, to.2, (outcome.Took upto, refl, (s.0, subst (λ (b : List (List ℕ)). WorldCommits e p now (accepting (state_of m.frame_at b).sessions key direction number) (Some item) x to.0) (sym stands.1) to.3, sent, counted)))
     accepts from key direction number item (Ok taken.Acked) counted s = absurd s
     accepts from key direction number item (Ok (taken.Again expected ack)) counted s = absurd s
     accepts from key direction number item (Ok (taken.Early expected)) counted s = absurd s
@@ -178,18 +178,18 @@ module _ {F : Type 0} (m : Machine F) (f : Reads F) (id : Identity) (p now : ℕ
         stays (λ y. (o : Outcome) × (Some (outcome.Refused 9) ≡ Some o) × HearsNext e p now from key direction number item x o y []) s.1 (outcome.Refused 9, refl, (refl, rw stands.1 s.0, refl, refl))
     accepts from key direction number item (Err take_fault.Memory) counted s = absurd s
     accepts from key direction number item (Err take_fault.Fault) counted s =
-        let to = faults_world m f id p now n k x shows bodies here _ _ s in
-        (to.0, to.1, to.2, (outcome.Fault, refl, (subst (λ (b : List (List ℕ)). WorldFaults e p now (accepting (state_of f b).sessions key direction number) (Some item) x to.0) (sym stands.1) to.3, refl)))
+        let to = faults_world m id p now n k x shows bodies here _ _ s in
+        (to.0, to.1, to.2, (outcome.Fault, refl, (subst (λ (b : List (List ℕ)). WorldFaults e p now (accepting (state_of m.frame_at b).sessions key direction number) (Some item) x to.0) (sym stands.1) to.3, refl)))
 
     -- an acknowledgement
-    notes : (key : Key) (direction upto : ℕ) → k ≡ record n { acked = raised n.identity.party key direction upto (state_of f bodies).sessions n.acked }
+    notes : (key : Key) (direction upto : ℕ) → k ≡ record n { acked = raised n.identity.party key direction upto (state_of m.frame_at bodies).sessions n.acked }
         → Goes e p x k (λ y. y ≡ record x { acked = raised (party p) key direction upto (state_of e.frame_at x.journal).sessions x.acked })
     notes key direction upto same =
-        let z : NodeSeen = record n { acked = raised n.identity.party key direction upto (state_of f bodies).sessions n.acked } in
+        let z : NodeSeen = record n { acked = raised n.identity.party key direction upto (state_of m.frame_at bodies).sessions n.acked } in
         let y : NodeWorld = record x { acked = raised (party p) key direction upto (state_of e.frame_at x.journal).sessions x.acked } in
-        let one : y.acked ≡ raised (party p) key direction upto (state_of f bodies).sessions x.acked = ap (λ b. raised (party p) key direction upto (state_of f b).sessions x.acked) stands.1 in
-        let two : raised (party p) key direction upto (state_of f bodies).sessions x.acked ≡ raised (party p) key direction upto (state_of f bodies).sessions n.acked = ap (λ a. raised (party p) key direction upto (state_of f bodies).sessions a) shows.acked_is in
-        let three : raised (party p) key direction upto (state_of f bodies).sessions n.acked ≡ z.acked = ap (λ (i : Identity). raised i.party key direction upto (state_of f bodies).sessions n.acked) (sym shows.identity_is) in
+        let one : y.acked ≡ raised (party p) key direction upto (state_of m.frame_at bodies).sessions x.acked = ap (λ b. raised (party p) key direction upto (state_of m.frame_at b).sessions x.acked) stands.1 in
+        let two : raised (party p) key direction upto (state_of m.frame_at bodies).sessions x.acked ≡ raised (party p) key direction upto (state_of m.frame_at bodies).sessions n.acked = ap (λ a. raised (party p) key direction upto (state_of m.frame_at bodies).sessions a) shows.acked_is in
+        let three : raised (party p) key direction upto (state_of m.frame_at bodies).sessions n.acked ≡ z.acked = ap (λ (i : Identity). raised i.party key direction upto (state_of m.frame_at bodies).sessions n.acked) (sym shows.identity_is) in
         let shown : NodeShows e p z y = record {
           identity_is = shows.identity_is;
           tells = shows.tells;
@@ -208,7 +208,7 @@ module _ {F : Type 0} (m : Machine F) (f : Reads F) (id : Identity) (p now : ℕ
     still : (said : Judged) (answer : Result Taken TakeFault) (a : Taken) (o : Outcome) → take_outcome (Ok a) ≡ Some o → answer ≡ Ok a → k ≡ n → Hears e p now said x o x (take_sent (Ok a)) → Goes e p x k (λ y. Heard said answer y)
     still said answer a o computes is same hears = stays (λ y. Heard said answer y) same (o, ap take_outcome is ∙ computes, subst (λ (l : Result Taken TakeFault). Hears e p now said x o x (take_sent l)) (sym is) hears)
 
-    responds : (said : Judged) (answer : Result Taken TakeFault) → IsCounted answer → (said ≡ judged.Garbled → ⊥) × ((to : Party) → said ≡ judged.NotMine to → ⊥) → Responds (environment m f n.identity) now bodies said n answer k → Goes e p x k (λ y. Heard said answer y)
+    responds : (said : Judged) (answer : Result Taken TakeFault) → IsCounted answer → (said ≡ judged.Garbled → ⊥) × ((to : Party) → said ≡ judged.NotMine to → ⊥) → Responds (environment m n.identity) now bodies said n answer k → Goes e p x k (λ y. Heard said answer y)
     responds judged.Garbled answer counted never s = absurd (never.0 refl)
     responds (judged.NotMine to) answer counted never s = absurd (never.1 to refl)
     responds judged.NoSession answer counted never s = still judged.NoSession answer taken.NoSession outcome.NoSession refl s.0 s.1 (refl, refl, refl)
@@ -225,10 +225,10 @@ module _ {F : Type 0} (m : Machine F) (f : Reads F) (id : Identity) (p now : ℕ
     takes_of said r o y is judged further sent hears = rw is (said, judged, further, hears)
 
     pub takes : (answer : Result Taken TakeFault) → IsCounted answer → ((said : Judged) → IsJudged (identity e p) (state_of e.frame_at x.journal).sessions bytes said → (said ≡ judged.Garbled → ⊥) × ((to : Party) → said ≡ judged.NotMine to → ⊥))
-        → TakesAs (environment m f n.identity) now bytes bodies n answer k → Goes e p x k (λ y. WorldTakes e p now bytes x (take_outcome answer) y (take_sent answer))
+        → TakesAs (environment m n.identity) now bytes bodies n answer k → Goes e p x k (λ y. WorldTakes e p now bytes x (take_outcome answer) y (take_sent answer))
     takes answer counted never (inl (is, same)) = rw is (stays (λ y. (y ≡ x) × (take_sent (Err take_fault.Memory) ≡ [])) same (refl, refl))
     takes answer counted never (inr (said, judges, further, s)) =
-        let here : IsJudged (identity e p) (state_of e.frame_at x.journal).sessions bytes said = rw stands.1 (subst (λ (i : Identity). IsJudged i (state_of f bodies).sessions bytes said) shows.identity_is judges) in
-        let on : GoesFurther (identity e p) (state_of e.frame_at x.journal).sessions said = rw stands.1 (subst (λ (i : Identity). GoesFurther i (state_of f bodies).sessions said) shows.identity_is further) in
+        let here : IsJudged (identity e p) (state_of e.frame_at x.journal).sessions bytes said = rw stands.1 (subst (λ (i : Identity). IsJudged i (state_of m.frame_at bodies).sessions bytes said) shows.identity_is judges) in
+        let on : GoesFurther (identity e p) (state_of e.frame_at x.journal).sessions said = rw stands.1 (subst (λ (i : Identity). GoesFurther i (state_of m.frame_at bodies).sessions said) shows.identity_is further) in
         let to = responds said answer counted (never said here) s in
         (to.0, to.1, to.2, takes_of said (take_outcome answer) to.3.0 to.0 to.3.1 here on (take_sent answer) to.3.2)

@@ -10,7 +10,7 @@ use Rattle.net_base.specs.declared.causes.Event.{Event}
 use Rattle.session_wire.specs.Sessions.{Sent}
 use Rattle.flow_machine.specs.Machine.{Machine}
 use Rattle.disk_journal.specs.Journal.{IsYoung, journal_of}
-use Rattle.net_model.specs.Environment.{Environment, environment}
+use Rattle.net_model.specs.Environment.{Environment, environment, Meaning}
 use Rattle.node_tables.specs.Journals.{Reads}
 use Rattle.node_core.specs.Disks.{Moves, KeepsForm, OldOrMore}
 use Rattle.node_core.specs.Seen.{NodeSeen, Pends, Commits, Faults, acks_over}
@@ -44,20 +44,20 @@ shows_like (Some b) x y shows up kept other = (up ∙ shows.0, kept ∙ shows.1,
 pub shows_same : (journal after : Option (List (List ℕ))) (x y : NodeWorld) → ShowsJournal journal x → journal ≡ after → y.up ≡ x.up → y.journal ≡ x.journal → y.other ≡ x.other → ShowsJournal after y
 shows_same journal after x y shows is up kept other = rw (← is) (shows_like journal x y shows up kept other)
 
-module _ {F : Type 0} (m : Machine F) (f : Reads F) (id : Identity) (p now : ℕ) (n k : NodeSeen) (x : NodeWorld) (shows : NodeShows (environment m f id) p n x) where
+module _ {F : Type 0} (m : Meaning F) (id : Identity) (p now : ℕ) (n k : NodeSeen) (x : NodeWorld) (shows : NodeShows (environment m id) p n x) where
   abbrev e : Environment F
-  e = environment m f id
+  e = environment m id
 
   -- the node's own environment is the network's
-  pub pends_here : (bodies : List (List ℕ)) (event : Event) (item : Option Sent) (body : List ℕ) → Pends (environment m f n.identity) n.identity.party.0 now bodies event item body → Pends e p now bodies event item body
-  pends_here bodies event item body pends = subst (λ (i : Identity). Pends (environment m f i) i.party.0 now bodies event item body) shows.identity_is pends
+  pub pends_here : (bodies : List (List ℕ)) (event : Event) (item : Option Sent) (body : List ℕ) → Pends (environment m n.identity) n.identity.party.0 now bodies event item body → Pends e p now bodies event item body
+  pends_here bodies event item body pends = subst (λ (i : Identity). Pends (environment m i) i.party.0 now bodies event item body) shows.identity_is pends
 
   module _ (bodies : List (List ℕ)) (here : n.journal ≡ Some bodies) where
     pub stands : ShowsJournal (Some bodies) x
     stands = rw here at shows.journal
 
     module _ (event : Event) (item : Option Sent) where
-      pub commits_world : Commits (environment m f n.identity) now bodies event item n k → Goes e p x k (λ y. WorldCommits e p now event item x y)
+      pub commits_world : Commits (environment m n.identity) now bodies event item n k → Goes e p x k (λ y. WorldCommits e p now event item x y)
       commits_world c =
           let more = bodies ++ c.body ∷ [] in
           let pends = pends_here bodies event item c.body c.appended.pends in
@@ -126,7 +126,7 @@ module _ {F : Type 0} (m : Machine F) (f : Reads F) (id : Identity) (p now : ℕ
         record { same = is; faults_are = refl; calm_is = refl; file_is = refl; openable_is = refl; acked_none = refl; waiting_is = refl },
       )
 
-      faults_of : (c : Faults (environment m f n.identity) now bodies event item n k) (y : NodeWorld) → Faulted y c.body → Rest y (journal_of k.disk.state.kept) → NodeShows e p k y × WorldFaults e p now event item x y
+      faults_of : (c : Faults (environment m n.identity) now bodies event item n k) (y : NodeWorld) → Faulted y c.body → Rest y (journal_of k.disk.state.kept) → NodeShows e p k y × WorldFaults e p now event item x y
       faults_of c y faulted rest =
           let pends = pends_here bodies event item c.body c.failing.pends in
           let rose : Rose x.faults y.faults = rw (shows.counts, rest.faults_are) c.failing.rose in (
@@ -158,7 +158,7 @@ module _ {F : Type 0} (m : Machine F) (f : Reads F) (id : Identity) (p now : ℕ
             },
           )
 
-      pub faults_world : Faults (environment m f n.identity) now bodies event item n k → Goes e p x k (λ y. WorldFaults e p now event item x y)
+      pub faults_world : Faults (environment m n.identity) now bodies event item n k → Goes e p x k (λ y. WorldFaults e p now event item x y)
       faults_world c =
           let found = world_of_fault c.body (journal_of k.disk.state.kept) (c.failing.moves.kept shows.tells) in
           let all = faults_of c found.0 found.1 found.2 in

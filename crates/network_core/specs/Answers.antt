@@ -2,7 +2,7 @@
 use Rattle.std.specs.Prelude.{◌≡◌, ◌⊎◌, ℕ, zero, suc, ◌+◌, ◌<◌, ◌≤◌, ◌^◌, ⊤, Bool, if◌then◌else◌, List, [], ◌∷◌, length, max, slice_get, slice_set, Option, Some, None, IsSome, option_and_then, true, false, Result, Ok, Err}
 use Rattle.std.specs.Option.{option_to_list}
 use Rattle.flow_machine.specs.Machine.{Machine}
-use Rattle.net_model.specs.Environment.{environment}
+use Rattle.net_model.specs.Environment.{environment, Meaning}
 use Rattle.node_core.specs.declared.faults.StartFault.{StartFault}
 use Rattle.node_core.specs.declared.faults.StartFault.TheVariants as start_fault
 use Rattle.node_core.specs.declared.faults.TurnFault.{TurnFault}
@@ -74,12 +74,12 @@ boot_outcome (Err (boot_fault.Damaged at)) = Some (outcome.Refused 13)
 boot_outcome (Err boot_fault.Memory) = None
 
 -- a start at a node, and its outcome
-abbrev pub StartServes : {F E : Type 0} → Machine F → Reads F → ℕ → ℕ → List ℕ → NodeSeen → Result Outcome E → NodeSeen → Type 0
-StartServes m frame_at now class args old result new = (answer : Result ℕ StartFault) × StartAnswers (environment m frame_at old.identity) now class args old answer new × (said result ≡ start_outcome answer)
+abbrev pub StartServes : {F E : Type 0} → Meaning F → ℕ → ℕ → List ℕ → NodeSeen → Result Outcome E → NodeSeen → Type 0
+StartServes m now class args old result new = (answer : Result ℕ StartFault) × StartAnswers (environment m old.identity) now class args old answer new × (said result ≡ start_outcome answer)
 
 -- a turn at a node, and its outcome
-abbrev pub TurnServes : {F E : Type 0} → Machine F → Reads F → ℕ → Option ℕ → NodeSeen → Result Outcome E → NodeSeen → Type 0
-TurnServes m frame_at now pick old result new = (answer : Result Turned TurnFault) × TurnAnswers (environment m frame_at old.identity) now pick old answer new × (said result ≡ turn_outcome answer)
+abbrev pub TurnServes : {F E : Type 0} → Meaning F → ℕ → Option ℕ → NodeSeen → Result Outcome E → NodeSeen → Type 0
+TurnServes m now pick old result new = (answer : Result Turned TurnFault) × TurnAnswers (environment m old.identity) now pick old answer new × (said result ≡ turn_outcome answer)
 
 -- a cut at a node, and its outcome
 abbrev pub CutServes : {E : Type 0} → ℕ → ℕ → NodeSeen → Result Outcome E → NodeSeen → Type 0
@@ -171,9 +171,9 @@ replied (Ok reply) = option_to_list reply.ack
 replied (Err e) = []
 
 -- a frame was handed to a node, with its outcome and the acknowledgement that it sends
-abbrev pub TakeServes : {F E : Type 0} → Machine F → Reads F → ℕ → List ℕ → NodeSeen → Result Reply E → NodeSeen → Type 0
-TakeServes m frame_at now bytes old result new =
-    (answer : Result Taken TakeFault) × TakeAnswers (environment m frame_at old.identity) now bytes old answer new × (reached result ≡ take_outcome answer) × (replied result ≡ take_sent answer) × IsCounted answer
+abbrev pub TakeServes : {F E : Type 0} → Meaning F → ℕ → List ℕ → NodeSeen → Result Reply E → NodeSeen → Type 0
+TakeServes m now bytes old result new =
+    (answer : Result Taken TakeFault) × TakeAnswers (environment m old.identity) now bytes old answer new × (reached result ≡ take_outcome answer) × (replied result ≡ take_sent answer) × IsCounted answer
 
 -- the messages that a node has to send, each a frame; none exactly where it is down
 abbrev pub SendServes : {F E : Type 0} → Reads F → NodeSeen → Result (Option (List Outgoing)) E → Type 0
@@ -227,12 +227,12 @@ parted true place at frames waiting = waiting
 parted false place at frames waiting = slice_set waiting place (without at frames)
 
 -- a node that is up was handed the frame at a place of those that wait there
-pub record Handed {F : Type 0} (m : Machine F) (frame_at : Reads F) (repeated : Bool) (place at : ℕ) (n : NodeSeen) (frames : List (List ℕ)) (old : NetSeen) (o : Option Outcome) (new : NetSeen) : Type 0 where
+pub record Handed {F : Type 0} (m : Meaning F) (repeated : Bool) (place at : ℕ) (n : NodeSeen) (frames : List (List ℕ)) (old : NetSeen) (o : Option Outcome) (new : NetSeen) : Type 0 where
   pub bytes : List ℕ
   pub there : slice_get frames at ≡ Some bytes
   pub answer : Result Taken TakeFault
   pub node : NodeSeen
-  pub takes : TakeAnswers (environment m frame_at n.identity) old.now bytes n answer node
+  pub takes : TakeAnswers (environment m n.identity) old.now bytes n answer node
   pub counted : IsCounted answer
   pub outcome_is : o ≡ take_outcome answer
   pub nodes : new.nodes ≡ slice_set old.nodes place node
@@ -240,16 +240,16 @@ pub record Handed {F : Type 0} (m : Machine F) (frame_at : Reads F) (repeated : 
   pub now : new.now ≡ old.now
 
 -- what handing the frame at a place of a node came to
-abbrev pub Handing : {F : Type 0} → Machine F → Reads F → Bool → ℕ → ℕ → NodeSeen → List (List ℕ) → NetSeen → Option Outcome → NetSeen → Type 0
-Handing m frame_at repeated place at n frames old o new =
+abbrev pub Handing : {F : Type 0} → Meaning F → Bool → ℕ → ℕ → NodeSeen → List (List ℕ) → NetSeen → Option Outcome → NetSeen → Type 0
+Handing m repeated place at n frames old o new =
     ((n.journal ≡ None) × (o ≡ Some (outcome.Refused 3)) × (new ≡ old))
-    ⊎ (IsSome n.journal × (((slice_get frames at ≡ None) × (o ≡ Some (outcome.Refused 7)) × (new ≡ old)) ⊎ Handed m frame_at repeated place at n frames old o new))
+    ⊎ (IsSome n.journal × (((slice_get frames at ≡ None) × (o ≡ Some (outcome.Refused 7)) × (new ≡ old)) ⊎ Handed m repeated place at n frames old o new))
 
 -- a delivery, or a repetition, of the frame at a place of a node
-abbrev pub HandServes : {F E : Type 0} → Machine F → Reads F → Bool → ℕ → ℕ → NetSeen → Result Outcome E → NetSeen → Type 0
-HandServes m frame_at repeated place at old result new =
+abbrev pub HandServes : {F E : Type 0} → Meaning F → Bool → ℕ → ℕ → NetSeen → Result Outcome E → NetSeen → Type 0
+HandServes m repeated place at old result new =
     ((length old.nodes ≤ place) × (said result ≡ Some (outcome.Refused 2)) × (new ≡ old))
-    ⊎ ((n : NodeSeen) × (frames : List (List ℕ)) × (slice_get old.nodes place ≡ Some n) × (slice_get old.waiting place ≡ Some frames) × Handing m frame_at repeated place at n frames old (said result) new)
+    ⊎ ((n : NodeSeen) × (frames : List (List ℕ)) × (slice_get old.nodes place ≡ Some n) × (slice_get old.waiting place ≡ Some frames) × Handing m repeated place at n frames old (said result) new)
 
 -- the frame at a place of a node is lost
 abbrev pub LoseServes : {E : Type 0} → ℕ → ℕ → NetSeen → Result Outcome E → NetSeen → Type 0
@@ -267,40 +267,40 @@ answer_of (Some o) = Ok o
 answer_of None = Err tt
 
 -- a turn of a drain at a place
-abbrev pub NetTurn : {F : Type 0} → Machine F → Reads F → ℕ → NetSeen → Option Outcome → NetSeen → Type 0
-NetTurn m frame_at place old o new = AtPlace place old (answer_of o) new (λ n r k. TurnServes m frame_at old.now None n r k) × (new.now ≡ old.now)
+abbrev pub NetTurn : {F : Type 0} → Meaning F → ℕ → NetSeen → Option Outcome → NetSeen → Type 0
+NetTurn m place old o new = AtPlace place old (answer_of o) new (λ n r k. TurnServes m old.now None n r k) × (new.now ≡ old.now)
 
 -- a post of a drain at a place
 abbrev pub NetPost : {F : Type 0} → Reads F → ℕ → NetSeen → Option Outcome → NetSeen → Type 0
 NetPost frame_at place old o new = PostServes frame_at place old (answer_of o) new
 
 -- a delivery of a drain at a place
-abbrev pub NetHand : {F : Type 0} → Machine F → Reads F → ℕ → NetSeen → Option Outcome → NetSeen → Type 0
-NetHand m frame_at place old o new = HandServes m frame_at false place 0 old (answer_of o) new
+abbrev pub NetHand : {F : Type 0} → Meaning F → ℕ → NetSeen → Option Outcome → NetSeen → Type 0
+NetHand m place old o new = HandServes m false place 0 old (answer_of o) new
 
 -- so many frames wait at a place
 abbrev pub AreWaiting : NetSeen → ℕ → ℕ → Type 0
 AreWaiting net place n = (frames : List (List ℕ)) × (slice_get net.waiting place ≡ Some frames) × (length frames ≡ n)
 
 -- the deliveries at a place end: no frame waits, or the node is down; or as many were made as frames waited there before them
-abbrev pub NetEnds : {F : Type 0} → Machine F → Reads F → ℕ → ℕ → NetSeen → NetSeen → NetSeen → Type 0
-NetEnds m frame_at place count old mid new = EndsHands (NetHand m frame_at) place mid new ⊎ (AreWaiting old place count × (new ≡ mid))
+abbrev pub NetEnds : {F : Type 0} → Meaning F → ℕ → ℕ → NetSeen → NetSeen → NetSeen → Type 0
+NetEnds m place count old mid new = EndsHands (NetHand m) place mid new ⊎ (AreWaiting old place count × (new ≡ mid))
 
 -- what a drain is made of, over any disks
-abbrev pub net_steps : {F : Type 0} → Machine F → Reads F → DrainSteps NetSeen
-net_steps m frame_at = record { count = λ net. length net.nodes; turn = NetTurn m frame_at; post = NetPost frame_at; hand = NetHand m frame_at; ends = NetEnds m frame_at }
+abbrev pub net_steps : {F : Type 0} → Meaning F → DrainSteps NetSeen
+net_steps m = record { count = λ net. length net.nodes; turn = NetTurn m; post = NetPost m.frame_at; hand = NetHand m; ends = NetEnds m }
 
 -- What a step answers, and what it makes of the network, whatever its disks tell and its journals hold: each refusal, each fault and each
 -- outcome has its cause. A drain is rounds of turns, posts and deliveries, each of which has its own, and which end as its outcome says.
-abbrev pub Answered : {F E : Type 0} → Machine F → Reads F → Step → NetSeen → Result Outcome E → NetSeen → Type 0
-Answered m frame_at (step.Clock to) old result new = (o : Outcome) × (said result ≡ Some o) × ClockServes to.0 old o new
-Answered m frame_at (step.Start node class args) old result new = AtPlace node old result new (λ n r k. StartServes m frame_at old.now class args n r k) × (new.now ≡ old.now)
-Answered m frame_at (step.Turn node pick) old result new = AtPlace node old result new (λ n r k. TurnServes m frame_at old.now pick n r k) × (new.now ≡ old.now)
-Answered m frame_at (step.Post node) old result new = PostServes frame_at node old result new
-Answered m frame_at (step.Deliver node at) old result new = HandServes m frame_at false node at old result new
-Answered m frame_at (step.Repeat node at) old result new = HandServes m frame_at true node at old result new
-Answered m frame_at (step.Lose node at) old result new = LoseServes node at old result new
-Answered m frame_at (step.Cut node calls kind) old result new =
+abbrev pub Answered : {F E : Type 0} → Meaning F → Step → NetSeen → Result Outcome E → NetSeen → Type 0
+Answered m (step.Clock to) old result new = (o : Outcome) × (said result ≡ Some o) × ClockServes to.0 old o new
+Answered m (step.Start node class args) old result new = AtPlace node old result new (λ n r k. StartServes m old.now class args n r k) × (new.now ≡ old.now)
+Answered m (step.Turn node pick) old result new = AtPlace node old result new (λ n r k. TurnServes m old.now pick n r k) × (new.now ≡ old.now)
+Answered m (step.Post node) old result new = PostServes m.frame_at node old result new
+Answered m (step.Deliver node at) old result new = HandServes m false node at old result new
+Answered m (step.Repeat node at) old result new = HandServes m true node at old result new
+Answered m (step.Lose node at) old result new = LoseServes node at old result new
+Answered m (step.Cut node calls kind) old result new =
     ((3 < kind) × (said result ≡ Some (outcome.Refused 1)) × (new ≡ old)) ⊎ ((kind ≤ 3) × AtPlace node old result new (λ n r k. CutServes calls kind n r k) × (new.now ≡ old.now))
-Answered m frame_at (step.Boot node) old result new = AtPlace node old result new (λ n r k. BootServes frame_at n r k) × BootClock frame_at node old result new
-Answered m frame_at step.Drain old result new = DrainsTo (net_steps m frame_at) old (said result) new × (new.now ≡ old.now)
+Answered m (step.Boot node) old result new = AtPlace node old result new (λ n r k. BootServes m.frame_at n r k) × BootClock m.frame_at node old result new
+Answered m step.Drain old result new = DrainsTo (net_steps m) old (said result) new × (new.now ≡ old.now)

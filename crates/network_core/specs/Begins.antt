@@ -5,7 +5,7 @@ use Rattle.outside.specs.Disk.{DiskView, clean}
 use Rattle.net_base.specs.declared.names.Identity.{Identity}
 use Rattle.net_base.specs.declared.values.Party.{Party}
 use Rattle.flow_machine.specs.Machine.{Machine}
-use Rattle.net_model.specs.Environment.{Environment, environment, party}
+use Rattle.net_model.specs.Environment.{Environment, environment, party, Meaning}
 use Rattle.node_tables.specs.Journals.{Reads, state_of}
 use Rattle.node_core.specs.declared.faults.BootFault.{BootFault}
 use Rattle.node_core.specs.declared.faults.BootFault.TheVariants as boot_fault
@@ -81,8 +81,8 @@ pub record IsNew (d : DiskView) : Type 0 where
 
 -- over new disks a network whose nodes are down shows a coherent world, whatever its moment, and no opening refuses an image of them
 abbrev pub NewDisksAreCoherent : (F : Type 0) → Type 0
-NewDisksAreCoherent F = (m : Machine F) (frame_at : Reads F) (nodes : ℕ) (notary : Party) (now : ℕ) (disks : List DiskView) → length disks ≡ nodes → AllByRecursion IsNew disks
-    → (w : World) × Shows (environment m frame_at (member nodes notary 0)) (net_over nodes notary now disks) w × Coherent (environment m frame_at (member nodes notary 0)) w × AreOpenable w
+NewDisksAreCoherent F = (m : Meaning F) (nodes : ℕ) (notary : Party) (now : ℕ) (disks : List DiskView) → length disks ≡ nodes → AllByRecursion IsNew disks
+    → (w : World) × Shows (environment m (member nodes notary 0)) (net_over nodes notary now disks) w × Coherent (environment m (member nodes notary 0)) w × AreOpenable w
 
 -- each node came up on its journal, and the moment is the greatest of their last causes', 0 without one
 pub record Begun {F : Type 0} (e : Environment F) (w v : World) : Type 0 where
@@ -92,9 +92,9 @@ pub record Begun {F : Type 0} (e : Environment F) (w v : World) : Type 0 where
   pub reached : (v.now ≡ 0) ⊎ ((p : ℕ) × (y : NodeWorld) × (slice_get v.nodes p ≡ Some y) × (v.now ≡ (state_of e.frame_at y.journal).moment))
 
 -- from each coherent world over the disks, whatever its moment, a network begins in a coherent world in which every node is up
-abbrev pub BeginsWorld : {F : Type 0} → Machine F → Reads F → ℕ → Party → List DiskView → NetSeen → Type 0
-BeginsWorld m frame_at nodes notary disks net =
-    let e = environment m frame_at (member nodes notary 0) in
+abbrev pub BeginsWorld : {F : Type 0} → Meaning F → ℕ → Party → List DiskView → NetSeen → Type 0
+BeginsWorld m nodes notary disks net =
+    let e = environment m (member nodes notary 0) in
     (now : ℕ) (w : World) → Shows e (net_over nodes notary now disks) w → Coherent e w → (v : World) × Shows e net v × Coherent e v × Begun e w v
 
 -- the images of the disks spell no journals that they didn't spell before, and but for a fault what they keep is as before; where no image was one that an opening refuses, the boot that was refused gave up
@@ -105,11 +105,11 @@ pub record StayDown (why : BootFault) (w v : World) : Type 0 where
 
 -- the boot of the node at that place was refused, so, or memory ran out before all boots; those before it came up, and those behind it were left; the disks come back in order, each as its node left it; from each coherent world over
 -- the disks they go to a coherent world over those that come back
-pub record IsRefused {F : Type 0} (m : Machine F) (frame_at : Reads F) (nodes : ℕ) (notary : Party) (disks : List DiskView) (node : ℕ) (why : BootFault) (back : List DiskView) : Type 0 where
+pub record IsRefused {F : Type 0} (m : Meaning F) (nodes : ℕ) (notary : Party) (disks : List DiskView) (node : ℕ) (why : BootFault) (back : List DiskView) : Type 0 where
   pub count : length back ≡ length disks
   pub refused : ((why ≡ boot_fault.Memory) × (node ≡ 0) × (back ≡ disks))
-      ⊎ ((d : DiskView) × (b : DiskView) × (slice_get disks node ≡ Some d) × (slice_get back node ≡ Some b) × BootsAs frame_at (node_over nodes notary node d) (no_boot why) (node_over nodes notary node b))
-  pub earlier : (p : ℕ) (d b : DiskView) → p < node → slice_get disks p ≡ Some d → slice_get back p ≡ Some b → (k : NodeSeen) × BootsAs frame_at (node_over nodes notary p d) came_up k × (roomless b ≡ k.disk)
+      ⊎ ((d : DiskView) × (b : DiskView) × (slice_get disks node ≡ Some d) × (slice_get back node ≡ Some b) × BootsAs m.frame_at (node_over nodes notary node d) (no_boot why) (node_over nodes notary node b))
+  pub earlier : (p : ℕ) (d b : DiskView) → p < node → slice_get disks p ≡ Some d → slice_get back p ≡ Some b → (k : NodeSeen) × BootsAs m.frame_at (node_over nodes notary p d) came_up k × (roomless b ≡ k.disk)
   pub later : (p : ℕ) (d b : DiskView) → node < p → slice_get disks p ≡ Some d → slice_get back p ≡ Some b → roomless b ≡ roomless d
-  pub world : let e = environment m frame_at (member nodes notary 0) in
+  pub world : let e = environment m (member nodes notary 0) in
       (now : ℕ) (w : World) → Shows e (net_over nodes notary now disks) w → Coherent e w → (v : World) × Shows e (net_over nodes notary now back) v × Coherent e v × StayDown why w v

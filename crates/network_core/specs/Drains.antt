@@ -2,7 +2,7 @@
 use Rattle.std.specs.Prelude.{◌≡◌, ◌⊎◌, ℕ, ◌+◌, ◌-◌, ◌≤◌, true, false, List, [], ◌∷◌, length, slice_get, Option, Some, None}
 use Rattle.flow_machine.specs.Machine.{Machine}
 use Rattle.net_base.specs.declared.names.Identity.{Identity}
-use Rattle.net_model.specs.Environment.{Environment, environment}
+use Rattle.net_model.specs.Environment.{Environment, environment, Meaning}
 use Rattle.net_model.specs.Left.{left}
 use Rattle.session_wire.specs.Sessions.{Session}
 use Rattle.node_tables.specs.Journals.{Reads, state_of}
@@ -103,43 +103,43 @@ abbrev pub with_world : {F : Type 0} {e : Environment F} (net : NetSeen) (w : Wo
 with_world net w shows coherent = record { net = net; world = w; shows = shows; coherent = coherent }
 
 -- a delivery of a drain, of the network and of the world that it shows
-abbrev pub PairHand : {F : Type 0} (m : Machine F) (frame_at : Reads F) (id : Identity) → ℕ → Pair (environment m frame_at id) → Option Outcome → Pair (environment m frame_at id) → Type 0
-PairHand m frame_at id p a o b = NetHand m frame_at p a.net o b.net × HandAt (environment m frame_at id) p a.world o b.world
+abbrev pub PairHand : {F : Type 0} (m : Meaning F) (id : Identity) → ℕ → Pair (environment m id) → Option Outcome → Pair (environment m id) → Type 0
+PairHand m id p a o b = NetHand m p a.net o b.net × HandAt (environment m id) p a.world o b.world
 
 -- what a drain of a network is made of, each step both of the network and of the world that it shows
-abbrev pub pair_steps : {F : Type 0} (m : Machine F) (frame_at : Reads F) (id : Identity) → DrainSteps (Pair (environment m frame_at id))
-pair_steps m frame_at id = record {
+abbrev pub pair_steps : {F : Type 0} (m : Meaning F) (id : Identity) → DrainSteps (Pair (environment m id))
+pair_steps m id = record {
   count = λ a. length a.net.nodes;
-  turn = λ p a o b. NetTurn m frame_at p a.net o b.net × TurnAt (environment m frame_at id) p a.world o b.world;
-  post = λ p a o b. NetPost frame_at p a.net o b.net × WorldPosts (environment m frame_at id) p a.world o b.world;
-  hand = PairHand m frame_at id;
-  ends = λ p d a c b. EndsHands (PairHand m frame_at id) p c b ⊎ ((b ≡ c) × NetEnds m frame_at p d a.net c.net b.net × WorldEnds (environment m frame_at id) p d a.world c.world b.world);
+  turn = λ p a o b. NetTurn m p a.net o b.net × TurnAt (environment m id) p a.world o b.world;
+  post = λ p a o b. NetPost m.frame_at p a.net o b.net × WorldPosts (environment m id) p a.world o b.world;
+  hand = PairHand m id;
+  ends = λ p d a c b. EndsHands (PairHand m id) p c b ⊎ ((b ≡ c) × NetEnds m p d a.net c.net b.net × WorldEnds (environment m id) p d a.world c.world b.world);
 }
 
 -- from each coherent world that the network shows, both go on to a network and a coherent world that it shows, which are so
-abbrev pub KeepsPair : {F : Type 0} (m : Machine F) (frame_at : Reads F) → NetSeen → NetSeen → ((id : Identity) → Pair (environment m frame_at id) → Pair (environment m frame_at id) → Type 0) → Type 0
-KeepsPair m frame_at old new goal = (id : Identity) (w : World) (shows : Shows (environment m frame_at id) old w) (coherent : Coherent (environment m frame_at id) w)
-    → (v : World) × (later : Shows (environment m frame_at id) new v) × (sound : Coherent (environment m frame_at id) v) × goal id (with_world old w shows coherent) (with_world new v later sound)
+abbrev pub KeepsPair : {F : Type 0} (m : Meaning F) → NetSeen → NetSeen → ((id : Identity) → Pair (environment m id) → Pair (environment m id) → Type 0) → Type 0
+KeepsPair m old new goal = (id : Identity) (w : World) (shows : Shows (environment m id) old w) (coherent : Coherent (environment m id) w)
+    → (v : World) × (later : Shows (environment m id) new v) × (sound : Coherent (environment m id) v) × goal id (with_world old w shows coherent) (with_world new v later sound)
 
 -- what a drain makes of both, step by step
-abbrev pub PairDrains : {F : Type 0} (m : Machine F) (frame_at : Reads F) (id : Identity) → Option Outcome → Pair (environment m frame_at id) → Pair (environment m frame_at id) → Type 0
-PairDrains m frame_at id o a b = DrainsTo (pair_steps m frame_at id) a o b × (o ≡ Some (outcome.Drained false) → Quiet (environment m frame_at id) b.world)
+abbrev pub PairDrains : {F : Type 0} (m : Meaning F) (id : Identity) → Option Outcome → Pair (environment m id) → Pair (environment m id) → Type 0
+PairDrains m id o a b = DrainsTo (pair_steps m id) a o b × (o ≡ Some (outcome.Drained false) → Quiet (environment m id) b.world)
 
 -- ---- networks
 
 -- the network goes from one state to another as is stated of drains, over any disks and of its worlds, and its room does not grow
-pub record Drives {F : Type 0} (m : Machine F) (frame_at : Reads F) (old new : NetSeen) (goal : DrainGoal) : Type 0 where
-  pub pairs : KeepsPair m frame_at old new (λ id a b. goal (Pair (environment m frame_at id)) (pair_steps m frame_at id) a b)
-  pub seen : goal NetSeen (net_steps m frame_at) old new
+pub record Drives {F : Type 0} (m : Meaning F) (old new : NetSeen) (goal : DrainGoal) : Type 0 where
+  pub pairs : KeepsPair m old new (λ id a b. goal (Pair (environment m id)) (pair_steps m id) a b)
+  pub seen : goal NetSeen (net_steps m) old new
   pub clock : new.now ≡ old.now
   pub left : room new ≤ room old
   pub count : length new.nodes ≡ length old.nodes
 
 -- what a drain of a network came to, by its outcome, over any disks and of its worlds
-pub record Drains {F : Type 0} (m : Machine F) (frame_at : Reads F) (old : NetSeen) (o : Option Outcome) (new : NetSeen) : Type 0 where
-  pub pairs : KeepsPair m frame_at old new (λ id a b. PairDrains m frame_at id o a b)
-  pub world : KeepsWorld m frame_at old new (λ e w v. WorldDrains e w o v)
-  pub seen : DrainsTo (net_steps m frame_at) old o new
+pub record Drains {F : Type 0} (m : Meaning F) (old : NetSeen) (o : Option Outcome) (new : NetSeen) : Type 0 where
+  pub pairs : KeepsPair m old new (λ id a b. PairDrains m id o a b)
+  pub world : KeepsWorld m old new (λ e w v. WorldDrains e w o v)
+  pub seen : DrainsTo (net_steps m) old o new
   pub clock : new.now ≡ old.now
   pub left : room new ≤ room old
   pub count : length new.nodes ≡ length old.nodes

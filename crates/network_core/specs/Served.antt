@@ -3,7 +3,7 @@ use Rattle.std.specs.Prelude.{◌≡◌, ◌⊎◌, ◌<◌, ◌≤◌, Bool, Li
 use Rattle.net_base.specs.declared.names.Identity.{Identity}
 use Rattle.flow_machine.specs.Machine.{Machine}
 use Rattle.node_tables.specs.Journals.{Reads}
-use Rattle.net_model.specs.Environment.{Environment, environment}
+use Rattle.net_model.specs.Environment.{Environment, environment, Meaning}
 use Rattle.network_core.specs.Answers.{Answered, answer_of}
 use Rattle.network_core.specs.declared.steps.Outcome.{Outcome}
 use Rattle.network_core.specs.declared.steps.Outcome.TheVariants as outcome
@@ -44,29 +44,29 @@ abbrev pub Follows : {F : Type 0} → Environment F → List Step → List Outco
 Follows e steps outcomes all w v = LeadTo (Serve e) steps outcomes all w v
 
 -- what each step makes of a network, and its outcome, none at want of memory, over any disks
-abbrev pub NetServe : {F : Type 0} → Machine F → Reads F → Step → NetSeen → Option Outcome → NetSeen → Type 0
-NetServe m frame_at s old o new = Answered m frame_at s old (answer_of o) new
+abbrev pub NetServe : {F : Type 0} → Meaning F → Step → NetSeen → Option Outcome → NetSeen → Type 0
+NetServe m s old o new = Answered m s old (answer_of o) new
 
 -- so of networks, over any disks
-abbrev pub NetFollows : {F : Type 0} → Machine F → Reads F → List Step → List Outcome → Bool → NetSeen → NetSeen → Type 0
-NetFollows m frame_at steps outcomes all old new = LeadTo (NetServe m frame_at) steps outcomes all old new
+abbrev pub NetFollows : {F : Type 0} → Meaning F → List Step → List Outcome → Bool → NetSeen → NetSeen → Type 0
+NetFollows m steps outcomes all old new = LeadTo (NetServe m) steps outcomes all old new
 
 -- ---- networks with the worlds that they show
 
 -- what each step makes of a network and of the world that it shows, and its outcome; a drain also step by step
-abbrev pub PairServes : {F : Type 0} (m : Machine F) (frame_at : Reads F) (id : Identity) → Step → Option Outcome → Pair (environment m frame_at id) → Pair (environment m frame_at id) → Type 0
-PairServes m frame_at id s o a b = Answered m frame_at s a.net (answer_of o) b.net × Serve (environment m frame_at id) s a.world o b.world × (s ≡ step.Drain → PairDrains m frame_at id o a b)
+abbrev pub PairServes : {F : Type 0} (m : Meaning F) (id : Identity) → Step → Option Outcome → Pair (environment m id) → Pair (environment m id) → Type 0
+PairServes m id s o a b = Answered m s a.net (answer_of o) b.net × Serve (environment m id) s a.world o b.world × (s ≡ step.Drain → PairDrains m id o a b)
 
 -- so one after another
-abbrev pub PairLinks : {F : Type 0} (m : Machine F) (frame_at : Reads F) (id : Identity) → List Step → List Outcome → Pair (environment m frame_at id) → Pair (environment m frame_at id) → Type 0
-PairLinks m frame_at id steps outcomes a b = Links (λ s a o b. PairServes m frame_at id s o a b) steps outcomes a b
+abbrev pub PairLinks : {F : Type 0} (m : Meaning F) (id : Identity) → List Step → List Outcome → Pair (environment m id) → Pair (environment m id) → Type 0
+PairLinks m id steps outcomes a b = Links (λ s a o b. PairServes m id s o a b) steps outcomes a b
 
-abbrev pub PairFollows : {F : Type 0} (m : Machine F) (frame_at : Reads F) (id : Identity) → List Step → List Outcome → Bool → Pair (environment m frame_at id) → Pair (environment m frame_at id) → Type 0
-PairFollows m frame_at id steps outcomes all a b = LeadTo (λ s a o b. PairServes m frame_at id s o a b) steps outcomes all a b
+abbrev pub PairFollows : {F : Type 0} (m : Meaning F) (id : Identity) → List Step → List Outcome → Bool → Pair (environment m id) → Pair (environment m id) → Type 0
+PairFollows m id steps outcomes all a b = LeadTo (λ s a o b. PairServes m id s o a b) steps outcomes all a b
 
 -- so from each coherent world that the network shows
-abbrev pub ServesPairs : {F : Type 0} → Machine F → Reads F → Step → Option Outcome → NetSeen → NetSeen → Type 0
-ServesPairs m frame_at s o old new = KeepsPair m frame_at old new (λ id a b. PairServes m frame_at id s o a b)
+abbrev pub ServesPairs : {F : Type 0} → Meaning F → Step → Option Outcome → NetSeen → NetSeen → Type 0
+ServesPairs m s o old new = KeepsPair m old new (λ id a b. PairServes m id s o a b)
 
-abbrev pub FollowPairs : {F : Type 0} → Machine F → Reads F → List Step → List Outcome → Bool → NetSeen → NetSeen → Type 0
-FollowPairs m frame_at steps outcomes all old new = KeepsPair m frame_at old new (λ id a b. PairFollows m frame_at id steps outcomes all a b)
+abbrev pub FollowPairs : {F : Type 0} → Meaning F → List Step → List Outcome → Bool → NetSeen → NetSeen → Type 0
+FollowPairs m steps outcomes all old new = KeepsPair m old new (λ id a b. PairFollows m id steps outcomes all a b)

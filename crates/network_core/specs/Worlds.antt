@@ -12,7 +12,7 @@ use Rattle.session_wire.specs.declared.frame.Frame.TheVariants.{Message, Ack}
 use Rattle.session_frames.specs.Sending.{addressee}
 use Rattle.flow_machine.specs.Machine.{Machine}
 use Rattle.disk_journal.specs.Journal.{IsYoung, journal_of}
-use Rattle.net_model.specs.Environment.{Environment, environment, identity}
+use Rattle.net_model.specs.Environment.{Environment, environment, identity, Meaning}
 use Rattle.net_model.specs.State.{NodeState}
 use Rattle.net_model.specs.Runs.{IsLocal, IsMatched, IsFaithful, network_of, item_from}
 use Rattle.node_tables.specs.Journals.{Reads, records_of, state_of, causes_of}
@@ -143,9 +143,9 @@ pub record Coherent {F : Type 0} (e : Environment F) (w : World) : Type 0 where
   pub agrees : (lists : List (List (List ℕ))) → Choice w lists → Agrees e w lists
 
 -- from each coherent world that the network shows, it goes to a coherent world that it shows then
-abbrev pub KeepsWorld : {F : Type 0} → Machine F → Reads F → NetSeen → NetSeen → (Environment F → World → World → Type 0) → Type 0
-KeepsWorld m frame_at old new goal = (id : Identity) (w : World) → Shows (environment m frame_at id) old w → Coherent (environment m frame_at id) w
-    → (v : World) × Shows (environment m frame_at id) new v × Coherent (environment m frame_at id) v × goal (environment m frame_at id) w v
+abbrev pub KeepsWorld : {F : Type 0} → Meaning F → NetSeen → NetSeen → (Environment F → World → World → Type 0) → Type 0
+KeepsWorld m old new goal = (id : Identity) (w : World) → Shows (environment m id) old w → Coherent (environment m id) w
+    → (v : World) × Shows (environment m id) new v × Coherent (environment m id) v × goal (environment m id) w v
 
 -- ---- a law
 

@@ -1,5 +1,6 @@
 //! A network, and its steps.
 
+ghost use Rattle.net_model.specs.Environment.{unjudged};
 ghost use Rattle.std.specs.Prelude.{◌≡◌, ◌≤◌, ◌<◌, List, ℕ, length, map, slice_get, Some, None, IsSome, IfOk, IfErr, true, false, [], vec_capacity};
 ghost use Rattle.node_core.specs.Disks.{roomless};
 ghost use Rattle.node_core.specs.Seen.{NodeSeen};
@@ -70,10 +71,10 @@ impl<D: Bay, F: FlowSet> Net<D, F> {
         requires notary { notary.0 < nodes }
         requires disks { length disks.items ≡ nodes }
         ensures count { IfOk result (λ net. length net.nodes ≡ nodes) }
-        ensures ok { IfOk result (λ net. BeginsWorld F.machine F.reading nodes notary (map D.seen disks.items) net) }
+        ensures ok { IfOk result (λ net. BeginsWorld (unjudged F.machine F.reading) nodes notary (map D.seen disks.items) net) }
         ensures boots { IfOk result (λ net. BootsUpTo F.reading nodes net.now (over_disks nodes notary 0 (map D.seen disks.items)) net.nodes) }
         ensures waiting { IfOk result (λ net. net.waiting ≡ map (λ n. []) net.nodes) }
-        ensures refused { IfErr result (λ r. IsRefused F.machine F.reading nodes notary (map D.seen disks.items) r.node r.why (map D.seen r.disks.items)) }
+        ensures refused { IfErr result (λ r. IsRefused (unjudged F.machine F.reading) nodes notary (map D.seen disks.items) r.node r.why (map D.seen r.disks.items)) }
     {
         let node = 0;
         let why = BootFault::Memory;
@@ -171,11 +172,11 @@ impl<D: Bay, F: FlowSet> Net<D, F> {
     /// `AllocError` for want of memory. Nothing has changed then, but that a drain keeps what it did, and that a node that was to be
     /// booted has its power back.
     pub fn apply(&mut self, alloc: Global, step: &Step) -> Result<Outcome, AllocError>
-        ensures serves { KeepsWorld F.machine F.reading self.old self.new (λ e w v. Serve e step.now w (said result) v) }
-        ensures pairs { ServesPairs F.machine F.reading step.now (said result) self.old self.new }
+        ensures serves { KeepsWorld (unjudged F.machine F.reading) self.old self.new (λ e w v. Serve e step.now w (said result) v) }
+        ensures pairs { ServesPairs (unjudged F.machine F.reading) step.now (said result) self.old self.new }
 
         // Over any disks, also such as tell nothing, and whatever their journals hold.
-        ensures answers { Answered F.machine F.reading step.now self.old result self.new }
+        ensures answers { Answered (unjudged F.machine F.reading) step.now self.old result self.new }
         ensures count { length self.new.nodes ≡ length self.old.nodes }
     {
         match step {
@@ -209,11 +210,11 @@ impl<D: Bay, F: FlowSet> Net<D, F> {
     /// the worlds is also said of the networks with them, step by step.
     pub fn apply_all(&mut self, alloc: Global, steps: &[Step], outcomes: &mut Vec<Outcome>) -> bool
         requires { (outcomes.old.items ≡ []) × (length steps.now ≤ vec_capacity outcomes.old) }
-        ensures worlds { KeepsWorld F.machine F.reading self.old self.new (λ e w v. Follows e steps.now outcomes.new.items result w v) }
-        ensures pairs { FollowPairs F.machine F.reading steps.now outcomes.new.items result self.old self.new }
+        ensures worlds { KeepsWorld (unjudged F.machine F.reading) self.old self.new (λ e w v. Follows e steps.now outcomes.new.items result w v) }
+        ensures pairs { FollowPairs (unjudged F.machine F.reading) steps.now outcomes.new.items result self.old self.new }
 
         // Over any disks, also such as tell nothing, and whatever their journals hold.
-        ensures answers { NetFollows F.machine F.reading steps.now outcomes.new.items result self.old self.new }
+        ensures answers { NetFollows (unjudged F.machine F.reading) steps.now outcomes.new.items result self.old self.new }
         ensures all { result ≡ true → length outcomes.new.items ≡ length steps.now }
         ensures fewer { result ≡ false → length outcomes.new.items < length steps.now }
         ensures count { length self.new.nodes ≡ length self.old.nodes }
@@ -238,7 +239,7 @@ impl<D: Bay, F: FlowSet> Net<D, F> {
     ///
     /// `AllocError` for want of memory at a turn, a post or a delivery; what was done before it stays.
     pub fn drain(&mut self, alloc: Global) -> Result<bool, AllocError>
-        ensures { Drains F.machine F.reading self.old (drain_outcome result) self.new }
+        ensures { Drains (unjudged F.machine F.reading) self.old (drain_outcome result) self.new }
     {
         'rounds: loop {
             match self.round(alloc)? {
@@ -251,7 +252,7 @@ impl<D: Bay, F: FlowSet> Net<D, F> {
 
     /// Makes the turns, then the posts, then the deliveries, until something meets a full journal.
     fn round(&mut self, alloc: Global) -> Result<Turning, AllocError>
-        ensures drives { Drives F.machine F.reading self.old self.new (λ W s w v. Turns result (Round s) (RoundStops s) w v) }
+        ensures drives { Drives (unjudged F.machine F.reading) self.old self.new (λ W s w v. Turns result (Round s) (RoundStops s) w v) }
         ensures moved { IfOk result (λ t. t ≡ turning.Moved → room self.new < room self.old) }
     {
         let turns = self.turns(alloc)?;
@@ -265,7 +266,7 @@ impl<D: Bay, F: FlowSet> Net<D, F> {
 
     /// Makes the turns at each node in the order of places, until one meets a full journal.
     fn turns(&mut self, alloc: Global) -> Result<Turning, AllocError>
-        ensures drives { Drives F.machine F.reading self.old self.new (λ W s w v. Turns result (InOrder (TurnsAt s) (s.count w)) (TurnsStop s) w v) }
+        ensures drives { Drives (unjudged F.machine F.reading) self.old self.new (λ W s w v. Turns result (InOrder (TurnsAt s) (s.count w)) (TurnsStop s) w v) }
         ensures moved { IfOk result (λ t. t ≡ turning.Moved → room self.new < room self.old) }
     {
         let mut any_moved = false;
@@ -283,7 +284,7 @@ impl<D: Bay, F: FlowSet> Net<D, F> {
     /// Makes turns at one node, until no flow of it can go on, its disk failed, or it is down; or until one meets a full journal.
     fn turns_at(&mut self, alloc: Global, place: usize) -> Result<Turning, AllocError>
         requires { place < length self.old.nodes }
-        ensures drives { Drives F.machine F.reading self.old self.new (λ W s w v. Turns result (TurnsAt s place) (StopsAt s place) w v) }
+        ensures drives { Drives (unjudged F.machine F.reading) self.old self.new (λ W s w v. Turns result (TurnsAt s place) (StopsAt s place) w v) }
         ensures moved { IfOk result (λ t. t ≡ turning.Moved → room self.new < room self.old) }
     {
         let mut moved = false;
@@ -299,7 +300,7 @@ impl<D: Bay, F: FlowSet> Net<D, F> {
 
     /// Posts each node, in the order of places.
     fn posts(&mut self, alloc: Global) -> Result<(), AllocError>
-        ensures { Drives F.machine F.reading self.old self.new (λ W s w v. Posts s w result v) }
+        ensures { Drives (unjudged F.machine F.reading) self.old self.new (λ W s w v. Posts s w result v) }
     {
         let count = self.nodes.len();
         'places: for place in 0..count {
@@ -310,7 +311,7 @@ impl<D: Bay, F: FlowSet> Net<D, F> {
 
     /// Makes the deliveries at each node in the order of places, until one meets a full journal.
     fn deliveries(&mut self, alloc: Global) -> Result<Turning, AllocError>
-        ensures drives { Drives F.machine F.reading self.old self.new (λ W s w v. Turns result (InOrder (DeliversAt s) (s.count w)) (HandsStop s) w v) }
+        ensures drives { Drives (unjudged F.machine F.reading) self.old self.new (λ W s w v. Turns result (InOrder (DeliversAt s) (s.count w)) (HandsStop s) w v) }
         ensures moved { IfOk result (λ t. t ≡ turning.Moved → room self.new < room self.old) }
     {
         let mut any_moved = false;
@@ -329,7 +330,7 @@ impl<D: Bay, F: FlowSet> Net<D, F> {
     /// that takes a frame sends nothing to itself: so in a coherent world none waits in the end.
     fn deliveries_at(&mut self, alloc: Global, place: usize) -> Result<Turning, AllocError>
         requires { place < length self.old.nodes }
-        ensures drives { Drives F.machine F.reading self.old self.new (λ W s w v. Turns result (DeliversAt s place) (HandStops s place) w v) }
+        ensures drives { Drives (unjudged F.machine F.reading) self.old self.new (λ W s w v. Turns result (DeliversAt s place) (HandStops s place) w v) }
         ensures moved { IfOk result (λ t. t ≡ turning.Moved → room self.new < room self.old) }
     {
         let mut moved = false;
@@ -363,7 +364,7 @@ impl<D: Bay, F: FlowSet> Net<D, F> {
         class: u16,
         args: &ByteList,
     ) -> Result<Outcome, AllocError>
-        ensures serves { AtPlace place self.old result self.new (λ n r k. StartServes F.machine F.reading self.old.now class args.now n r k) }
+        ensures serves { AtPlace place self.old result self.new (λ n r k. StartServes (unjudged F.machine F.reading) self.old.now class args.now n r k) }
         ensures clock { self.new.now ≡ self.old.now }
     {
         let place = place as usize;
@@ -381,7 +382,7 @@ impl<D: Bay, F: FlowSet> Net<D, F> {
         place: usize,
         pick: Option<u32>,
     ) -> Result<Outcome, AllocError>
-        ensures serves { AtPlace place self.old result self.new (λ n r k. TurnServes F.machine F.reading self.old.now pick n r k) }
+        ensures serves { AtPlace place self.old result self.new (λ n r k. TurnServes (unjudged F.machine F.reading) self.old.now pick n r k) }
         ensures clock { self.new.now ≡ self.old.now }
     {
         if place >= self.nodes.len() {
@@ -416,7 +417,7 @@ impl<D: Bay, F: FlowSet> Net<D, F> {
         at: usize,
         repeated: bool,
     ) -> Result<Outcome, AllocError>
-        ensures { HandServes F.machine F.reading repeated place at self.old result self.new }
+        ensures { HandServes (unjudged F.machine F.reading) repeated place at self.old result self.new }
     {
         if place >= self.nodes.len() {
             return Ok(Outcome::Refused { code: 2 });
@@ -440,7 +441,7 @@ impl<D: Bay, F: FlowSet> Net<D, F> {
     ) -> Result<Outcome, AllocError>
         requires node { (n : NodeSeen) × (slice_get self.old.nodes place ≡ Some n) × IsSome n.journal }
         requires frame { (frames : List (List ℕ)) × (slice_get self.old.waiting place ≡ Some frames) × (at < length frames) }
-        ensures { HandServes F.machine F.reading repeated place at self.old result self.new }
+        ensures { HandServes (unjudged F.machine F.reading) repeated place at self.old result self.new }
     {
         make_room(&mut self.waiting, 1)?;
         let now = self.now;

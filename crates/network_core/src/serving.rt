@@ -1,5 +1,6 @@
 //! One call of one node, and its outcome.
 
+ghost use Rattle.net_model.specs.Environment.{unjudged};
 ghost use Rattle.std.specs.Prelude.{◌≡◌, ◌≤◌, ℕ, Some, None, Ok};
 ghost use Rattle.std.specs.Option.{option_to_list};
 ghost use Rattle.node_core.specs.Seen.{IsBy};
@@ -25,7 +26,7 @@ pub fn start_at<D: Bay, F: FlowSet>(
     args: &ByteList,
 ) -> Result<Outcome, AllocError>
     requires { IsBy F.reading node.old.journal now.0 }
-    ensures serves { StartServes F.machine F.reading now.0 class args.now node.old result node.new }
+    ensures serves { StartServes (unjudged F.machine F.reading) now.0 class args.now node.old result node.new }
     ensures by { IsBy F.reading node.new.journal now.0 }
 {
     match node.start(alloc, now, class, args) {
@@ -47,7 +48,7 @@ pub fn turn_at<D: Bay, F: FlowSet>(
     pick: Option<u32>,
 ) -> Result<Outcome, AllocError>
     requires { IsBy F.reading node.old.journal now.0 }
-    ensures serves { TurnServes F.machine F.reading now.0 pick node.old result node.new }
+    ensures serves { TurnServes (unjudged F.machine F.reading) now.0 pick node.old result node.new }
     ensures by { IsBy F.reading node.new.journal now.0 }
 {
     match node.turn(alloc, now, pick) {
@@ -89,7 +90,7 @@ pub fn take_at<D: Bay, F: FlowSet>(
     bytes: &[u8],
 ) -> Result<Reply, AllocError>
     requires { IsBy F.reading node.old.journal now.0 }
-    ensures serves { TakeServes F.machine F.reading now.0 bytes.now node.old result node.new }
+    ensures serves { TakeServes (unjudged F.machine F.reading) now.0 bytes.now node.old result node.new }
     ensures by { IsBy F.reading node.new.journal now.0 }
 {
     reply_of(node.take(alloc, now, bytes))

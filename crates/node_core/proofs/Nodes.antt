@@ -10,7 +10,7 @@ use Rattle.node_core.specs.declared.faults.CommitFault.{CommitFault}
 use Rattle.node_core.specs.declared.faults.CommitFault.TheVariants as commit_fault
 use Rattle.disk_journal.specs.Journal.{IsSound, IsYoung}
 use Rattle.flow_machine.specs.Machine.{Machine}
-use Rattle.net_model.specs.Environment.{Environment, environment}
+use Rattle.net_model.specs.Environment.{Environment, environment, unjudged}
 use Rattle.net_model.specs.Steps.{place}
 use Rattle.node_core.specs.declared.node.State.{State}
 use Rattle.node_core.specs.declared.node.State.TheVariants.{Down, Up, Moved}
@@ -144,6 +144,6 @@ no_fault (Ok x) h is = cc
 no_fault (Err other) h is = cc
 
 -- a start at a node that is full
-pub start_full : {F : Type 0} (m : Machine F) (f : Reads F) (now class : ℕ) (args : List ℕ) (id : Identity) (up : UpSeen) → IsOk (m.made class args (place (environment m f id) id.party.0 (flow_count (environment m f id) up.bodies) 0 now)) → is_full f 0 up.bodies ≡ true
-    → StartAnswers (environment m f id) now class args (seen_up id up) (Err start_fault.Full) (seen_up id up)
+pub start_full : {F : Type 0} (m : Machine F) (f : Reads F) (now class : ℕ) (args : List ℕ) (id : Identity) (up : UpSeen) → IsOk (m.made class args (place (environment (unjudged m f) id) id.party.0 (flow_count (environment (unjudged m f) id) up.bodies) 0 now)) → is_full f 0 up.bodies ≡ true
+    → StartAnswers (environment (unjudged m f) id) now class args (seen_up id up) (Err start_fault.Full) (seen_up id up)
 start_full m f now class args id up made full = (made, full, refl)

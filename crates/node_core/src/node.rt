@@ -2,7 +2,7 @@
 
 ghost use Rattle.std.specs.Prelude.{◌≡◌, ◌↔◌, ◌<◌, ◌≤◌, true, false, IsTrue, IsSome, MatchOption, List, [], ℕ, Some, None};
 ghost use Rattle.net_base.specs.Names.{IsIdentity};
-ghost use Rattle.net_model.specs.Environment.{environment};
+ghost use Rattle.net_model.specs.Environment.{environment, unjudged};
 ghost use Rattle.node_ledger.specs.Ledgered.{HoldsLedger, ledger_in};
 ghost use Rattle.node_tables.specs.Journals.{state_of, causes_of};
 ghost use Rattle.node_core.specs.Disks.{roomless, CutsNow};
@@ -188,7 +188,7 @@ impl<D: Disk, F: FlowSet> Node<D, F> {
         args: &ByteList,
     ) -> Result<u32, StartFault>
         requires { IsBy F.reading self.old.journal now.0 }
-        ensures start { StartAnswers (environment F.machine F.reading self.old.identity) now.0 class args.now self.old result self.new }
+        ensures start { StartAnswers (environment (unjudged F.machine F.reading) self.old.identity) now.0 class args.now self.old result self.new }
         ensures by { IsBy F.reading self.new.journal now.0 }
     {
         let State::Up { up } = &mut self.state else {
@@ -226,7 +226,7 @@ impl<D: Disk, F: FlowSet> Node<D, F> {
         pick: Option<u32>,
     ) -> Result<Turned, TurnFault>
         requires { IsBy F.reading self.old.journal now.0 }
-        ensures turn { TurnAnswers (environment F.machine F.reading self.old.identity) now.0 pick self.old result self.new }
+        ensures turn { TurnAnswers (environment (unjudged F.machine F.reading) self.old.identity) now.0 pick self.old result self.new }
         ensures by { IsBy F.reading self.new.journal now.0 }
     {
         let State::Up { up } = &mut self.state else {
@@ -262,7 +262,7 @@ impl<D: Disk, F: FlowSet> Node<D, F> {
     /// rose, and the node is then down. After any but `Fault` nothing has changed.
     pub fn take(&mut self, alloc: Global, now: Moment, bytes: &[u8]) -> Result<Taken, TakeFault>
         requires { IsBy F.reading self.old.journal now.0 }
-        ensures take { TakeAnswers (environment F.machine F.reading self.old.identity) now.0 bytes.now self.old result self.new }
+        ensures take { TakeAnswers (environment (unjudged F.machine F.reading) self.old.identity) now.0 bytes.now self.old result self.new }
         ensures by { IsBy F.reading self.new.journal now.0 }
     {
         let State::Up { up } = &mut self.state else {

@@ -12,7 +12,7 @@ ghost use Rattle.session_frames.specs.Items.{GoesFurther, IsNextItem};
 ghost use Rattle.session_frames.specs.Judging.{IsJudged};
 ghost use Rattle.session_frames.specs.Sending.{AreMessages};
 ghost use Rattle.flow_records.specs.Steps.{step_record, IsStep};
-ghost use Rattle.net_model.specs.Environment.{environment};
+ghost use Rattle.net_model.specs.Environment.{environment, unjudged};
 ghost use Rattle.net_model.specs.Steps.{next_cause};
 ghost use Rattle.flow_steps.specs.Ready.{IsBegun, IsReady};
 ghost use Rattle.node_ledger.specs.Ledgered.{HoldsLedger, ledger_in};
@@ -211,7 +211,7 @@ impl<D: Disk, F: Spelt + Drop> Up<D, F> {
 impl<D: Disk, F: FlowSet> Up<D, F> {
     /// The event by which the picked flow goes on, or the first that can, and the flows that were seen to be idle.
     pub fn pick(&self, now: Moment, pick: Option<u32>) -> Option<Picked>
-        ensures event { (id : OfIdentity) → option_map (λ p. p.event) result ≡ picked_at (environment F.machine F.reading id) now.0 pick self.now.bodies }
+        ensures event { (id : OfIdentity) → option_map (λ p. p.event) result ≡ picked_at (environment (unjudged F.machine F.reading) id) now.0 pick self.now.bodies }
         ensures idle { IfSome result (λ p. AreIdle (state_of F.reading self.now.bodies) p.idle) }
     {
         self.tables.kept();
@@ -245,9 +245,9 @@ impl<D: Disk, F: FlowSet> Up<D, F> {
     ) -> Result<Step<F>, AllocError>
         requires identity { IsIdentity identity.now }
         requires tied { Tied identity.now self.now.journal self.now.bodies }
-        requires picked { (pick : Option ℕ) × (picked_at (environment F.machine F.reading identity.now) cause.moment.0 pick self.now.bodies ≡ Some cause.event) }
+        requires picked { (pick : Option ℕ) × (picked_at (environment (unjudged F.machine F.reading) identity.now) cause.moment.0 pick self.now.bodies ≡ Some cause.event) }
         ensures cause { IfOk result (λ step. step.cause ≡ cause) }
-        ensures ready { IfOk result (λ step. IsReady (environment F.machine F.reading identity.now) identity.now.party.0 cause.moment.0 F.within (state_of F.reading self.now.bodies) None step) }
+        ensures ready { IfOk result (λ step. IsReady (environment (unjudged F.machine F.reading) identity.now) identity.now.party.0 cause.moment.0 F.within (state_of F.reading self.now.bodies) None step) }
     {
         self.tables.kept();
         advance(
@@ -271,9 +271,9 @@ impl<D: Disk, F: FlowSet> Up<D, F> {
         requires tied { Tied identity.now self.old.journal self.old.bodies }
         requires by { (state_of F.reading self.old.bodies).moment ≤ now.0 }
         requires room { is_full F.reading 0 self.old.bodies ≡ false }
-        requires picked { (pick : Option ℕ) × (picked_at (environment F.machine F.reading identity.now) now.0 pick self.old.bodies ≡ Some picked.event) }
+        requires picked { (pick : Option ℕ) × (picked_at (environment (unjudged F.machine F.reading) identity.now) now.0 pick self.old.bodies ≡ Some picked.event) }
         requires idle { AreIdle (state_of F.reading self.old.bodies) picked.idle }
-        ensures commits { CommitsAs (environment F.machine F.reading identity.now) identity.now now.0 picked.event None self.old result self.new }
+        ensures commits { CommitsAs (environment (unjudged F.machine F.reading) identity.now) identity.now now.0 picked.event None self.old result self.new }
         ensures by { (state_of F.reading self.new.bodies).moment ≤ now.0 }
     {
         let Picked { event, idle } = picked;
@@ -299,8 +299,8 @@ impl<D: Disk, F: FlowSet> Up<D, F> {
         requires by { (state_of F.reading self.old.bodies).moment ≤ now.0 }
         requires room { is_full F.reading 0 self.old.bodies ≡ false }
         requires cause { step.cause ≡ next_cause (state_of F.reading self.old.bodies) now.0 step.cause.event None }
-        requires ready { IsReady (environment F.machine F.reading identity.now) identity.now.party.0 now.0 F.within (state_of F.reading self.old.bodies) None step }
-        ensures commits { CommitsAs (environment F.machine F.reading identity.now) identity.now now.0 step.cause.event None self.old result self.new }
+        requires ready { IsReady (environment (unjudged F.machine F.reading) identity.now) identity.now.party.0 now.0 F.within (state_of F.reading self.old.bodies) None step }
+        ensures commits { CommitsAs (environment (unjudged F.machine F.reading) identity.now) identity.now now.0 step.cause.event None self.old result self.new }
         ensures by { (state_of F.reading self.new.bodies).moment ≤ now.0 }
     {
         self.commit(alloc, identity, now, step)
@@ -316,7 +316,7 @@ impl<D: Disk, F: FlowSet> Up<D, F> {
         args: &ByteList,
     ) -> Result<Step<F>, MakeFault>
         requires { IsIdentity identity.now }
-        ensures { IsBegun (environment F.machine F.reading identity.now) identity.now.party.0 (max (state_of F.reading self.now.bodies).stamp 0 + 1) now F.within (state_of F.reading self.now.bodies) class args.now result }
+        ensures { IsBegun (environment (unjudged F.machine F.reading) identity.now) identity.now.party.0 (max (state_of F.reading self.now.bodies).stamp 0 + 1) now F.within (state_of F.reading self.now.bodies) class args.now result }
     {
         begin(
             alloc,
@@ -352,7 +352,7 @@ impl<D: Disk, F: FlowSet> Up<D, F> {
         requires small { item.number + 1 < 2 ^ 32 }
         requires early { item.stamp < 2 ^ 63 }
         ensures cause { IfOk result (λ step. step.cause ≡ record { stamp = max (state_of F.reading self.now.bodies).stamp item.stamp + 1; moment = now; event = accepting (state_of F.reading self.now.bodies).sessions item.key item.direction item.number }) }
-        ensures ready { IfOk result (λ step. IsReady (environment F.machine F.reading identity.now) identity.now.party.0 now.0 F.within (state_of F.reading self.now.bodies) (Some item.body) step) }
+        ensures ready { IfOk result (λ step. IsReady (environment (unjudged F.machine F.reading) identity.now) identity.now.party.0 now.0 F.within (state_of F.reading self.now.bodies) (Some item.body) step) }
     {
         let stamp = self.next_stamp(item.stamp);
         let Item {
@@ -380,8 +380,8 @@ impl<D: Disk, F: FlowSet> Up<D, F> {
     ) -> Result<(), CommitFault>
         requires tied { Tied identity.now self.old.journal self.old.bodies }
         requires by { (state_of F.reading self.old.bodies).moment ≤ now.0 }
-        requires ready { (item : Option Sent) × MayCommit (environment F.machine F.reading identity.now) identity.now now.0 F.within self.old.bodies item step }
-        ensures commits { (item : Option Sent) → MayCommit (environment F.machine F.reading identity.now) identity.now now.0 F.within self.old.bodies item step → CommitsAs (environment F.machine F.reading identity.now) identity.now now.0 step.cause.event item self.old result self.new }
+        requires ready { (item : Option Sent) × MayCommit (environment (unjudged F.machine F.reading) identity.now) identity.now now.0 F.within self.old.bodies item step }
+        ensures commits { (item : Option Sent) → MayCommit (environment (unjudged F.machine F.reading) identity.now) identity.now now.0 F.within self.old.bodies item step → CommitsAs (environment (unjudged F.machine F.reading) identity.now) identity.now now.0 step.cause.event item self.old result self.new }
         ensures by { (state_of F.reading self.new.bodies).moment ≤ now.0 }
     {
         self.tables.kept();

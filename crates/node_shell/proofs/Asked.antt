@@ -3,7 +3,7 @@ use Rattle.std.proofs.Common.{◌≡◌, inl, inr, ℕ, true, false, List, Optio
 use Rattle.std.specs.Prelude.{IfOk, IsErr}
 use Rattle.flow_machine.specs.Machine.{Machine}
 use Rattle.flow_machine.specs.declared.flow_set.WordFault.{WordFault}
-use Rattle.net_model.specs.Environment.{Environment, environment}
+use Rattle.net_model.specs.Environment.{Environment, environment, Meaning}
 use Rattle.node_tables.specs.Journals.{Reads}
 use Rattle.network_core.specs.declared.steps.Outcome.{Outcome}
 use Rattle.network_core.specs.declared.steps.Step.{Step}
@@ -45,8 +45,8 @@ ok_outcome E o = Ok o
 abbrev err_outcome : {E : Type 0} → E → Result Outcome E
 err_outcome fault = Err fault
 
-module _ {F : Type 0} (E : Type 0) (m : Machine F) (f : Reads F) (old new : NetSeen) where
-  as_told : (s : Step) (o : Outcome) → Answered m f s old (ok_outcome E o) new → Answered m f s old (answer_of (Some o)) new
+module _ {F : Type 0} (E : Type 0) (m : Meaning F) (old new : NetSeen) where
+  as_told : (s : Step) (o : Outcome) → Answered m s old (ok_outcome E o) new → Answered m s old (answer_of (Some o)) new
   as_told (step.Clock to) o h = h
   as_told (step.Start node class args) o h = h
   as_told (step.Turn node pick) o h = h
@@ -58,7 +58,7 @@ module _ {F : Type 0} (E : Type 0) (m : Machine F) (f : Reads F) (old new : NetS
   as_told (step.Boot node) o h = h
   as_told step.Drain o h = h
 
-  as_untold : (s : Step) (fault : E) → Answered m f s old (err_outcome fault) new → Answered m f s old (answer_of None) new
+  as_untold : (s : Step) (fault : E) → Answered m s old (err_outcome fault) new → Answered m s old (answer_of None) new
   as_untold (step.Clock to) fault h = h
   as_untold (step.Start node class args) fault h = h
   as_untold (step.Turn node pick) fault h = h
@@ -70,46 +70,46 @@ module _ {F : Type 0} (E : Type 0) (m : Machine F) (f : Reads F) (old new : NetS
   as_untold (step.Boot node) fault h = h
   as_untold step.Drain fault h = h
 
-module _ {F : Type 0} (m : Machine F) (f : Reads F) where
+module _ {F : Type 0} (m : Meaning F) where
   -- an outcome is told
-  pub told : (old new : NetSeen) (s : Step) (o : Outcome) → KeepsWorld m f old new (λ e w v. Serve e s w (Some o) v) → KeepsWorld m f old new (λ e w v. (p : Outcome) × Serve e s w (Some p) v × (Told o ≡ Told p))
+  pub told : (old new : NetSeen) (s : Step) (o : Outcome) → KeepsWorld m old new (λ e w v. Serve e s w (Some o) v) → KeepsWorld m old new (λ e w v. (p : Outcome) × Serve e s w (Some p) v × (Told o ≡ Told p))
   told old new s o keeps id w shows coherent = let k = keeps id w shows coherent in (k.0, k.1, k.2, (o, k.3, refl))
 
-  pub untold : {E : Type 0} (old new : NetSeen) (s : Step) (result : Result Reply E) → IsErr result → KeepsWorld m f old new (λ e w v. Serve e s w None v) → KeepsWorld m f old new (λ e w v. StepComes e w s result v)
+  pub untold : {E : Type 0} (old new : NetSeen) (s : Step) (result : Result Reply E) → IsErr result → KeepsWorld m old new (λ e w v. Serve e s w None v) → KeepsWorld m old new (λ e w v. StepComes e w s result v)
   untold old new s (Ok reply) is keeps = cc
   untold old new s (Err fault) is keeps = keeps
 
   -- what the words ask for
-  pub asked_as : {E : Type 0} (old new : NetSeen) (asked : Command) (ws : List (List ℕ)) (result : Result Reply E) → asked ≡ command_of ws → KeepsWorld m f old new (λ e w v. Comes e w asked ws result v)
-      → KeepsWorld m f old new (λ e w v. Comes e w (command_of ws) ws result v)
-  asked_as old new asked ws result is keeps = subst (λ (a : Command). KeepsWorld m f old new (λ e w v. Comes e w a ws result v)) is keeps
+  pub asked_as : {E : Type 0} (old new : NetSeen) (asked : Command) (ws : List (List ℕ)) (result : Result Reply E) → asked ≡ command_of ws → KeepsWorld m old new (λ e w v. Comes e w asked ws result v)
+      → KeepsWorld m old new (λ e w v. Comes e w (command_of ws) ws result v)
+  asked_as old new asked ws result is keeps = subst (λ (a : Command). KeepsWorld m old new (λ e w v. Comes e w a ws result v)) is keeps
 
   pub made : {E : Type 0} (old new : NetSeen) (asked : Command) (ws : List (List ℕ)) (s : Step) (result : Result Reply E) → step_of m asked ws ≡ Some s
-      → KeepsWorld m f old new (λ e w v. StepComes e w s result v) → KeepsWorld m f old new (λ e w v. Comes e w asked ws result v)
+      → KeepsWorld m old new (λ e w v. StepComes e w s result v) → KeepsWorld m old new (λ e w v. Comes e w asked ws result v)
   made old new asked ws s result is keeps id w shows coherent =
       let k = keeps id w shows coherent in
-      (k.0, k.1, k.2, step_comes (environment m f id) w asked ws s result k.0 is k.3)
+      (k.0, k.1, k.2, step_comes (environment m id) w asked ws s result k.0 is k.3)
 
   pub answered : {E : Type 0} (net : NetSeen) (asked : Command) (ws : List (List ℕ)) (result : Result Reply E) → step_of m asked ws ≡ None
-      → IfOk result (IsShown m f net asked ws) → KeepsWorld m f net net (λ e w v. Comes e w asked ws result v)
+      → IfOk result (IsShown m net asked ws) → KeepsWorld m net net (λ e w v. Comes e w asked ws result v)
   answered net asked ws result is shown id w shows coherent =
-      let e = environment m f id in
+      let e = environment m id in
       (w, shows, coherent, answer_comes e w asked ws result is (all_ok result (shown_answers e net w shows coherent asked ws) shown))
 
   -- a start of a flow whose words are known
   pub started : {E : Type 0} (old new : NetSeen) (node : ℕ) (ws : List (List ℕ)) (class : ℕ) (args : List ℕ) (result : Result Reply E) → started_by m ws ≡ Ok (class, args)
-      → KeepsWorld m f old new (λ e w v. StepComes e w (step.Start (place_of node) class args) result v) → KeepsWorld m f old new (λ e w v. Comes e w (command.Start node) ws result v)
+      → KeepsWorld m old new (λ e w v. StepComes e w (step.Start (place_of node) class args) result v) → KeepsWorld m old new (λ e w v. Comes e w (command.Start node) ws result v)
   started old new node ws class args result is keeps =
       made old new (command.Start node) ws (step.Start (place_of node) class args) result (ap (λ x. start_step (place_of node) x) is) keeps
 
   -- words that start no flow
-  none_shown : (net : NetSeen) (node : ℕ) (ws : List (List ℕ)) (fault : WordFault) (reply : Reply) → started_by m ws ≡ Err fault → StartsNone net (place_of node) (Err fault) reply → IsShown m f net (command.Start node) ws reply
+  none_shown : (net : NetSeen) (node : ℕ) (ws : List (List ℕ)) (fault : WordFault) (reply : Reply) → started_by m ws ≡ Err fault → StartsNone net (place_of node) (Err fault) reply → IsShown m net (command.Start node) ws reply
   none_shown net node ws fault reply is given = subst (λ x. StartsNone net (place_of node) x reply) (sym is) given
 
   pub unstarted : (net : NetSeen) (node : ℕ) (ws : List (List ℕ)) (fault : WordFault) (reply : Reply) → started_by m ws ≡ Err fault → StartsNone net (place_of node) (Err fault) reply
-      → KeepsWorld m f net net (λ e w v. Serves e w (command.Start node) ws reply v)
+      → KeepsWorld m net net (λ e w v. Serves e w (command.Start node) ws reply v)
   unstarted net node ws fault reply is shown id w shows coherent =
-      let e = environment m f id in
+      let e = environment m id in
       let none : step_of m (command.Start node) ws ≡ None = ap (λ x. start_step (place_of node) x) is in
       (w, shows, coherent, rw none (shown_answers e net w shows coherent (command.Start node) ws reply (none_shown net node ws fault reply is shown), refl))
 
@@ -119,31 +119,31 @@ module _ {F : Type 0} (m : Machine F) (f : Reads F) where
   no_err is = cc
 
   -- an outcome is told, and want of memory is
-  pub told_so : {E : Type 0} (old new : NetSeen) (s : Step) (answer : Result Outcome E) (o : Outcome) → answer ≡ Ok o → Answered m f s old answer new → ServesPairs m f s (Some o) old new → StepResponds m f s old (Some (Told o)) new
-  told_so {E} old new s answer o is h pairs = (o, as_told E m f old new s o (subst (λ r. Answered m f s old r new) is h), refl, pairs)
+  pub told_so : {E : Type 0} (old new : NetSeen) (s : Step) (answer : Result Outcome E) (o : Outcome) → answer ≡ Ok o → Answered m s old answer new → ServesPairs m s (Some o) old new → StepResponds m s old (Some (Told o)) new
+  told_so {E} old new s answer o is h pairs = (o, as_told E m old new s o (subst (λ r. Answered m s old r new) is h), refl, pairs)
 
-  pub untold_so : {E G : Type 0} (old new : NetSeen) (s : Step) (result : Result Reply E) (fault : G) → IsErr result → Answered m f s old (err_outcome fault) new → ServesPairs m f s None old new → StepResponds m f s old (given result) new
+  pub untold_so : {E G : Type 0} (old new : NetSeen) (s : Step) (result : Result Reply E) (fault : G) → IsErr result → Answered m s old (err_outcome fault) new → ServesPairs m s None old new → StepResponds m s old (given result) new
   untold_so old new s (Ok reply) fault is h pairs = absurd (no_err is)
-  untold_so {G = G} old new s (Err why) fault is h pairs = inr (as_untold G m f old new s fault h, pairs)
+  untold_so {G = G} old new s (Err why) fault is h pairs = inr (as_untold G m old new s fault h, pairs)
 
-  pub asked_responds : (old new : NetSeen) (asked : Command) (ws : List (List ℕ)) (reply : Option Reply) → asked ≡ command_of ws → CommandResponds m f asked ws old reply new → CommandResponds m f (command_of ws) ws old reply new
-  asked_responds old new asked ws reply is h = subst (λ (a : Command). CommandResponds m f a ws old reply new) is h
+  pub asked_responds : (old new : NetSeen) (asked : Command) (ws : List (List ℕ)) (reply : Option Reply) → asked ≡ command_of ws → CommandResponds m asked ws old reply new → CommandResponds m (command_of ws) ws old reply new
+  asked_responds old new asked ws reply is h = subst (λ (a : Command). CommandResponds m a ws old reply new) is h
 
-  pub shown_responds : {E : Type 0} (net : NetSeen) (asked : Command) (ws : List (List ℕ)) (result : Result Reply E) → step_of m asked ws ≡ None → IfOk result (IsShown m f net asked ws) → CommandResponds m f asked ws net (given result) net
+  pub shown_responds : {E : Type 0} (net : NetSeen) (asked : Command) (ws : List (List ℕ)) (result : Result Reply E) → step_of m asked ws ≡ None → IfOk result (IsShown m net asked ws) → CommandResponds m asked ws net (given result) net
   shown_responds net asked ws (Ok reply) is h = rw is (h, refl)
   shown_responds net asked ws (Err fault) is h = rw is (tt, refl)
 
   pub start_responds : (old new : NetSeen) (node : ℕ) (ws : List (List ℕ)) (class : ℕ) (args : List ℕ) (reply : Option Reply) → started_by m ws ≡ Ok (class, args)
-      → StepResponds m f (step.Start (place_of node) class args) old reply new → CommandResponds m f (command.Start node) ws old reply new
-  start_responds old new node ws class args reply is h = subst (λ x. Responds m f (start_step (place_of node) x) (command.Start node) ws old reply new) (sym is) h
+      → StepResponds m (step.Start (place_of node) class args) old reply new → CommandResponds m (command.Start node) ws old reply new
+  start_responds old new node ws class args reply is h = subst (λ x. Responds m (start_step (place_of node) x) (command.Start node) ws old reply new) (sym is) h
 
   pub none_responds : (net : NetSeen) (node : ℕ) (ws : List (List ℕ)) (fault : WordFault) (reply : Reply) → started_by m ws ≡ Err fault → StartsNone net (place_of node) (Err fault) reply
-      → CommandResponds m f (command.Start node) ws net (Some reply) net
+      → CommandResponds m (command.Start node) ws net (Some reply) net
   none_responds net node ws fault reply is shown =
-      subst (λ x. Responds m f (start_step (place_of node) x) (command.Start node) ws net (Some reply) net) (sym is) (none_shown net node ws fault reply is shown, refl)
+      subst (λ x. Responds m (start_step (place_of node) x) (command.Start node) ws net (Some reply) net) (sym is) (none_shown net node ws fault reply is shown, refl)
 
   -- want of memory before a step was begun
-  pub unbegun : (net : NetSeen) (s : Option Step) (asked : Command) (ws : List (List ℕ)) → Responds m f s asked ws net None net
+  pub unbegun : (net : NetSeen) (s : Option Step) (asked : Command) (ws : List (List ℕ)) → Responds m s asked ws net None net
   unbegun net None asked ws = (tt, refl)
   unbegun net (Some s) asked ws = inl refl
 
@@ -154,14 +154,14 @@ line_comes : {F E : Type 0} (e : Environment F) (w : World) (line : List ℕ) (r
 line_comes e w line (Ok reply) v some plain h = rw (some, plain) h
 line_comes e w line (Err fault) v some plain h = rw (some, plain) h
 
-module _ {F : Type 0} (m : Machine F) (f : Reads F) where
+module _ {F : Type 0} (m : Meaning F) where
   pub line_served : {E : Type 0} (old new : NetSeen) (line : List ℕ) (ws : List (List ℕ)) (result : Result Reply E) → has_no_answer line ≡ false → is_readable line ≡ true → ws ≡ words_of line
-      → KeepsWorld m f old new (λ e w v. Comes e w (command_of ws) ws result v) → KeepsWorld m f old new (λ e w v. LineComes e w line result v)
+      → KeepsWorld m old new (λ e w v. Comes e w (command_of ws) ws result v) → KeepsWorld m old new (λ e w v. LineComes e w line result v)
   line_served old new line ws result some plain is keeps id w shows coherent =
       let k = keeps id w shows coherent in
-      let e = environment m f id in
+      let e = environment m id in
       (k.0, k.1, k.2, line_comes e w line result k.0 some plain (subst (λ (t : List (List ℕ)). Comes e w (command_of t) t result k.0) is k.3))
 
   pub line_responds : (old new : NetSeen) (line : List ℕ) (ws : List (List ℕ)) (reply : Option Reply) → has_no_answer line ≡ false → is_readable line ≡ true → ws ≡ words_of line
-      → CommandResponds m f (command_of ws) ws old reply new → LineResponds m f line old reply new
-  line_responds old new line ws reply some plain is h = rw (some, plain) (subst (λ (t : List (List ℕ)). CommandResponds m f (command_of t) t old reply new) is h)
+      → CommandResponds m (command_of ws) ws old reply new → LineResponds m line old reply new
+  line_responds old new line ws reply some plain is h = rw (some, plain) (subst (λ (t : List (List ℕ)). CommandResponds m (command_of t) t old reply new) is h)

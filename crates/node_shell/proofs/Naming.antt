@@ -1,4 +1,5 @@
 -- A script leaves each disk attached as it was.
+use Rattle.net_model.specs.Environment.{Meaning}
 use Rattle.std.proofs.Common.{◌≡◌, inl, inr, ⊎_elim, ℕ, List, Bool, true, false, Option, Some, None, refl, sym, ◌∙◌, ap}
 use Rattle.std.specs.Prelude.{MatchBool}
 use Rattle.flow_machine.specs.Machine.{Machine}
@@ -18,50 +19,50 @@ use Rattle.node_shell.specs.Serve.{step_of}
 use Rattle.node_shell.specs.Responds.{StepResponds, Responds, CommandResponds, LineResponds, NetLink, NetShort}
 use Rattle.node_shell.specs.Story.{Story, begins, goes_on, CutOff, LeftOff, EndsWith, ScriptRun}
 
-module _ {F : Type 0} (m : Machine F) (f : Reads F) where
+module _ {F : Type 0} (m : Meaning F) where
   abbrev Keeps : NetSeen → NetSeen → Type 0
   Keeps a b = names_of b.nodes ≡ names_of a.nodes
 
   unmoved : (a b : NetSeen) → b ≡ a → Keeps a b
   unmoved a b is = ap (λ (z : NetSeen). names_of z.nodes) is
 
-  step_responds : (s : Step) (a b : NetSeen) (reply : Option Reply) → StepResponds m f s a reply b → Keeps a b
-  step_responds s a b (Some reply) h = step_names m f s a b (answer_of (Some h.0)) h.1
+  step_responds : (s : Step) (a b : NetSeen) (reply : Option Reply) → StepResponds m s a reply b → Keeps a b
+  step_responds s a b (Some reply) h = step_names m s a b (answer_of (Some h.0)) h.1
   step_responds s a b None (inl is) = unmoved a b is
-  step_responds s a b None (inr h) = step_names m f s a b (answer_of None) h.0
+  step_responds s a b None (inr h) = step_names m s a b (answer_of None) h.0
 
-  responds : (s : Option Step) (asked : Command) (words : List (List ℕ)) (a b : NetSeen) (reply : Option Reply) → Responds m f s asked words a reply b → Keeps a b
+  responds : (s : Option Step) (asked : Command) (words : List (List ℕ)) (a b : NetSeen) (reply : Option Reply) → Responds m s asked words a reply b → Keeps a b
   responds (Some s) asked words a b reply h = step_responds s a b reply h
   responds None asked words a b reply h = unmoved a b h.1
 
-  line_keeps : (a b : NetSeen) (line : List ℕ) (reply : Option Reply) → LineResponds m f line a reply b → Keeps a b
+  line_keeps : (a b : NetSeen) (line : List ℕ) (reply : Option Reply) → LineResponds m line a reply b → Keeps a b
   line_keeps a b line reply h = by (has_no_answer line) (is_readable line) h
     where
-      by : (blank plain : Bool) → MatchBool blank ((reply ≡ Some Silence) × (b ≡ a)) (MatchBool plain (CommandResponds m f (command_of (words_of line)) (words_of line) a reply b) ((reply ≡ Some (Told (outcome.Refused 1))) × (b ≡ a))) → Keeps a b
+      by : (blank plain : Bool) → MatchBool blank ((reply ≡ Some Silence) × (b ≡ a)) (MatchBool plain (CommandResponds m (command_of (words_of line)) (words_of line) a reply b) ((reply ≡ Some (Told (outcome.Refused 1))) × (b ≡ a))) → Keeps a b
       by true plain h = unmoved a b h.1
       by false true h = responds (step_of m (command_of (words_of line)) (words_of line)) (command_of (words_of line)) (words_of line) a b reply h
       by false false h = unmoved a b h.1
 
-  link_keeps : (a b : NetSeen) (line text : List ℕ) → NetLink m f a line text b → Keeps a b
+  link_keeps : (a b : NetSeen) (line text : List ℕ) → NetLink m a line text b → Keeps a b
   link_keeps a b line text link = line_keeps a b line (Some link.reply) link.responds
 
-  short_keeps : (a b : NetSeen) (line : List ℕ) → NetShort m f a line b → Keeps a b
+  short_keeps : (a b : NetSeen) (line : List ℕ) → NetShort m a line b → Keeps a b
   short_keeps a b line (inl left) = line_keeps a b line None left.responds
   short_keeps a b line (inr (text, link)) = link_keeps a b line text link
 
   module _ (start : NetSeen) where
-    story_keeps : (lines : List (List ℕ)) (out : List ℕ) (b : NetSeen) → Story (NetLink m f) start lines out b → Keeps start b
+    story_keeps : (lines : List (List ℕ)) (out : List ℕ) (b : NetSeen) → Story (NetLink m) start lines out b → Keeps start b
     story_keeps lines out b begins = refl
     story_keeps lines out b (goes_on {lines = earlier} {out = said} {before = a} line text before none link all longer) = link_keeps a b line text link ∙ story_keeps earlier said a before
 
     module _ {written0 written1 : Option (List ℕ)} {lines : List (List ℕ)} {b : NetSeen} where
-      cut_keeps : CutOff (NetLink m f) start written0 written1 lines b → Keeps start b
+      cut_keeps : CutOff (NetLink m) start written0 written1 lines b → Keeps start b
       cut_keeps c = link_keeps c.before b c.line _ c.linked ∙ story_keeps c.earlier c.out c.before c.story
 
-      left_keeps : LeftOff (NetLink m f) (NetShort m f) start written0 written1 lines b → Keeps start b
+      left_keeps : LeftOff (NetLink m) (NetShort m) start written0 written1 lines b → Keeps start b
       left_keeps l = short_keeps l.before b l.line l.ran_short ∙ story_keeps l.earlier l.out l.before l.story
 
-    ends_keeps : (left written0 written1 : Option (List ℕ)) (count : ℕ) (lines : List (List ℕ)) (rest : List ℕ) (b : NetSeen) (s : Status) → EndsWith (NetLink m f) (NetShort m f) start left written0 written1 count lines rest b s → Keeps start b
+    ends_keeps : (left written0 written1 : Option (List ℕ)) (count : ℕ) (lines : List (List ℕ)) (rest : List ℕ) (b : NetSeen) (s : Status) → EndsWith (NetLink m) (NetShort m) start left written0 written1 count lines rest b s → Keeps start b
     ends_keeps left written0 written1 count lines rest b status.Finished h = story_keeps _ h.1.out b h.1.story
     ends_keeps left written0 written1 count lines rest b status.BadWords h = absurd h
     ends_keeps left written0 written1 count lines rest b status.TooLong h = story_keeps _ h.2.out b h.2.story
@@ -71,5 +72,5 @@ module _ {F : Type 0} (m : Machine F) (f : Reads F) where
     ends_keeps left written0 written1 count lines rest b status.NoMemory h = ⊎_elim (λ l. left_keeps l.0) (λ unread. story_keeps _ unread.2.out b unread.2.story) h
     ends_keeps left written0 written1 count lines rest b status.BadJournal h = absurd h
 
-    pub script_keeps : (left0 left1 written0 written1 : Option (List ℕ)) (count : ℕ) (b : NetSeen) (s : Status) → ScriptRun (NetLink m f) (NetShort m f) start left0 left1 written0 written1 count b s → Keeps start b
+    pub script_keeps : (left0 left1 written0 written1 : Option (List ℕ)) (count : ℕ) (b : NetSeen) (s : Status) → ScriptRun (NetLink m) (NetShort m) start left0 left1 written0 written1 count b s → Keeps start b
     script_keeps left0 left1 written0 written1 count b s run = ends_keeps left1 written0 written1 count run.lines run.rest b s run.ends

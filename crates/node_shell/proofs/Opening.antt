@@ -15,7 +15,7 @@ use Rattle.net_base.specs.declared.values.Party.{Party}
 use Rattle.net_base.proofs.Lists.{get_beside}
 use Rattle.net_base.proofs.Options.{some_eq}
 use Rattle.flow_machine.specs.Machine.{Machine}
-use Rattle.net_model.specs.Environment.{Environment, environment}
+use Rattle.net_model.specs.Environment.{Environment, environment, Meaning}
 use Rattle.node_tables.specs.Journals.{Reads}
 use Rattle.node_core.specs.Disks.{roomless}
 use Rattle.node_tables.specs.Fits.{misfit}
@@ -295,23 +295,23 @@ gave_up_told node boot.NotAJournal written0 written1 s gave told = absurd gave
 gave_up_told node (boot.WrongNode found) written0 written1 s gave told = absurd gave
 gave_up_told node (boot.Damaged at) written0 written1 s gave told = absurd gave
 
-module _ {F : Type 0} (m : Machine F) (f : Reads F) (nodes : ℕ) (notary : Party) where
+module _ {F : Type 0} (m : Meaning F) (nodes : ℕ) (notary : Party) where
   abbrev e : Environment F
-  e = environment m f (member nodes notary 0)
+  e = environment m (member nodes notary 0)
 
   pub played : (ds bs : List DiskView) (w : World) (begun ended : NetSeen) (left0 left1 written0 written1 : Option (List ℕ)) (count : ℕ) (s : Status)
-      → IsScriptStatus s → KeepOwn f nodes notary ds → BeginsWorld m f nodes notary ds begun
-      → BootsUpTo f nodes begun.now (nodes_over nodes notary 0 ds) begun.nodes → begun.waiting ≡ map (λ (n : NodeSeen). []) begun.nodes
-      → ScriptRun (NetLink m f) (NetShort m f) begun left0 left1 written0 written1 count ended s
-      → ((id : Identity) (start : World) (first : Shows (environment m f id) begun start) (sound : Coherent (environment m f id) start) → InPair (environment m f id) ended (λ v. ScriptRun (PairLink m f id) (PairShort m f id) (with_world begun start first sound) left0 left1 written0 written1 count v s))
+      → IsScriptStatus s → KeepOwn m.frame_at nodes notary ds → BeginsWorld m nodes notary ds begun
+      → BootsUpTo m.frame_at nodes begun.now (nodes_over nodes notary 0 ds) begun.nodes → begun.waiting ≡ map (λ (n : NodeSeen). []) begun.nodes
+      → ScriptRun (NetLink m) (NetShort m) begun left0 left1 written0 written1 count ended s
+      → ((id : Identity) (start : World) (first : Shows (environment m id) begun start) (sound : Coherent (environment m id) start) → InPair (environment m id) ended (λ v. ScriptRun (PairLink m id) (PairShort m id) (with_world begun start first sound) left0 left1 written0 written1 count v s))
       → map (λ (n : NodeSeen). n.disk) ended.nodes ≡ map roomless bs
-      → Shows e (over e w.now ds) w → Coherent e w → PlaysOrRefuses m f nodes notary w ds bs left0 left1 written0 written1 count s
+      → Shows e (over e w.now ds) w → Coherent e w → PlaysOrRefuses m nodes notary w ds bs left0 left1 written0 written1 count s
   played ds bs w begun ended left0 left1 written0 written1 count s script own begins boots quiet went ran disks shows coherent =
       let start = begins w.now w shows coherent in
       let end = ran (member nodes notary 0) start.0 start.1 start.2 in
       let first = with_world begun start.0 start.1 start.2 in
       let last = with_world ended end.world end.shows end.coherent in
-      let worlds = (scripts_are_both m f (member nodes notary 0) first last left0 left1 written0 written1 count s end.holds).worlds in
+      let worlds = (scripts_are_both m (member nodes notary 0) first last left0 left1 written0 written1 count s end.holds).worlds in
       let reaches = script_reaches e start.0 left0 left1 written0 written1 count end.world s worlds in
       inl (record {
         plays = record {
@@ -323,7 +323,7 @@ module _ {F : Type 0} (m : Machine F) (f : Reads F) (nodes : ℕ) (notary : Part
           begins = start.3;
           last = end.world;
           script = worlds;
-          rests = rests m f nodes notary ended end.world bs end.shows end.coherent disks;
+          rests = rests m nodes notary ended end.world bs end.shows end.coherent disks;
           openable = down_openable end.world (reaches_openable e start.0 end.world reaches (begun_openable e w start.0 start.3));
           reaches = reaches;
           coherent = λ u to. reaches_coherent e start.0 u start.2 to;
@@ -342,24 +342,24 @@ module _ {F : Type 0} (m : Machine F) (f : Reads F) (nodes : ℕ) (notary : Part
 
   -- the boot that was refused
   abbrev Stopped : List DiskView → ℕ → BootFault → List DiskView → Type 0
-  Stopped ds node why bs = (x : DiskView) × (y : DiskView) × (slice_get ds node ≡ Some x) × (slice_get bs node ≡ Some y) × BootsAs f (node_over nodes notary node x) (no_boot why) (node_over nodes notary node y)
+  Stopped ds node why bs = (x : DiskView) × (y : DiskView) × (slice_get ds node ≡ Some x) × (slice_get bs node ≡ Some y) × BootsAs m.frame_at (node_over nodes notary node x) (no_boot why) (node_over nodes notary node y)
 
-  stopped_cause : (ds bs : List DiskView) (node : ℕ) (why : BootFault) → Stopped ds node why bs → (d b : DiskView) → slice_get ds node ≡ Some d → slice_get bs node ≡ Some b → HasCause f (member nodes notary node) d why b
+  stopped_cause : (ds bs : List DiskView) (node : ℕ) (why : BootFault) → Stopped ds node why bs → (d b : DiskView) → slice_get ds node ≡ Some d → slice_get bs node ≡ Some b → HasCause m.frame_at (member nodes notary node) d why b
   stopped_cause ds bs node why q d b at there =
       let one : q.0 ≡ d = cc in
       let two : q.1 ≡ b = cc in
-      subst (λ u. HasCause f (member nodes notary node) u why b) one (subst (HasCause f (member nodes notary node) q.0 why) two (boot_cause f (member nodes notary node) why q.0 q.1 q.4.3))
+      subst (λ u. HasCause m.frame_at (member nodes notary node) u why b) one (subst (HasCause m.frame_at (member nodes notary node) q.0 why) two (boot_cause m.frame_at (member nodes notary node) why q.0 q.1 q.4.3))
 
   stopped_left : (ds bs : List DiskView) (node : ℕ) (why : BootFault) → Stopped ds node why bs → (d b : DiskView) → slice_get ds node ≡ Some d → slice_get bs node ≡ Some b → AfterRefusal why d b
   stopped_left ds bs node why q d b at there =
-      subst (λ u. AfterRefusal why u b) (some_eq (sym q.2 ∙ at)) (subst (AfterRefusal why q.0) (some_eq (sym q.3 ∙ there)) (boot_left f (member nodes notary node) why q.0 q.1 q.4.3))
+      subst (λ u. AfterRefusal why u b) (some_eq (sym q.2 ∙ at)) (subst (AfterRefusal why q.0) (some_eq (sym q.3 ∙ there)) (boot_left m.frame_at (member nodes notary node) why q.0 q.1 q.4.3))
 
   stopped_calm : (ds bs : List DiskView) (node : ℕ) (why : BootFault) → Stopped ds node why bs → (d b : DiskView) → slice_get ds node ≡ Some d → slice_get bs node ≡ Some b → KeepsCalm d b
   stopped_calm ds bs node why q d b at there =
       subst (λ u. KeepsCalm u b) (some_eq (sym q.2 ∙ at)) (subst (KeepsCalm q.0) (some_eq (sym q.3 ∙ there)) (q.4.3.moves.later, q.4.3.calm))
 
-  pub told_why : (ds bs : List DiskView) (node : ℕ) (why : BootFault) (written0 written1 : Option (List ℕ)) (s : Status) → 0 < nodes → length ds ≡ nodes → IsRefused m f nodes notary ds node why bs
-      → RefusedWith node why written0 written1 s → IsToldWhy f nodes notary ds bs written0 written1 s
+  pub told_why : (ds bs : List DiskView) (node : ℕ) (why : BootFault) (written0 written1 : Option (List ℕ)) (s : Status) → 0 < nodes → length ds ≡ nodes → IsRefused m nodes notary ds node why bs
+      → RefusedWith node why written0 written1 s → IsToldWhy m.frame_at nodes notary ds bs written0 written1 s
   told_why ds bs node why written0 written1 s some count r told = record {
     node = node;
     within = ⊎_elim (λ (p : (why ≡ boot.Memory) × (node ≡ 0) × (bs ≡ ds)). let first = p.1 in omega (arith, first, some)) (λ (q : Stopped ds node why bs). let within = slice_get_within ds node q.0 q.2 in omega (arith, within, count)) r.refused;
@@ -367,14 +367,14 @@ module _ {F : Type 0} (m : Machine F) (f : Reads F) (nodes : ℕ) (notary : Part
         let b = get_beside ds bs p d (sym r.count) at in
         let up = r.earlier p d b.0 before at b.1 in
         let id = member nodes notary p in
-        λ tells. (up.1.4.opens.format tells, subst (λ l. misfit f id.notary id.nodes id.party l ≡ None) (up.1.4.opens.told tells) up.1.4.fits);
+        λ tells. (up.1.4.opens.format tells, subst (λ l. misfit m.frame_at id.notary id.nodes id.party l ≡ None) (up.1.4.opens.told tells) up.1.4.fits);
     opened = λ p d b before at there.
         let up = r.earlier p d b before at there in
         boot_opened (member nodes notary p) d b up.0.disk up.1.0 up.2 up.1.4.opens;
     later = λ p d b behind at there. same_stays (roomless d) (roomless b) (r.later p d b behind at there);
     why = why;
     cause = λ d b at there.
-        ⊎_elim (λ (p : (why ≡ boot.Memory) × (node ≡ 0) × (bs ≡ ds)). subst (λ y. HasCause f (member nodes notary node) d y b) (sym p.0) tt) (λ (q : Stopped ds node why bs). stopped_cause ds bs node why q d b at there) r.refused;
+        ⊎_elim (λ (p : (why ≡ boot.Memory) × (node ≡ 0) × (bs ≡ ds)). subst (λ y. HasCause m.frame_at (member nodes notary node) d y b) (sym p.0) tt) (λ (q : Stopped ds node why bs). stopped_cause ds bs node why q d b at there) r.refused;
     left = λ d b at there.
         ⊎_elim (λ (p : (why ≡ boot.Memory) × (node ≡ 0) × (bs ≡ ds)). same_refused why d b (some_eq (sym at ∙ ap (λ l. slice_get l node) (sym p.2) ∙ there))) (λ (q : Stopped ds node why bs). stopped_left ds bs node why q d b at there) r.refused;
     calm = λ p d b at there.
@@ -394,26 +394,26 @@ module _ {F : Type 0} (m : Machine F) (f : Reads F) (nodes : ℕ) (notary : Part
     told = told;
   }
 
-  pub fault_why : (ds bs : List DiskView) (node : ℕ) (why : BootFault) (written0 written1 : Option (List ℕ)) (s : Status) → length ds ≡ nodes → IsRefused m f nodes notary ds node why bs → RefusedWith node why written0 written1 s → s ≡ status.DiskFault → OneFails nodes ds bs
+  pub fault_why : (ds bs : List DiskView) (node : ℕ) (why : BootFault) (written0 written1 : Option (List ℕ)) (s : Status) → length ds ≡ nodes → IsRefused m nodes notary ds node why bs → RefusedWith node why written0 written1 s → s ≡ status.DiskFault → OneFails nodes ds bs
   fault_why ds bs node why written0 written1 s count r told is =
       let so : RefusedWith node why written0 written1 status.DiskFault = subst (RefusedWith node why written0 written1) is told in
       ⊎_elim
       (λ (p : (why ≡ boot.Memory) × (node ≡ 0) × (bs ≡ ds)). absurd (no_memory (subst (λ y. RefusedWith node y written0 written1 status.DiskFault) p.0 so).0))
       (λ (q : Stopped ds node why bs).
       let within = slice_get_within ds node q.0 q.2 in
-      record { place = node; own = omega (arith, within, count); before = q.0; after = q.1; at = q.2; now = q.3; fails = told_of_fault f (member nodes notary node) why q.0 q.1 node written0 written1 (boot_cause f (member nodes notary node) why q.0 q.1 q.4.3) so })
+      record { place = node; own = omega (arith, within, count); before = q.0; after = q.1; at = q.2; now = q.3; fails = told_of_fault m.frame_at (member nodes notary node) why q.0 q.1 node written0 written1 (boot_cause m.frame_at (member nodes notary node) why q.0 q.1 q.4.3) so })
       r.refused
 
   pub refused : (ds bs : List DiskView) (w : World) (node : ℕ) (why : BootFault) (left written0 written1 : Option (List ℕ)) (s : Status) → 0 < nodes → length ds ≡ nodes
-      → IsRefused m f nodes notary ds node why bs → RefusedWith node why written0 written1 s
-      → Shows e (over e w.now ds) w → Coherent e w → PlaysOrRefuses m f nodes notary w ds bs left left written0 written1 0 s
+      → IsRefused m nodes notary ds node why bs → RefusedWith node why written0 written1 s
+      → Shows e (over e w.now ds) w → Coherent e w → PlaysOrRefuses m nodes notary w ds bs left left written0 written1 0 s
   refused ds bs w node why left written0 written1 s some count r told shows coherent =
       let v = r.world w.now w shows coherent in
       inr (record {
         unread = refl;
         none = refl;
         world = v.0;
-        rests = refused_rests m f nodes notary w v.0 bs v.1 v.2;
+        rests = refused_rests m nodes notary w v.0 bs v.1 v.2;
         fewer = down_fewer why w v.0 v.3;
         kept = λ no p x y at there. (v.3.each p x y at there).kept (λ (is : why ≡ boot.Fault). no (status_of_fault node why written0 written1 s is told));
         openable = stay_openable why w v.0 v.3;
@@ -423,15 +423,15 @@ module _ {F : Type 0} (m : Machine F) (f : Reads F) (nodes : ℕ) (notary : Part
 
   -- the disks were not made ready, or there was no memory for that
   pub unready : (ds es : List DiskView) (w : World) (left written : Option (List ℕ)) (s : Status) → IsOpeningStatus s → AllStay ds es
-      → Shows e (over e w.now ds) w → Coherent e w → PlaysOrRefuses m f nodes notary w ds es left left written written 0 s
+      → Shows e (over e w.now ds) w → Coherent e w → PlaysOrRefuses m nodes notary w ds es left left written written 0 s
   unready ds es w left written s is stay shows coherent =
       let v = counted es w in
-      let made = made_counted m f nodes notary w ds es stay shows in
+      let made = made_counted m nodes notary w ds es stay shows in
       inr (record {
         unread = refl;
         none = refl;
         world = v;
-        rests = stands m f nodes notary v es (counted_shows m f nodes notary w ds es stay shows) (made_coherent m f nodes notary w v made coherent);
+        rests = stands m nodes notary v es (counted_shows m nodes notary w ds es stay shows) (made_coherent m nodes notary w v made coherent);
         fewer = made_fewer w v v made (same_fewer v);
         kept = λ no. made_journals w v v made (same_journals v);
         openable = made_openable w v made;
@@ -443,7 +443,7 @@ module _ {F : Type 0} (m : Machine F) (f : Reads F) (nodes : ℕ) (notary : Part
       → Plays e v ks bs left0 left1 written0 written1 count s → Plays e w ds bs left0 left1 written0 written1 count s
   plays_with w v ds ks bs left0 left1 written0 written1 count s made stay p = record {
     is_script = p.is_script;
-    own = all_own_since f nodes notary ds ks stay p.own;
+    own = all_own_since m.frame_at nodes notary ds ks stay p.own;
     ready = p.ready;
     made = made_then w v p.ready made p.made;
     start = p.start;
@@ -458,11 +458,11 @@ module _ {F : Type 0} (m : Machine F) (f : Reads F) (nodes : ℕ) (notary : Part
     acknowledged = p.acknowledged;
   }
 
-  goes_with : (ds ks bs : List DiskView) (left0 left1 written0 written1 : Option (List ℕ)) (count : ℕ) (s : Status) → AllStay ds ks → GoesOn m f nodes notary ks bs left0 left1 written0 written1 count s → GoesOn m f nodes notary ds bs left0 left1 written0 written1 count s
+  goes_with : (ds ks bs : List DiskView) (left0 left1 written0 written1 : Option (List ℕ)) (count : ℕ) (s : Status) → AllStay ds ks → GoesOn m nodes notary ks bs left0 left1 written0 written1 count s → GoesOn m nodes notary ds bs left0 left1 written0 written1 count s
   goes_with ds ks bs left0 left1 written0 written1 count s stay g = record { ready = g.ready; made = stay_then ds ks g.ready stay g.made; begun = g.begun; opened = g.opened; quiet = g.quiet; last = g.last; script = g.script; back = g.back }
 
   one_way_with : (w v : World) (ds ks bs : List DiskView) (left0 left1 written0 written1 : Option (List ℕ)) (count : ℕ) (s : Status) → MadeReady w v → AllStay ds ks
-      → PlaysOneWay m f nodes notary v ks bs left0 left1 written0 written1 count s → PlaysOneWay m f nodes notary w ds bs left0 left1 written0 written1 count s
+      → PlaysOneWay m nodes notary v ks bs left0 left1 written0 written1 count s → PlaysOneWay m nodes notary w ds bs left0 left1 written0 written1 count s
   unfolding goes_with plays_with
   one_way_with w v ds ks bs left0 left1 written0 written1 count s made stay p = record {
     plays = plays_with w v ds ks bs left0 left1 written0 written1 count s made stay p.plays;
@@ -487,55 +487,55 @@ module _ {F : Type 0} (m : Machine F) (f : Reads F) (nodes : ℕ) (notary : Part
     kept = λ no. made_journals w v r.world made (r.kept no);
     openable = λ on. r.openable (made_openable w v made on);
     opens = λ on. r.opens (made_openable w v made on);
-    why = ⊎_elim (λ (u : IsUnready ks bs written0 written1 s). inl (u.0, stay_then ds ks bs stay u.1)) (λ (t : IsToldWhy f nodes notary ks bs written0 written1 s). inr (told_since f nodes notary ds ks bs written0 written1 s stay t)) r.why;
+    why = ⊎_elim (λ (u : IsUnready ks bs written0 written1 s). inl (u.0, stay_then ds ks bs stay u.1)) (λ (t : IsToldWhy m.frame_at nodes notary ks bs written0 written1 s). inr (told_since m.frame_at nodes notary ds ks bs written0 written1 s stay t)) r.why;
   }
 
   -- the disks were made ready, and then the nodes opened or one did not
   ready : (ds ks bs : List DiskView) (w : World) (left0 left1 written0 written1 : Option (List ℕ)) (count : ℕ) (s : Status) → AllStay ds ks
-      → ((v : World) → Shows e (over e v.now ks) v → Coherent e v → PlaysOrRefuses m f nodes notary v ks bs left0 left1 written0 written1 count s)
-      → Shows e (over e w.now ds) w → Coherent e w → PlaysOrRefuses m f nodes notary w ds bs left0 left1 written0 written1 count s
+      → ((v : World) → Shows e (over e v.now ks) v → Coherent e v → PlaysOrRefuses m nodes notary v ks bs left0 left1 written0 written1 count s)
+      → Shows e (over e w.now ds) w → Coherent e w → PlaysOrRefuses m nodes notary w ds bs left0 left1 written0 written1 count s
   ready ds ks bs w left0 left1 written0 written1 count s stay runs shows coherent =
       let v = counted ks w in
-      let made = made_counted m f nodes notary w ds ks stay shows in
-      ⊎_elim (λ (p : PlaysOneWay m f nodes notary v ks bs left0 left1 written0 written1 count s). inl (one_way_with w v ds ks bs left0 left1 written0 written1 count s made stay p))
+      let made = made_counted m nodes notary w ds ks stay shows in
+      ⊎_elim (λ (p : PlaysOneWay m nodes notary v ks bs left0 left1 written0 written1 count s). inl (one_way_with w v ds ks bs left0 left1 written0 written1 count s made stay p))
       (λ (r : Refuses e v ks bs left0 left1 written0 written1 count s). inr (refuses_with w v ds ks bs left0 left1 written0 written1 count s made stay r))
-      (runs v (counted_shows m f nodes notary w ds ks stay shows) (made_coherent m f nodes notary w v made coherent))
+      (runs v (counted_shows m nodes notary w ds ks stay shows) (made_coherent m nodes notary w v made coherent))
 
   pub ready_at : (ds ks bs es : List DiskView) (w : World) (left0 left1 written0 written1 : Option (List ℕ)) (count : ℕ) (s : Status) → es ≡ bs → AllStay ds ks
-      → ((v : World) → Shows e (over e v.now ks) v → Coherent e v → PlaysOrRefuses m f nodes notary v ks bs left0 left1 written0 written1 count s)
-      → Shows e (over e w.now ds) w → Coherent e w → PlaysOrRefuses m f nodes notary w ds es left0 left1 written0 written1 count s
+      → ((v : World) → Shows e (over e v.now ks) v → Coherent e v → PlaysOrRefuses m nodes notary v ks bs left0 left1 written0 written1 count s)
+      → Shows e (over e w.now ds) w → Coherent e w → PlaysOrRefuses m nodes notary w ds es left0 left1 written0 written1 count s
   ready_at ds ks bs es w left0 left1 written0 written1 count s there stay runs shows coherent =
-      subst (λ x. PlaysOrRefuses m f nodes notary w ds x left0 left1 written0 written1 count s) (sym there) (ready ds ks bs w left0 left1 written0 written1 count s stay runs shows coherent)
+      subst (λ x. PlaysOrRefuses m nodes notary w ds x left0 left1 written0 written1 count s) (sym there) (ready ds ks bs w left0 left1 written0 written1 count s stay runs shows coherent)
 
   pub runs_as : (w : World) (ds bs : List DiskView) (left0 left1 written0 written1 : Option (List ℕ)) (count counted number : ℕ) (s : Status) → number ≡ number_of_status s → counted ≡ count
-      → PlaysOrRefuses m f nodes notary w ds bs left0 left1 written0 written1 count s → RunsAs m f nodes notary w ds bs left0 left1 written0 written1 counted number
-  runs_as w ds bs left0 left1 written0 written1 count counted number s is same ran = record { status = s; is = is; ran = subst (λ n. PlaysOrRefuses m f nodes notary w ds bs left0 left1 written0 written1 n s) (sym same) ran }
+      → PlaysOrRefuses m nodes notary w ds bs left0 left1 written0 written1 count s → RunsAs m nodes notary w ds bs left0 left1 written0 written1 counted number
+  runs_as w ds bs left0 left1 written0 written1 count counted number s is same ran = record { status = s; is = is; ran = subst (λ n. PlaysOrRefuses m nodes notary w ds bs left0 left1 written0 written1 n s) (sym same) ran }
 
 -- ---- over any disks
 
-module _ {F : Type 0} (m : Machine F) (f : Reads F) (nodes : ℕ) (notary : Party) where
+module _ {F : Type 0} (m : Meaning F) (nodes : ℕ) (notary : Party) where
   -- the disks were made ready before
   went_since : (ds ks bs : List DiskView) (left0 left1 written0 written1 : Option (List ℕ)) (count : ℕ) (s : Status) → AllStay ds ks
-      → GoesOrHalts m f nodes notary ks bs left0 left1 written0 written1 count s → GoesOrHalts m f nodes notary ds bs left0 left1 written0 written1 count s
-  went_since ds ks bs left0 left1 written0 written1 count s stay (inl g) = inl (goes_with m f nodes notary ds ks bs left0 left1 written0 written1 count s stay g)
+      → GoesOrHalts m nodes notary ks bs left0 left1 written0 written1 count s → GoesOrHalts m nodes notary ds bs left0 left1 written0 written1 count s
+  went_since ds ks bs left0 left1 written0 written1 count s stay (inl g) = inl (goes_with m nodes notary ds ks bs left0 left1 written0 written1 count s stay g)
   went_since ds ks bs left0 left1 written0 written1 count s stay (inr h) =
       inr (record {
         unread = h.unread;
         none = h.none;
-        why = ⊎_elim (λ (u : IsUnready ks bs written0 written1 s). inl (u.0, stay_then ds ks bs stay u.1)) (λ (t : IsToldWhy f nodes notary ks bs written0 written1 s). inr (told_since f nodes notary ds ks bs written0 written1 s stay t)) h.why;
+        why = ⊎_elim (λ (u : IsUnready ks bs written0 written1 s). inl (u.0, stay_then ds ks bs stay u.1)) (λ (t : IsToldWhy m.frame_at nodes notary ks bs written0 written1 s). inr (told_since m.frame_at nodes notary ds ks bs written0 written1 s stay t)) h.why;
       })
 
   pub went_at : (ds ks bs es : List DiskView) (left0 left1 written0 written1 : Option (List ℕ)) (count counted number : ℕ) (s : Status) → es ≡ bs → AllStay ds ks → number ≡ number_of_status s → counted ≡ count
-      → GoesOrHalts m f nodes notary ks bs left0 left1 written0 written1 count s → RunsAnyhow m f nodes notary ds es left0 left1 written0 written1 counted number
+      → GoesOrHalts m nodes notary ks bs left0 left1 written0 written1 count s → RunsAnyhow m nodes notary ds es left0 left1 written0 written1 counted number
   went_at ds ks bs es left0 left1 written0 written1 count counted number s there stay is same ran = record {
     status = s;
     is = is;
-    ran = subst (λ n. GoesOrHalts m f nodes notary ds es left0 left1 written0 written1 n s) (sym same) (subst (λ x. GoesOrHalts m f nodes notary ds x left0 left1 written0 written1 count s) (sym there) (went_since ds ks bs left0 left1 written0 written1 count s stay ran));
+    ran = subst (λ n. GoesOrHalts m nodes notary ds es left0 left1 written0 written1 n s) (sym same) (subst (λ x. GoesOrHalts m nodes notary ds x left0 left1 written0 written1 count s) (sym there) (went_since ds ks bs left0 left1 written0 written1 count s stay ran));
   }
 
   -- the disks were not made ready, or there was no memory for that
   pub went_unready : (ds es : List DiskView) (left written : Option (List ℕ)) (counted number : ℕ) (s : Status) → IsOpeningStatus s → AllStay ds es → number ≡ number_of_status s → counted ≡ 0
-      → RunsAnyhow m f nodes notary ds es left left written written counted number
+      → RunsAnyhow m nodes notary ds es left left written written counted number
   went_unready ds es left written counted number s is stay equal none = record { status = s; is = equal; ran = inr (record { unread = refl; none = none; why = inl (opening_why s written written is refl, stay) }) }
 
 -- the line for a damaged journal

@@ -9,7 +9,7 @@ use Rattle.net_base.specs.declared.values.Party.{Party}
 use Rattle.net_base.proofs.Lists.{get_beside, map_twice, get_map, of_map}
 use Rattle.flow_machine.specs.Machine.{Machine}
 use Rattle.disk_journal.specs.Journal.{IsYoung, journal_of}
-use Rattle.net_model.specs.Environment.{Environment, environment}
+use Rattle.net_model.specs.Environment.{Environment, environment, Meaning}
 use Rattle.node_tables.specs.Journals.{Reads, state_of}
 use Rattle.node_core.specs.Disks.{roomless}
 use Rattle.node_core.specs.Seen.{NodeSeen}
@@ -140,9 +140,9 @@ stay_openable why w v stay on p y at =
 pub same_journals : (w : World) → KeepsJournals w w
 same_journals w p x y at there = let same : y ≡ x = cc in ap (λ (k : NodeWorld). k.journal) same
 
-module _ {F : Type 0} (m : Machine F) (f : Reads F) (nodes : ℕ) (notary : Party) where
+module _ {F : Type 0} (m : Meaning F) (nodes : ℕ) (notary : Party) where
   abbrev e : Environment F
-  e = environment m f (member nodes notary 0)
+  e = environment m (member nodes notary 0)
 
   node_rests : (p : ℕ) (n : NodeSeen) (x : NodeWorld) (d : DiskView) → n.disk ≡ roomless d → NodeShows e p n x → NodeShows e p (node_over nodes notary p d) (down x)
   node_rests p n x d same s = record {

@@ -4,7 +4,7 @@ use Rattle.std.specs.Prelude.{◌||◌, not, if◌then◌else◌, MatchBool}
 use Rattle.net_base.specs.declared.names.Identity.{Identity}
 use Rattle.net_base.proofs.Options.{some_eq}
 use Rattle.flow_machine.specs.Machine.{Machine}
-use Rattle.net_model.specs.Environment.{Environment, environment}
+use Rattle.net_model.specs.Environment.{Environment, environment, Meaning}
 use Rattle.node_tables.specs.Journals.{Reads}
 use Rattle.network_core.specs.declared.steps.Outcome.TheVariants as outcome
 use Rattle.network_core.specs.declared.steps.Step.{Step}
@@ -29,9 +29,9 @@ use Rattle.node_shell.proofs.Shown.{shown_answers}
 
 -- ---- a line, from each coherent world that the network shows
 
-module _ {F : Type 0} (m : Machine F) (f : Reads F) (id : Identity) (old : NetSeen) (w : World) (shows : Shows (environment m f id) old w) (coherent : Coherent (environment m f id) w) where
+module _ {F : Type 0} (m : Meaning F) (id : Identity) (old : NetSeen) (w : World) (shows : Shows (environment m id) old w) (coherent : Coherent (environment m id) w) where
   abbrev e : Environment F
-  e = environment m f id
+  e = environment m id
 
   abbrev a : Pair e
   a = with_world old w shows coherent
@@ -40,67 +40,67 @@ module _ {F : Type 0} (m : Machine F) (f : Reads F) (id : Identity) (old : NetSe
   unmoved : (P : Pair e → Type 0) (new : NetSeen) → new ≡ old → P a → InPair e new P
   unmoved P new is h = subst (λ (n : NetSeen). InPair e n P) (sym is) (record { world = w; shows = shows; coherent = coherent; holds = h })
 
-  responds_in : (s : Option Step) (asked : Command) (ws : List (List ℕ)) (reply : Reply) (new : NetSeen) → Responds m f s asked ws old (Some reply) new
-      → InPair e new (λ b. Makes e w s asked ws reply b.world × Goes m f id s (Some reply) a b)
+  responds_in : (s : Option Step) (asked : Command) (ws : List (List ℕ)) (reply : Reply) (new : NetSeen) → Responds m s asked ws old (Some reply) new
+      → InPair e new (λ b. Makes e w s asked ws reply b.world × Goes m id s (Some reply) a b)
   responds_in (Some s) asked ws reply new (o, answers, told, pairs) =
       let b = pairs id w shows coherent in
       record { world = b.0; shows = b.1; coherent = b.2; holds = ((o, b.3.1, told), (o, b.3, told)) }
   responds_in None asked ws reply new (shown, is) =
-      unmoved (λ b. Makes e w None asked ws reply b.world × Goes m f id None (Some reply) a b) new is ((shown_answers e old w shows coherent asked ws reply shown, refl), refl)
+      unmoved (λ b. Makes e w None asked ws reply b.world × Goes m id None (Some reply) a b) new is ((shown_answers e old w shows coherent asked ws reply shown, refl), refl)
 
-  pub line_in : (line : List ℕ) (reply : Reply) (new : NetSeen) → LineResponds m f line old (Some reply) new → InPair e new (λ b. RepliesTo e w line reply b.world × LineGoes m f id line (Some reply) a b)
+  pub line_in : (line : List ℕ) (reply : Reply) (new : NetSeen) → LineResponds m line old (Some reply) new → InPair e new (λ b. RepliesTo e w line reply b.world × LineGoes m id line (Some reply) a b)
   line_in line reply new h = by (has_no_answer line) (is_readable line) h
     where
       by : (blank plain : Bool)
-          → MatchBool blank ((Some reply ≡ Some Silence) × (new ≡ old)) (MatchBool plain (CommandResponds m f (command_of (words_of line)) (words_of line) old (Some reply) new) ((Some reply ≡ Some (Told (outcome.Refused 1))) × (new ≡ old)))
+          → MatchBool blank ((Some reply ≡ Some Silence) × (new ≡ old)) (MatchBool plain (CommandResponds m (command_of (words_of line)) (words_of line) old (Some reply) new) ((Some reply ≡ Some (Told (outcome.Refused 1))) × (new ≡ old)))
           → InPair e new (λ b. MatchBool blank ((reply ≡ Silence) × (b.world ≡ w)) (MatchBool plain (Serves e w (command_of (words_of line)) (words_of line) reply b.world) (IsRefused 1 reply × (b.world ≡ w)))
-          × Goes m f id (step_of m (if blank || not plain then Unknown else command_of (words_of line)) (words_of line)) (Some reply) a b)
+          × Goes m id (step_of m (if blank || not plain then Unknown else command_of (words_of line)) (words_of line)) (Some reply) a b)
       by true plain h = unmoved (λ b. ((reply ≡ Silence) × (b.world ≡ w)) × (b ≡ a)) new h.1 ((some_eq h.0, refl), refl)
       by false true h = responds_in (step_of m (command_of (words_of line)) (words_of line)) (command_of (words_of line)) (words_of line) reply new h
       by false false h = unmoved (λ b. (IsRefused 1 reply × (b.world ≡ w)) × (b ≡ a)) new h.1 ((some_eq h.0, refl), refl)
 
   -- want of memory
-  leaves_in : (s : Option Step) (asked : Command) (ws : List (List ℕ)) (new : NetSeen) → Responds m f s asked ws old None new → InPair e new (λ b. Leaves e s w b.world × Goes m f id s None a b)
-  leaves_in (Some s) asked ws new (inl is) = unmoved (λ b. Leaves e (Some s) w b.world × Goes m f id (Some s) None a b) new is (inl refl, inl refl)
+  leaves_in : (s : Option Step) (asked : Command) (ws : List (List ℕ)) (new : NetSeen) → Responds m s asked ws old None new → InPair e new (λ b. Leaves e s w b.world × Goes m id s None a b)
+  leaves_in (Some s) asked ws new (inl is) = unmoved (λ b. Leaves e (Some s) w b.world × Goes m id (Some s) None a b) new is (inl refl, inl refl)
   leaves_in (Some s) asked ws new (inr h) =
       let b = h.1 id w shows coherent in
       record { world = b.0; shows = b.1; coherent = b.2; holds = (inr b.3.1, inr b.3) }
-  leaves_in None asked ws new h = unmoved (λ b. Leaves e None w b.world × Goes m f id None None a b) new h.1 (refl, refl)
+  leaves_in None asked ws new h = unmoved (λ b. Leaves e None w b.world × Goes m id None None a b) new h.1 (refl, refl)
 
-  pub left_in : (line : List ℕ) (new : NetSeen) → LineResponds m f line old None new → InPair e new (λ b. Leaves e (step_of m (asked_by line) (words_of line)) w b.world × LineGoes m f id line None a b)
+  pub left_in : (line : List ℕ) (new : NetSeen) → LineResponds m line old None new → InPair e new (λ b. Leaves e (step_of m (asked_by line) (words_of line)) w b.world × LineGoes m id line None a b)
   left_in line new h = by (has_no_answer line) (is_readable line) h
     where
       no_reply : (reply : Reply) → None ≡ Some reply → ⊥
       no_reply reply is = cc
 
       by : (blank plain : Bool)
-          → MatchBool blank ((None ≡ Some Silence) × (new ≡ old)) (MatchBool plain (CommandResponds m f (command_of (words_of line)) (words_of line) old None new) ((None ≡ Some (Told (outcome.Refused 1))) × (new ≡ old)))
+          → MatchBool blank ((None ≡ Some Silence) × (new ≡ old)) (MatchBool plain (CommandResponds m (command_of (words_of line)) (words_of line) old None new) ((None ≡ Some (Told (outcome.Refused 1))) × (new ≡ old)))
           → InPair e new (λ b. Leaves e (step_of m (if blank || not plain then Unknown else command_of (words_of line)) (words_of line)) w b.world
-          × Goes m f id (step_of m (if blank || not plain then Unknown else command_of (words_of line)) (words_of line)) None a b)
+          × Goes m id (step_of m (if blank || not plain then Unknown else command_of (words_of line)) (words_of line)) None a b)
       by true plain h = absurd (no_reply Silence h.0)
       by false true h = leaves_in (step_of m (command_of (words_of line)) (words_of line)) (command_of (words_of line)) (words_of line) new h
       by false false h = absurd (no_reply (Told (outcome.Refused 1)) h.0)
 
 -- ---- a story of networks
 
-module _ {F : Type 0} (m : Machine F) (f : Reads F) (id : Identity) where
+module _ {F : Type 0} (m : Meaning F) (id : Identity) where
   abbrev env : Environment F
-  env = environment m f id
+  env = environment m id
 
   abbrev paired : Pair env → List ℕ → List ℕ → Pair env → Type 0
-  paired a line text b = PairLink m f id a line text b
+  paired a line text b = PairLink m id a line text b
 
   abbrev unpaired : Pair env → List ℕ → Pair env → Type 0
-  unpaired a line b = PairShort m f id a line b
+  unpaired a line b = PairShort m id a line b
 
-  link_in : (k : NetSeen) (line text : List ℕ) (a : Pair env) → NetLink m f a.net line text k → InPair env k (λ b. PairLink m f id a line text b)
+  link_in : (k : NetSeen) (line text : List ℕ) (a : Pair env) → NetLink m a.net line text k → InPair env k (λ b. PairLink m id a line text b)
   link_in k line text a l =
-      let b = line_in m f id a.net a.world a.shows a.coherent line l.reply k l.responds in
+      let b = line_in m id a.net a.world a.shows a.coherent line l.reply k l.responds in
       record { world = b.world; shows = b.shows; coherent = b.coherent; holds = record { net = l; replies = b.holds.0; goes = b.holds.1 } }
 
-  short_in : (k : NetSeen) (line : List ℕ) (a : Pair env) → NetShort m f a.net line k → InPair env k (λ b. PairShort m f id a line b)
+  short_in : (k : NetSeen) (line : List ℕ) (a : Pair env) → NetShort m a.net line k → InPair env k (λ b. PairShort m id a line b)
   short_in k line a (inl l) =
-      let b = left_in m f id a.net a.world a.shows a.coherent line k l.responds in
+      let b = left_in m id a.net a.world a.shows a.coherent line k l.responds in
       record { world = b.world; shows = b.shows; coherent = b.coherent; holds = inl (record { net = l; leaves = b.holds.0; goes = b.holds.1 }) }
   short_in k line a (inr (text, l)) = let b = link_in k line text a l in record { world = b.world; shows = b.shows; coherent = b.coherent; holds = inr (text, b.holds) }
 
@@ -108,19 +108,19 @@ module _ {F : Type 0} (m : Machine F) (f : Reads F) (id : Identity) where
     abbrev opening : Pair env
     opening = with_world start first shows coherent
 
-    story_in : (lines : List (List ℕ)) (out : List ℕ) (n : NetSeen) → Story (NetLink m f) start lines out n → InPair env n (λ b. Story paired opening lines out b)
+    story_in : (lines : List (List ℕ)) (out : List ℕ) (n : NetSeen) → Story (NetLink m) start lines out n → InPair env n (λ b. Story paired opening lines out b)
     story_in lines out n begins = record { world = first; shows = shows; coherent = coherent; holds = begins }
     story_in lines out n (goes_on {lines = earlier} {out = said} {before = b} line text before none linked all longer) =
         let u = story_in earlier said b before in
         let v = link_in n line text (with_world b u.world u.shows u.coherent) linked in
         record { world = v.world; shows = v.shows; coherent = v.coherent; holds = goes_on line text u.holds none v.holds all longer }
 
-    answered_in : (written0 written1 : Option (List ℕ)) (lines : List (List ℕ)) (n : NetSeen) → Answered (NetLink m f) start written0 written1 lines n → InPair env n (λ b. Answered paired opening written0 written1 lines b)
+    answered_in : (written0 written1 : Option (List ℕ)) (lines : List (List ℕ)) (n : NetSeen) → Answered (NetLink m) start written0 written1 lines n → InPair env n (λ b. Answered paired opening written0 written1 lines b)
     answered_in written0 written1 lines n h =
         let u = story_in lines h.out n h.story in
         record { world = u.world; shows = u.shows; coherent = u.coherent; holds = record { out = h.out; story = u.holds; appended = h.appended } }
 
-    cut_in : (written0 written1 : Option (List ℕ)) (lines : List (List ℕ)) (n : NetSeen) → CutOff (NetLink m f) start written0 written1 lines n → InPair env n (λ b. CutOff paired opening written0 written1 lines b)
+    cut_in : (written0 written1 : Option (List ℕ)) (lines : List (List ℕ)) (n : NetSeen) → CutOff (NetLink m) start written0 written1 lines n → InPair env n (λ b. CutOff paired opening written0 written1 lines b)
     cut_in written0 written1 lines n c =
         let u = story_in c.earlier c.out c.before c.story in
         let mid = with_world c.before u.world u.shows u.coherent in
@@ -132,7 +132,7 @@ module _ {F : Type 0} (m : Machine F) (f : Reads F) (id : Identity) where
           holds = record { before = mid; earlier = c.earlier; line = c.line; out = c.out; front = c.front; missing = c.missing; all = c.all; story = u.holds; open_end = c.open_end; linked = v.holds; proper = c.proper; appended = c.appended };
         }
 
-    left_off_in : (written0 written1 : Option (List ℕ)) (lines : List (List ℕ)) (n : NetSeen) → LeftOff (NetLink m f) (NetShort m f) start written0 written1 lines n → InPair env n (λ b. LeftOff paired unpaired opening written0 written1 lines b)
+    left_off_in : (written0 written1 : Option (List ℕ)) (lines : List (List ℕ)) (n : NetSeen) → LeftOff (NetLink m) (NetShort m) start written0 written1 lines n → InPair env n (λ b. LeftOff paired unpaired opening written0 written1 lines b)
     left_off_in written0 written1 lines n l =
         let u = story_in l.earlier l.out l.before l.story in
         let mid = with_world l.before u.world u.shows u.coherent in
@@ -140,7 +140,7 @@ module _ {F : Type 0} (m : Machine F) (f : Reads F) (id : Identity) where
         record { world = v.world; shows = v.shows; coherent = v.coherent; holds = record { before = mid; earlier = l.earlier; line = l.line; out = l.out; all = l.all; story = u.holds; open_end = l.open_end; ran_short = v.holds; appended = l.appended } }
 
     module _ (left written0 written1 : Option (List ℕ)) (count : ℕ) (lines : List (List ℕ)) (rest : List ℕ) (n : NetSeen) where
-      ends_in : (s : Status) → EndsWith (NetLink m f) (NetShort m f) start left written0 written1 count lines rest n s → InPair env n (λ b. EndsWith paired unpaired opening left written0 written1 count lines rest b s)
+      ends_in : (s : Status) → EndsWith (NetLink m) (NetShort m) start left written0 written1 count lines rest n s → InPair env n (λ b. EndsWith paired unpaired opening left written0 written1 count lines rest b s)
       ends_in status.Finished h = let x = answered_in written0 written1 _ n h.1 in record { world = x.world; shows = x.shows; coherent = x.coherent; holds = (h.0, x.holds) }
       ends_in status.BadWords h = absurd h
       ends_in status.TooLong h = let x = answered_in written0 written1 _ n h.2 in record { world = x.world; shows = x.shows; coherent = x.coherent; holds = (h.0, h.1, x.holds) }
@@ -152,7 +152,7 @@ module _ {F : Type 0} (m : Machine F) (f : Reads F) (id : Identity) where
       ends_in status.BadJournal h = absurd h
 
     -- from each coherent world that the first network shows
-    pub run_in : (left0 left1 written0 written1 : Option (List ℕ)) (count : ℕ) (n : NetSeen) (s : Status) → ScriptRun (NetLink m f) (NetShort m f) start left0 left1 written0 written1 count n s
+    pub run_in : (left0 left1 written0 written1 : Option (List ℕ)) (count : ℕ) (n : NetSeen) (s : Status) → ScriptRun (NetLink m) (NetShort m) start left0 left1 written0 written1 count n s
         → InPair env n (λ b. ScriptRun paired unpaired opening left0 left1 written0 written1 count b s)
     run_in left0 left1 written0 written1 count n s r =
         let x = ends_in left1 written0 written1 count r.lines r.rest n s r.ends in
@@ -215,102 +215,102 @@ module _ {W V : Type 0} (link : W → List ℕ → List ℕ → W → Type 0) (s
   run_of : (left0 left1 written0 written1 : Option (List ℕ)) (count : ℕ) (w : W) (s : Status) → ScriptRun link short start left0 left1 written0 written1 count w s → ScriptRun other left_short (g start) left0 left1 written0 written1 count (g w) s
   run_of left0 left1 written0 written1 count w s r = record { read = r.read; lines = r.lines; rest = r.rest; consumed = r.consumed; counted = r.counted; split = r.split; ends = ends_of left1 written0 written1 count r.lines r.rest w s r.ends }
 
-module _ {F : Type 0} (m : Machine F) (f : Reads F) (id : Identity) where
-  abbrev of_worlds : (a : Pair (environment m f id)) → World
+module _ {F : Type 0} (m : Meaning F) (id : Identity) where
+  abbrev of_worlds : (a : Pair (environment m id)) → World
   of_worlds a = a.world
 
-  abbrev of_nets : (a : Pair (environment m f id)) → NetSeen
+  abbrev of_nets : (a : Pair (environment m id)) → NetSeen
   of_nets a = a.net
 
-  world_link : (a : Pair (environment m f id)) (line text : List ℕ) (b : Pair (environment m f id)) → PairLink m f id a line text b → Link (environment m f id) a.world line text b.world
+  world_link : (a : Pair (environment m id)) (line text : List ℕ) (b : Pair (environment m id)) → PairLink m id a line text b → Link (environment m id) a.world line text b.world
   world_link a line text b l = record { reply = l.net.reply; replies = l.replies; spelt = l.net.spelt }
 
-  world_short : (a : Pair (environment m f id)) (line : List ℕ) (b : Pair (environment m f id)) → PairShort m f id a line b → RunsShort (environment m f id) a.world line b.world
+  world_short : (a : Pair (environment m id)) (line : List ℕ) (b : Pair (environment m id)) → PairShort m id a line b → RunsShort (environment m id) a.world line b.world
   world_short a line b (inl l) = inl l.leaves
   world_short a line b (inr (text, l)) = inr (text, world_link a line text b l)
 
-  net_link : (a : Pair (environment m f id)) (line text : List ℕ) (b : Pair (environment m f id)) → PairLink m f id a line text b → NetLink m f a.net line text b.net
+  net_link : (a : Pair (environment m id)) (line text : List ℕ) (b : Pair (environment m id)) → PairLink m id a line text b → NetLink m a.net line text b.net
   net_link a line text b l = l.net
 
-  net_short : (a : Pair (environment m f id)) (line : List ℕ) (b : Pair (environment m f id)) → PairShort m f id a line b → NetShort m f a.net line b.net
+  net_short : (a : Pair (environment m id)) (line : List ℕ) (b : Pair (environment m id)) → PairShort m id a line b → NetShort m a.net line b.net
   net_short a line b (inl l) = inl l.net
   net_short a line b (inr (text, l)) = inr (text, l.net)
 
 pub scripts_are_both : {F : Type 0} → ScriptsAreBoth F
-scripts_are_both m f id a b left0 left1 written0 written1 count s run = record {
-  worlds = run_of (PairLink m f id) (PairShort m f id) (Link (environment m f id)) (RunsShort (environment m f id)) (of_worlds m f id) (world_link m f id) (world_short m f id) a left0 left1 written0 written1 count b s run;
-  nets = run_of (PairLink m f id) (PairShort m f id) (NetLink m f) (NetShort m f) (of_nets m f id) (net_link m f id) (net_short m f id) a left0 left1 written0 written1 count b s run;
+scripts_are_both m id a b left0 left1 written0 written1 count s run = record {
+  worlds = run_of (PairLink m id) (PairShort m id) (Link (environment m id)) (RunsShort (environment m id)) (of_worlds m id) (world_link m id) (world_short m id) a left0 left1 written0 written1 count b s run;
+  nets = run_of (PairLink m id) (PairShort m id) (NetLink m) (NetShort m) (of_nets m id) (net_link m id) (net_short m id) a left0 left1 written0 written1 count b s run;
 }
 
 -- ---- the way
 
 -- from what it begins with to an end, by way of what it comes by
-record Ways {F : Type 0} (m : Machine F) (f : Reads F) (id : Identity) (a b : Pair (environment m f id)) (passes : Pair (environment m f id) → Type 0) : Type 0 where
-  pub whole : Way m f id a b
-  pub to : (u : Pair (environment m f id)) → passes u → Way m f id a u
-  pub on : (u : Pair (environment m f id)) → passes u → Way m f id u b
+record Ways {F : Type 0} (m : Meaning F) (id : Identity) (a b : Pair (environment m id)) (passes : Pair (environment m id) → Type 0) : Type 0 where
+  pub whole : Way m id a b
+  pub to : (u : Pair (environment m id)) → passes u → Way m id a u
+  pub on : (u : Pair (environment m id)) → passes u → Way m id u b
 
-module _ {F : Type 0} (m : Machine F) (f : Reads F) (id : Identity) where
+module _ {F : Type 0} (m : Meaning F) (id : Identity) where
   abbrev shown : Type 0
-  shown = Pair (environment m f id)
+  shown = Pair (environment m id)
 
-  way_then : (a b c : shown) → Way m f id a b → Way m f id b c → Way m f id a c
-  way_then a b c one (stay is) = subst (Way m f id a) (sym is) one
+  way_then : (a b c : shown) → Way m id a b → Way m id b c → Way m id a c
+  way_then a b c one (stay is) = subst (Way m id a) (sym is) one
   way_then a b c one (by_part {b = d} p o way does) = by_part p o (way_then a b d one way) does
   way_then a b c one (by_step {b = d} s o way drain answered serve) = by_step s o (way_then a b d one way) drain answered serve
 
-  goes_way : (s : Option Step) (reply : Option Reply) (a b : shown) → Goes m f id s reply a b → Way m f id a b
-  goes_way (Some s) (Some reply) a b (o, serves, told) = (calls_are_ways m f id a b).apply s (Some o) serves
+  goes_way : (s : Option Step) (reply : Option Reply) (a b : shown) → Goes m id s reply a b → Way m id a b
+  goes_way (Some s) (Some reply) a b (o, serves, told) = (calls_are_ways m id a b).apply s (Some o) serves
   goes_way (Some s) None a b (inl is) = stay is
-  goes_way (Some s) None a b (inr serves) = (calls_are_ways m f id a b).apply s None serves
+  goes_way (Some s) None a b (inr serves) = (calls_are_ways m id a b).apply s None serves
   goes_way None reply a b is = stay is
 
-  link_way : (a : shown) (line text : List ℕ) (b : shown) → PairLink m f id a line text b → Way m f id a b
+  link_way : (a : shown) (line text : List ℕ) (b : shown) → PairLink m id a line text b → Way m id a b
   link_way a line text b l = goes_way (step_of m (asked_by line) (words_of line)) (Some l.net.reply) a b l.goes
 
-  short_way : (a : shown) (line : List ℕ) (b : shown) → PairShort m f id a line b → Way m f id a b
+  short_way : (a : shown) (line : List ℕ) (b : shown) → PairShort m id a line b → Way m id a b
   short_way a line b (inl l) = goes_way (step_of m (asked_by line) (words_of line)) None a b l.goes
   short_way a line b (inr (text, l)) = link_way a line text b l
 
-  pub leads_on : (a b : shown) → Way m f id a b → LeadsOn m f id a b
-  leads_on a b way = record { way = way; kept = kept_on_ways m f id a b way; acknowledged = acknowledged_at_all_moments m f id a b way }
+  pub leads_on : (a b : shown) → Way m id a b → LeadsOn m id a b
+  leads_on a b way = record { way = way; kept = kept_on_ways m id a b way; acknowledged = acknowledged_at_all_moments m id a b way }
 
-  story_way : (a : shown) (lines : List (List ℕ)) (out : List ℕ) (b : shown) → Story (PairLink m f id) a lines out b → Way m f id a b
+  story_way : (a : shown) (lines : List (List ℕ)) (out : List ℕ) (b : shown) → Story (PairLink m id) a lines out b → Way m id a b
   story_way a lines out b begins = stay refl
   story_way a lines out b (goes_on {lines = earlier} {out = said} {before = c} line text before none l all longer) = way_then a c b (story_way a earlier said c before) (link_way c line text b l)
 
-  story_to : (a : shown) (lines : List (List ℕ)) (out : List ℕ) (b : shown) (story : Story (PairLink m f id) a lines out b) (u : shown) → ComesBy story u → Way m f id a u
+  story_to : (a : shown) (lines : List (List ℕ)) (out : List ℕ) (b : shown) (story : Story (PairLink m id) a lines out b) (u : shown) → ComesBy story u → Way m id a u
   story_to a lines out b begins u is = stay is
   story_to a lines out b (goes_on {lines = earlier} {out = said} {before = c} line text before none l all longer) u (inl earlier_on) = story_to a earlier said c before u earlier_on
   story_to a lines out b (goes_on {lines = earlier} {out = said} {before = c} line text before none l all longer) u (inr is) =
-      subst (Way m f id a) (sym is) (way_then a c b (story_way a earlier said c before) (link_way c line text b l))
+      subst (Way m id a) (sym is) (way_then a c b (story_way a earlier said c before) (link_way c line text b l))
 
-  story_on : (a : shown) (lines : List (List ℕ)) (out : List ℕ) (b : shown) (story : Story (PairLink m f id) a lines out b) (u : shown) → ComesBy story u → Way m f id u b
+  story_on : (a : shown) (lines : List (List ℕ)) (out : List ℕ) (b : shown) (story : Story (PairLink m id) a lines out b) (u : shown) → ComesBy story u → Way m id u b
   story_on a lines out b begins u is = stay (sym is)
   story_on a lines out b (goes_on {lines = earlier} {out = said} {before = c} line text before none l all longer) u (inl earlier_on) = way_then u c b (story_on a earlier said c before u earlier_on) (link_way c line text b l)
   story_on a lines out b (goes_on {lines = earlier} {out = said} {before = c} line text before none l all longer) u (inr is) = stay (sym is)
 
-  story_ways : (a : shown) (lines : List (List ℕ)) (out : List ℕ) (b : shown) (story : Story (PairLink m f id) a lines out b) → Ways m f id a b (ComesBy story)
+  story_ways : (a : shown) (lines : List (List ℕ)) (out : List ℕ) (b : shown) (story : Story (PairLink m id) a lines out b) → Ways m id a b (ComesBy story)
   story_ways a lines out b story = record { whole = story_way a lines out b story; to = story_to a lines out b story; on = story_on a lines out b story }
 
   -- a last line more
-  last_ways : (a b c : shown) (passes : shown → Type 0) → Ways m f id a b passes → Way m f id b c → Ways m f id a c (λ u. passes u ⊎ (u ≡ c))
+  last_ways : (a b c : shown) (passes : shown → Type 0) → Ways m id a b passes → Way m id b c → Ways m id a c (λ u. passes u ⊎ (u ≡ c))
   last_ways a b c passes ways last = record {
     whole = way_then a b c ways.whole last;
     to = λ u h. to_last u h;
     on = λ u h. on_last u h;
   }
     where
-      to_last : (u : shown) → passes u ⊎ (u ≡ c) → Way m f id a u
+      to_last : (u : shown) → passes u ⊎ (u ≡ c) → Way m id a u
       to_last u (inl h) = ways.to u h
-      to_last u (inr is) = subst (Way m f id a) (sym is) (way_then a b c ways.whole last)
+      to_last u (inr is) = subst (Way m id a) (sym is) (way_then a b c ways.whole last)
 
-      on_last : (u : shown) → passes u ⊎ (u ≡ c) → Way m f id u c
+      on_last : (u : shown) → passes u ⊎ (u ≡ c) → Way m id u c
       on_last u (inl h) = way_then u b c (ways.on u h) last
       on_last u (inr is) = stay (sym is)
 
   module _ (a b : shown) (left written0 written1 : Option (List ℕ)) (count : ℕ) (lines : List (List ℕ)) (rest : List ℕ) where
-    ends_ways : (s : Status) (h : EndsWith (PairLink m f id) (PairShort m f id) a left written0 written1 count lines rest b s) → Ways m f id a b (EndComesBy (PairLink m f id) (PairShort m f id) a left written0 written1 count lines rest b s h)
+    ends_ways : (s : Status) (h : EndsWith (PairLink m id) (PairShort m id) a left written0 written1 count lines rest b s) → Ways m id a b (EndComesBy (PairLink m id) (PairShort m id) a left written0 written1 count lines rest b s h)
     ends_ways status.Finished h = story_ways a _ h.1.out b h.1.story
     ends_ways status.BadWords h = absurd h
     ends_ways status.TooLong h = story_ways a _ h.2.out b h.2.story
@@ -322,10 +322,10 @@ module _ {F : Type 0} (m : Machine F) (f : Reads F) (id : Identity) where
     ends_ways status.BadJournal h = absurd h
 
 pub scripts_are_ways : {F : Type 0} → ScriptsAreWays F
-scripts_are_ways m f id a b left0 left1 written0 written1 count s run =
-    let ways = ends_ways m f id a b left1 written0 written1 count run.lines run.rest s run.ends in
+scripts_are_ways m id a b left0 left1 written0 written1 count s run =
+    let ways = ends_ways m id a b left1 written0 written1 count run.lines run.rest s run.ends in
     record {
-      whole = leads_on m f id a b ways.whole;
-      to = λ u h. leads_on m f id a u (ways.to u h);
-      on = λ u h. leads_on m f id u b (ways.on u h);
+      whole = leads_on m id a b ways.whole;
+      to = λ u h. leads_on m id a u (ways.to u h);
+      on = λ u h. leads_on m id u b (ways.on u h);
     }

@@ -4,6 +4,7 @@ use Rattle.net_base.specs.declared.causes.Cause.{Cause}
 use Rattle.flow_machine.specs.Machine.{Machine}
 use Rattle.flow_machine.specs.declared.flow_set.WordFault.{WordFault}
 use Rattle.flow_machine.specs.declared.flow_set.WordFault.TheVariants as word
+use Rattle.net_model.specs.Environment.{Meaning}
 use Rattle.net_model.specs.Print.{flows_text, flow_line, history_text}
 use Rattle.net_model.specs.Runs.{merged}
 use Rattle.node_tables.specs.Journals.{Reads, causes_of, state_of}
@@ -52,22 +53,22 @@ abbrev pub PrintsHistory : {F : Type 0} → Reads F → NetSeen → Reply → Ty
 PrintsHistory frame_at net reply = MatchOption (causes_up frame_at net.nodes) (IsRefused 3 reply) (λ lists. reply_text reply ≡ history_text (merged lists))
 
 -- the reply to a command that makes no step, by what the network shows
-abbrev pub IsShown : {F : Type 0} → Machine F → Reads F → NetSeen → Command → List (List ℕ) → Reply → Type 0
-IsShown m frame_at net (command.Start node) words reply = StartsNone net (place_of node) (started_by m words) reply
-IsShown m frame_at net (command.Flows node) words reply = AtSeen net (place_of node) reply (PrintsFlows frame_at reply)
-IsShown m frame_at net (command.Flow node flow) words reply = AtSeen net (place_of node) reply (PrintsFlow frame_at (flow_of flow) reply)
-IsShown m frame_at net command.History words reply = PrintsHistory frame_at net reply
-IsShown m frame_at net command.Quit words reply = reply ≡ Quit
-IsShown m frame_at net command.Unknown words reply = IsRefused 1 reply
-IsShown m frame_at net (command.Clock to) words reply = ⊥
-IsShown m frame_at net (command.Turn node pick) words reply = ⊥
-IsShown m frame_at net (command.Post node) words reply = ⊥
-IsShown m frame_at net (command.Deliver node at) words reply = ⊥
-IsShown m frame_at net (command.Repeat node at) words reply = ⊥
-IsShown m frame_at net (command.Lose node at) words reply = ⊥
-IsShown m frame_at net (command.Cut node calls kind) words reply = ⊥
-IsShown m frame_at net (command.Boot node) words reply = ⊥
-IsShown m frame_at net command.Drain words reply = ⊥
+abbrev pub IsShown : {F : Type 0} → Meaning F → NetSeen → Command → List (List ℕ) → Reply → Type 0
+IsShown m net (command.Start node) words reply = StartsNone net (place_of node) (started_by m words) reply
+IsShown m net (command.Flows node) words reply = AtSeen net (place_of node) reply (PrintsFlows m.frame_at reply)
+IsShown m net (command.Flow node flow) words reply = AtSeen net (place_of node) reply (PrintsFlow m.frame_at (flow_of flow) reply)
+IsShown m net command.History words reply = PrintsHistory m.frame_at net reply
+IsShown m net command.Quit words reply = reply ≡ Quit
+IsShown m net command.Unknown words reply = IsRefused 1 reply
+IsShown m net (command.Clock to) words reply = ⊥
+IsShown m net (command.Turn node pick) words reply = ⊥
+IsShown m net (command.Post node) words reply = ⊥
+IsShown m net (command.Deliver node at) words reply = ⊥
+IsShown m net (command.Repeat node at) words reply = ⊥
+IsShown m net (command.Lose node at) words reply = ⊥
+IsShown m net (command.Cut node calls kind) words reply = ⊥
+IsShown m net (command.Boot node) words reply = ⊥
+IsShown m net command.Drain words reply = ⊥
 
 -- ---- lines
 
@@ -78,39 +79,39 @@ given (Err fault) = None
 
 -- a step was made, and its outcome, which has its cause, is told; or memory ran out before it or within it. So also of each coherent world that the
 -- network shows: the step is made of both at once
-abbrev pub StepResponds : {F : Type 0} → Machine F → Reads F → Step → NetSeen → Option Reply → NetSeen → Type 0
-StepResponds m frame_at step old (Some reply) new = (o : Outcome) × Answered m frame_at step old (answer_of (Some o)) new × (reply ≡ Told o) × ServesPairs m frame_at step (Some o) old new
-StepResponds m frame_at step old None new = (new ≡ old) ⊎ (Answered m frame_at step old (answer_of None) new × ServesPairs m frame_at step None old new)
+abbrev pub StepResponds : {F : Type 0} → Meaning F → Step → NetSeen → Option Reply → NetSeen → Type 0
+StepResponds m step old (Some reply) new = (o : Outcome) × Answered m step old (answer_of (Some o)) new × (reply ≡ Told o) × ServesPairs m step (Some o) old new
+StepResponds m step old None new = (new ≡ old) ⊎ (Answered m step old (answer_of None) new × ServesPairs m step None old new)
 
 -- a command's step is made, or it makes none and changes nothing
-abbrev pub Responds : {F : Type 0} → Machine F → Reads F → Option Step → Command → List (List ℕ) → NetSeen → Option Reply → NetSeen → Type 0
-Responds m frame_at (Some step) asked words old reply new = StepResponds m frame_at step old reply new
-Responds m frame_at None asked words old reply new = IfSome reply (IsShown m frame_at old asked words) × (new ≡ old)
+abbrev pub Responds : {F : Type 0} → Meaning F → Option Step → Command → List (List ℕ) → NetSeen → Option Reply → NetSeen → Type 0
+Responds m (Some step) asked words old reply new = StepResponds m step old reply new
+Responds m None asked words old reply new = IfSome reply (IsShown m old asked words) × (new ≡ old)
 
 -- what a command with its words came to
-abbrev pub CommandResponds : {F : Type 0} → Machine F → Reads F → Command → List (List ℕ) → NetSeen → Option Reply → NetSeen → Type 0
-CommandResponds m frame_at asked words old reply new = Responds m frame_at (step_of m asked words) asked words old reply new
+abbrev pub CommandResponds : {F : Type 0} → Meaning F → Command → List (List ℕ) → NetSeen → Option Reply → NetSeen → Type 0
+CommandResponds m asked words old reply new = Responds m (step_of m asked words) asked words old reply new
 
 -- what a line came to
-abbrev pub LineResponds : {F : Type 0} → Machine F → Reads F → List ℕ → NetSeen → Option Reply → NetSeen → Type 0
-LineResponds m frame_at line old reply new =
+abbrev pub LineResponds : {F : Type 0} → Meaning F → List ℕ → NetSeen → Option Reply → NetSeen → Type 0
+LineResponds m line old reply new =
     MatchBool (has_no_answer line) ((reply ≡ Some Silence) × (new ≡ old))
-    (MatchBool (is_readable line) (CommandResponds m frame_at (command_of (words_of line)) (words_of line) old reply new) ((reply ≡ Some (Told (outcome.Refused 1))) × (new ≡ old)))
+    (MatchBool (is_readable line) (CommandResponds m (command_of (words_of line)) (words_of line) old reply new) ((reply ≡ Some (Told (outcome.Refused 1))) × (new ≡ old)))
 
 -- ---- stories of networks
 
 -- one link of a story of networks: a line, its answer, and the network after it; in each coherent world that the network shows it is a link of worlds
-pub record NetLink {F : Type 0} (m : Machine F) (frame_at : Reads F) (old : NetSeen) (line text : List ℕ) (new : NetSeen) : Type 0 where
+pub record NetLink {F : Type 0} (m : Meaning F) (old : NetSeen) (line text : List ℕ) (new : NetSeen) : Type 0 where
   pub reply : Reply
-  pub responds : LineResponds m frame_at line old (Some reply) new
+  pub responds : LineResponds m line old (Some reply) new
   pub spelt : text ≡ reply_text reply
-  pub worlds : KeepsWorld m frame_at old new (λ e w v. RepliesTo e w line reply v)
+  pub worlds : KeepsWorld m old new (λ e w v. RepliesTo e w line reply v)
 
 -- a line was left off for want of memory
-pub record NetLeft {F : Type 0} (m : Machine F) (frame_at : Reads F) (old : NetSeen) (line : List ℕ) (new : NetSeen) : Type 0 where
-  pub responds : LineResponds m frame_at line old None new
-  pub worlds : KeepsWorld m frame_at old new (λ e w v. Leaves e (step_of e.machine (asked_by line) (words_of line)) w v)
+pub record NetLeft {F : Type 0} (m : Meaning F) (old : NetSeen) (line : List ℕ) (new : NetSeen) : Type 0 where
+  pub responds : LineResponds m line old None new
+  pub worlds : KeepsWorld m old new (λ e w v. Leaves e (step_of e.machine (asked_by line) (words_of line)) w v)
 
 -- a line was left without an answer for want of memory: it was left off, or it was served and its answer could not be spelt
-abbrev pub NetShort : {F : Type 0} → Machine F → Reads F → NetSeen → List ℕ → NetSeen → Type 0
-NetShort m frame_at old line new = NetLeft m frame_at old line new ⊎ ((text : List ℕ) × NetLink m frame_at old line text new)
+abbrev pub NetShort : {F : Type 0} → Meaning F → NetSeen → List ℕ → NetSeen → Type 0
+NetShort m old line new = NetLeft m old line new ⊎ ((text : List ℕ) × NetLink m old line text new)

@@ -9,7 +9,7 @@ use Rattle.net_base.specs.declared.values.Party.{Party}
 use Rattle.shell_words.specs.declared.program.NetworkWords.{NetworkWords}
 use Rattle.disk_journal.specs.Journal.{WasSpelt, journal_of, placed, is_unformatted, formatted, refusal}
 use Rattle.disk_journal.specs.declared.fault.OpenFault.TheVariants as open_fault
-use Rattle.net_model.specs.Environment.{Environment, environment, party}
+use Rattle.net_model.specs.Environment.{Environment, environment, party, Meaning}
 use Rattle.net_model.specs.Runs.{IsFaithful, network_of, merged}
 use Rattle.flow_machine.specs.Machine.{Machine}
 use Rattle.node_tables.specs.Fits.{misfit}
@@ -42,8 +42,8 @@ number_of_status status.NoMemory = 7
 number_of_status status.BadJournal = 8
 
 -- the environment of the network that words ask for
-abbrev pub environment_for : {F : Type 0} → Machine F → Reads F → NetworkWords → Environment F
-environment_for m frame_at n = environment m frame_at (member n.nodes (party n.notary) 0)
+abbrev pub environment_for : {F : Type 0} → Meaning F → NetworkWords → Environment F
+environment_for m n = environment m (member n.nodes (party n.notary) 0)
 
 -- the network whose nodes are down over these disks, the first one of each node, at a moment
 abbrev pub over : {F : Type 0} → Environment F → ℕ → List DiskView → NetSeen
@@ -287,15 +287,15 @@ IsPlayedNumber number = (number ≡ 0) ⊎ ((number ≡ 3) ⊎ (number ≡ 4))
 -- ---- over any disks
 
 -- whatever the disks tell: they were made ready, each node opened its journal, and the script went from there to the last network, line by line; its nodes' disks are those that come back
-pub record GoesOn {F : Type 0} (m : Machine F) (frame_at : Reads F) (nodes : ℕ) (notary : Party) (old new : List DiskView) (left0 left1 written0 written1 : Option (List ℕ)) (count : ℕ) (status : Status) : Type 0 where
+pub record GoesOn {F : Type 0} (m : Meaning F) (nodes : ℕ) (notary : Party) (old new : List DiskView) (left0 left1 written0 written1 : Option (List ℕ)) (count : ℕ) (status : Status) : Type 0 where
   pub ready : List DiskView
   pub made : AllStay old ready
   pub begun : NetSeen
-  pub opened : BootsUpTo frame_at nodes begun.now (nodes_over nodes notary 0 ready) begun.nodes
+  pub opened : BootsUpTo m.frame_at nodes begun.now (nodes_over nodes notary 0 ready) begun.nodes
   -- no frame waits
   pub quiet : begun.waiting ≡ map (λ (n : NodeSeen). []) begun.nodes
   pub last : NetSeen
-  pub script : ScriptRun (NetLink m frame_at) (NetShort m frame_at) begun left0 left1 written0 written1 count last status
+  pub script : ScriptRun (NetLink m) (NetShort m) begun left0 left1 written0 written1 count last status
   pub back : map (λ (n : NodeSeen). n.disk) last.nodes ≡ map roomless new
 
 -- whatever the disks tell: nothing was read, since one was not made ready, or some node did not open
@@ -305,39 +305,39 @@ pub record Halts {F : Type 0} (frame_at : Reads F) (nodes : ℕ) (notary : Party
   pub why : IsUnready old new written0 written1 status ⊎ IsToldWhy frame_at nodes notary old new written0 written1 status
 
 -- a run over any disks
-abbrev pub GoesOrHalts : {F : Type 0} → Machine F → Reads F → ℕ → Party → List DiskView → List DiskView → Option (List ℕ) → Option (List ℕ) → Option (List ℕ) → Option (List ℕ) → ℕ → Status → Type 0
-GoesOrHalts m frame_at nodes notary old new left0 left1 written0 written1 count s = GoesOn m frame_at nodes notary old new left0 left1 written0 written1 count s ⊎ Halts frame_at nodes notary old new left0 left1 written0 written1 count s
+abbrev pub GoesOrHalts : {F : Type 0} → Meaning F → ℕ → Party → List DiskView → List DiskView → Option (List ℕ) → Option (List ℕ) → Option (List ℕ) → Option (List ℕ) → ℕ → Status → Type 0
+GoesOrHalts m nodes notary old new left0 left1 written0 written1 count s = GoesOn m nodes notary old new left0 left1 written0 written1 count s ⊎ Halts m.frame_at nodes notary old new left0 left1 written0 written1 count s
 
 -- a run over any disks, by the number of its status
-pub record RunsAnyhow {F : Type 0} (m : Machine F) (frame_at : Reads F) (nodes : ℕ) (notary : Party) (old new : List DiskView) (left0 left1 written0 written1 : Option (List ℕ)) (count number : ℕ) : Type 0 where
+pub record RunsAnyhow {F : Type 0} (m : Meaning F) (nodes : ℕ) (notary : Party) (old new : List DiskView) (left0 left1 written0 written1 : Option (List ℕ)) (count number : ℕ) : Type 0 where
   pub status : Status
   pub is : number ≡ number_of_status status
-  pub ran : GoesOrHalts m frame_at nodes notary old new left0 left1 written0 written1 count status
+  pub ran : GoesOrHalts m nodes notary old new left0 left1 written0 written1 count status
 
 -- ---- over disks that show a coherent world
 
 -- the networks of the script went together with these worlds, line by line: so the script is one way (`scripts_are_ways`)
-pub record GoTogether {F : Type 0} (m : Machine F) (frame_at : Reads F) (nodes : ℕ) (notary : Party) (start last : World) (old new : List DiskView) (left0 left1 written0 written1 : Option (List ℕ)) (count : ℕ) (status : Status) : Type 0 where
-  pub went : GoesOn m frame_at nodes notary old new left0 left1 written0 written1 count status
-  pub shows : Shows (environment m frame_at (member nodes notary 0)) went.begun start
-  pub coherent : Coherent (environment m frame_at (member nodes notary 0)) start
-  pub shows_last : Shows (environment m frame_at (member nodes notary 0)) went.last last
-  pub coherent_last : Coherent (environment m frame_at (member nodes notary 0)) last
-  pub script : ScriptRun (PairLink m frame_at (member nodes notary 0)) (PairShort m frame_at (member nodes notary 0)) (with_world went.begun start shows coherent) left0 left1 written0 written1 count (with_world went.last last shows_last coherent_last) status
+pub record GoTogether {F : Type 0} (m : Meaning F) (nodes : ℕ) (notary : Party) (start last : World) (old new : List DiskView) (left0 left1 written0 written1 : Option (List ℕ)) (count : ℕ) (status : Status) : Type 0 where
+  pub went : GoesOn m nodes notary old new left0 left1 written0 written1 count status
+  pub shows : Shows (environment m (member nodes notary 0)) went.begun start
+  pub coherent : Coherent (environment m (member nodes notary 0)) start
+  pub shows_last : Shows (environment m (member nodes notary 0)) went.last last
+  pub coherent_last : Coherent (environment m (member nodes notary 0)) last
+  pub script : ScriptRun (PairLink m (member nodes notary 0)) (PairShort m (member nodes notary 0)) (with_world went.begun start shows coherent) left0 left1 written0 written1 count (with_world went.last last shows_last coherent_last) status
 
 -- the nodes opened and the script was played, and at every moment of it the networks went together with the worlds
-pub record PlaysOneWay {F : Type 0} (m : Machine F) (frame_at : Reads F) (nodes : ℕ) (notary : Party) (w : World) (old new : List DiskView) (left0 left1 written0 written1 : Option (List ℕ)) (count : ℕ) (status : Status) : Type 0 where
-  pub plays : Plays (environment m frame_at (member nodes notary 0)) w old new left0 left1 written0 written1 count status
-  pub together : GoTogether m frame_at nodes notary plays.start plays.last old new left0 left1 written0 written1 count status
+pub record PlaysOneWay {F : Type 0} (m : Meaning F) (nodes : ℕ) (notary : Party) (w : World) (old new : List DiskView) (left0 left1 written0 written1 : Option (List ℕ)) (count : ℕ) (status : Status) : Type 0 where
+  pub plays : Plays (environment m (member nodes notary 0)) w old new left0 left1 written0 written1 count status
+  pub together : GoTogether m nodes notary plays.start plays.last old new left0 left1 written0 written1 count status
 
 -- the nodes opened and the script was played, or one did not open
-abbrev pub PlaysOrRefuses : {F : Type 0} → Machine F → Reads F → ℕ → Party → World → List DiskView → List DiskView → Option (List ℕ) → Option (List ℕ) → Option (List ℕ) → Option (List ℕ) → ℕ → Status → Type 0
-PlaysOrRefuses m frame_at nodes notary w old new left0 left1 written0 written1 count s =
-    PlaysOneWay m frame_at nodes notary w old new left0 left1 written0 written1 count s
-    ⊎ Refuses (environment m frame_at (member nodes notary 0)) w old new left0 left1 written0 written1 count s
+abbrev pub PlaysOrRefuses : {F : Type 0} → Meaning F → ℕ → Party → World → List DiskView → List DiskView → Option (List ℕ) → Option (List ℕ) → Option (List ℕ) → Option (List ℕ) → ℕ → Status → Type 0
+PlaysOrRefuses m nodes notary w old new left0 left1 written0 written1 count s =
+    PlaysOneWay m nodes notary w old new left0 left1 written0 written1 count s
+    ⊎ Refuses (environment m (member nodes notary 0)) w old new left0 left1 written0 written1 count s
 
 -- a run over disks that show this world while their nodes are down: the nodes opened and the script was played, or one did not open
-pub record RunsAs {F : Type 0} (m : Machine F) (frame_at : Reads F) (nodes : ℕ) (notary : Party) (w : World) (old new : List DiskView) (left0 left1 written0 written1 : Option (List ℕ)) (count number : ℕ) : Type 0 where
+pub record RunsAs {F : Type 0} (m : Meaning F) (nodes : ℕ) (notary : Party) (w : World) (old new : List DiskView) (left0 left1 written0 written1 : Option (List ℕ)) (count number : ℕ) : Type 0 where
   pub status : Status
   pub is : number ≡ number_of_status status
-  pub ran : PlaysOrRefuses m frame_at nodes notary w old new left0 left1 written0 written1 count status
+  pub ran : PlaysOrRefuses m nodes notary w old new left0 left1 written0 written1 count status

@@ -5,7 +5,7 @@ use Rattle.disk_journal.specs.Journal.{journal_of}
 use Rattle.net_base.specs.declared.causes.Cause.{Cause}
 use Rattle.net_base.specs.declared.names.Identity.{Identity}
 use Rattle.flow_machine.specs.Machine.{Machine}
-use Rattle.net_model.specs.Environment.{Environment, environment}
+use Rattle.net_model.specs.Environment.{Environment, environment, Meaning}
 use Rattle.net_model.specs.Runs.{merged}
 use Rattle.node_tables.specs.Journals.{Reads, causes_of}
 use Rattle.network_core.specs.declared.steps.Outcome.{Outcome}
@@ -28,40 +28,40 @@ use Rattle.node_shell.specs.Story.{Story, begins, goes_on, EndsWith, ScriptRun}
 -- ---- a line
 
 -- what a step came to, of a network and of the world that it shows at once: its outcome, which is told; or memory ran out before it or within it
-abbrev pub StepGoes : {F : Type 0} (m : Machine F) (frame_at : Reads F) (id : Identity)
-    → Step → Option Reply → Pair (environment m frame_at id) → Pair (environment m frame_at id) → Type 0
-StepGoes m frame_at id s (Some reply) a b = (o : Outcome) × PairServes m frame_at id s (Some o) a b × (reply ≡ Told o)
-StepGoes m frame_at id s None a b = (b ≡ a) ⊎ PairServes m frame_at id s None a b
+abbrev pub StepGoes : {F : Type 0} (m : Meaning F) (id : Identity)
+    → Step → Option Reply → Pair (environment m id) → Pair (environment m id) → Type 0
+StepGoes m id s (Some reply) a b = (o : Outcome) × PairServes m id s (Some o) a b × (reply ≡ Told o)
+StepGoes m id s None a b = (b ≡ a) ⊎ PairServes m id s None a b
 
 -- so of the step that a line makes; where it makes none both stay as they are
-abbrev pub Goes : {F : Type 0} (m : Machine F) (frame_at : Reads F) (id : Identity)
-    → Option Step → Option Reply → Pair (environment m frame_at id) → Pair (environment m frame_at id) → Type 0
-Goes m frame_at id (Some s) reply a b = StepGoes m frame_at id s reply a b
-Goes m frame_at id None reply a b = b ≡ a
+abbrev pub Goes : {F : Type 0} (m : Meaning F) (id : Identity)
+    → Option Step → Option Reply → Pair (environment m id) → Pair (environment m id) → Type 0
+Goes m id (Some s) reply a b = StepGoes m id s reply a b
+Goes m id None reply a b = b ≡ a
 
-abbrev pub LineGoes : {F : Type 0} (m : Machine F) (frame_at : Reads F) (id : Identity)
-    → List ℕ → Option Reply → Pair (environment m frame_at id) → Pair (environment m frame_at id) → Type 0
-LineGoes m frame_at id line reply a b = Goes m frame_at id (step_of m (asked_by line) (words_of line)) reply a b
+abbrev pub LineGoes : {F : Type 0} (m : Meaning F) (id : Identity)
+    → List ℕ → Option Reply → Pair (environment m id) → Pair (environment m id) → Type 0
+LineGoes m id line reply a b = Goes m id (step_of m (asked_by line) (words_of line)) reply a b
 
 -- one link of a story of networks together with worlds: it is one of the networks and, with the same reply, one of the worlds, and what the line made it
 -- made of both at once
-pub record PairLink {F : Type 0} (m : Machine F) (frame_at : Reads F) (id : Identity) (a : Pair (environment m frame_at id))
-    (line text : List ℕ) (b : Pair (environment m frame_at id)) : Type 0 where
-  pub net : NetLink m frame_at a.net line text b.net
-  pub replies : RepliesTo (environment m frame_at id) a.world line net.reply b.world
-  pub goes : LineGoes m frame_at id line (Some net.reply) a b
+pub record PairLink {F : Type 0} (m : Meaning F) (id : Identity) (a : Pair (environment m id))
+    (line text : List ℕ) (b : Pair (environment m id)) : Type 0 where
+  pub net : NetLink m a.net line text b.net
+  pub replies : RepliesTo (environment m id) a.world line net.reply b.world
+  pub goes : LineGoes m id line (Some net.reply) a b
 
 -- a line was left off for want of memory
-pub record PairLeft {F : Type 0} (m : Machine F) (frame_at : Reads F) (id : Identity) (a : Pair (environment m frame_at id))
-    (line : List ℕ) (b : Pair (environment m frame_at id)) : Type 0 where
-  pub net : NetLeft m frame_at a.net line b.net
-  pub leaves : Leaves (environment m frame_at id) (step_of m (asked_by line) (words_of line)) a.world b.world
-  pub goes : LineGoes m frame_at id line None a b
+pub record PairLeft {F : Type 0} (m : Meaning F) (id : Identity) (a : Pair (environment m id))
+    (line : List ℕ) (b : Pair (environment m id)) : Type 0 where
+  pub net : NetLeft m a.net line b.net
+  pub leaves : Leaves (environment m id) (step_of m (asked_by line) (words_of line)) a.world b.world
+  pub goes : LineGoes m id line None a b
 
 -- a line was left without an answer for want of memory: it was left off, or it was served and its answer could not be spelt
-abbrev pub PairShort : {F : Type 0} (m : Machine F) (frame_at : Reads F) (id : Identity)
-    → Pair (environment m frame_at id) → List ℕ → Pair (environment m frame_at id) → Type 0
-PairShort m frame_at id a line b = PairLeft m frame_at id a line b ⊎ ((text : List ℕ) × PairLink m frame_at id a line text b)
+abbrev pub PairShort : {F : Type 0} (m : Meaning F) (id : Identity)
+    → Pair (environment m id) → List ℕ → Pair (environment m id) → Type 0
+PairShort m id a line b = PairLeft m id a line b ⊎ ((text : List ℕ) × PairLink m id a line text b)
 
 -- the network shows some coherent world, and of the two this holds
 pub record InPair {F : Type 0} (e : Environment F) (net : NetSeen) (P : Pair e → Type 0) : Type 0 where
@@ -95,30 +95,30 @@ EndComesBy link short start left written0 written1 count lines rest last status.
 
 -- from a network with its world there is a way to another one, and at every moment on it, whichever images power cuts leave of the disks, all is kept, and
 -- what was acknowledged as it began stands once in the merged journals
-pub record LeadsOn {F : Type 0} (m : Machine F) (frame_at : Reads F) (id : Identity) (a b : Pair (environment m frame_at id)) : Type 0 where
-  pub way : Way m frame_at id a b
-  pub kept : (s : Instant) → IsOn way s → IsKept (environment m frame_at id) a.net s
+pub record LeadsOn {F : Type 0} (m : Meaning F) (id : Identity) (a b : Pair (environment m id)) : Type 0 where
+  pub way : Way m id a b
+  pub kept : (s : Instant) → IsOn way s → IsKept (environment m id) a.net s
   pub acknowledged : (s : Instant) → IsOn way s → (images : List (List ℕ)) → IsChoice s images → (p : ℕ) (cause : Cause)
-      → Acknowledged (environment m frame_at id) a.world p cause → StandsOnce (p, cause) (merged (map (causes_of frame_at) (map journal_of images)))
+      → Acknowledged (environment m id) a.world p cause → StandsOnce (p, cause) (merged (map (causes_of m.frame_at) (map journal_of images)))
 
 -- a way leads through the whole script, and to and on from all that it comes by
-pub record IsOneWay {F : Type 0} (m : Machine F) (frame_at : Reads F) (id : Identity) (a b : Pair (environment m frame_at id))
-    (passes : Pair (environment m frame_at id) → Type 0) : Type 0 where
-  pub whole : LeadsOn m frame_at id a b
-  pub to : (u : Pair (environment m frame_at id)) → passes u → LeadsOn m frame_at id a u
-  pub on : (u : Pair (environment m frame_at id)) → passes u → LeadsOn m frame_at id u b
+pub record IsOneWay {F : Type 0} (m : Meaning F) (id : Identity) (a b : Pair (environment m id))
+    (passes : Pair (environment m id) → Type 0) : Type 0 where
+  pub whole : LeadsOn m id a b
+  pub to : (u : Pair (environment m id)) → passes u → LeadsOn m id a u
+  pub on : (u : Pair (environment m id)) → passes u → LeadsOn m id u b
 
 -- so of each script
 abbrev pub ScriptsAreWays : (F : Type 0) → Type 0
-ScriptsAreWays F = (m : Machine F) (f : Reads F) (id : Identity) (a b : Pair (environment m f id)) (left0 left1 written0 written1 : Option (List ℕ)) (count : ℕ) (s : Status)
-    (run : ScriptRun (PairLink m f id) (PairShort m f id) a left0 left1 written0 written1 count b s) → IsOneWay m f id a b (EndComesBy (PairLink m f id) (PairShort m f id) a left1 written0 written1 count run.lines run.rest b s run.ends)
+ScriptsAreWays F = (m : Meaning F) (id : Identity) (a b : Pair (environment m id)) (left0 left1 written0 written1 : Option (List ℕ)) (count : ℕ) (s : Status)
+    (run : ScriptRun (PairLink m id) (PairShort m id) a left0 left1 written0 written1 count b s) → IsOneWay m id a b (EndComesBy (PairLink m id) (PairShort m id) a left1 written0 written1 count run.lines run.rest b s run.ends)
 
 -- what a script comes to of networks together with worlds, it comes to of the worlds alone and of the networks alone
-pub record IsBoth {F : Type 0} (m : Machine F) (frame_at : Reads F) (id : Identity) (a b : Pair (environment m frame_at id))
+pub record IsBoth {F : Type 0} (m : Meaning F) (id : Identity) (a b : Pair (environment m id))
     (left0 left1 written0 written1 : Option (List ℕ)) (count : ℕ) (s : Status) : Type 0 where
-  pub worlds : ScriptRun (Link (environment m frame_at id)) (RunsShort (environment m frame_at id)) a.world left0 left1 written0 written1 count b.world s
-  pub nets : ScriptRun (NetLink m frame_at) (NetShort m frame_at) a.net left0 left1 written0 written1 count b.net s
+  pub worlds : ScriptRun (Link (environment m id)) (RunsShort (environment m id)) a.world left0 left1 written0 written1 count b.world s
+  pub nets : ScriptRun (NetLink m) (NetShort m) a.net left0 left1 written0 written1 count b.net s
 
 abbrev pub ScriptsAreBoth : (F : Type 0) → Type 0
-ScriptsAreBoth F = (m : Machine F) (f : Reads F) (id : Identity) (a b : Pair (environment m f id)) (left0 left1 written0 written1 : Option (List ℕ)) (count : ℕ) (s : Status)
-    → ScriptRun (PairLink m f id) (PairShort m f id) a left0 left1 written0 written1 count b s → IsBoth m f id a b left0 left1 written0 written1 count s
+ScriptsAreBoth F = (m : Meaning F) (id : Identity) (a b : Pair (environment m id)) (left0 left1 written0 written1 : Option (List ℕ)) (count : ℕ) (s : Status)
+    → ScriptRun (PairLink m id) (PairShort m id) a left0 left1 written0 written1 count b s → IsBoth m id a b left0 left1 written0 written1 count s

@@ -1,5 +1,6 @@
 //! What the words of a line do to the network.
 
+ghost use Rattle.net_model.specs.Environment.{unjudged};
 ghost use Rattle.std.specs.Prelude.{◌≡◌, ◌<◌, IfOk, map, string_bytes, min, ◌-◌, length, drop, slice_index_or, [], Option, Some, None, option_map, false};
 ghost use Rattle.network_core.specs.Worlds.{KeepsWorld};
 ghost use Rattle.shell_words.specs.Script.{command_of, is_quit, has_mark};
@@ -62,8 +63,8 @@ fn make<B: Bay, F: FlowSet>(
     net: &mut Net<B, F>,
     step: &Step,
 ) -> Result<Reply, AllocError>
-    ensures serves { KeepsWorld F.machine F.reading net.old net.new (λ e w v. StepComes e w step.now result v) }
-    ensures responds { StepResponds F.machine F.reading step.now net.old (given result) net.new }
+    ensures serves { KeepsWorld (unjudged F.machine F.reading) net.old net.new (λ e w v. StepComes e w step.now result v) }
+    ensures responds { StepResponds (unjudged F.machine F.reading) step.now net.old (given result) net.new }
     ensures count { length net.new.nodes ≡ length net.old.nodes }
     ensures goes_on { IfOk result (λ reply. is_end reply ≡ false) }
 {
@@ -102,8 +103,8 @@ fn start<B: Bay, F: FlowSet>(
     words: &[String],
 ) -> Result<Reply, AllocError>
     requires { 2 < length words.now }
-    ensures serves { KeepsWorld F.machine F.reading net.old net.new (λ e w v. Comes e w (command.Start node) (map (λ s. string_bytes s) words.now) result v) }
-    ensures responds { CommandResponds F.machine F.reading (command.Start node) (map (λ s. string_bytes s) words.now) net.old (given result) net.new }
+    ensures serves { KeepsWorld (unjudged F.machine F.reading) net.old net.new (λ e w v. Comes e w (command.Start node) (map (λ s. string_bytes s) words.now) result v) }
+    ensures responds { CommandResponds (unjudged F.machine F.reading) (command.Start node) (map (λ s. string_bytes s) words.now) net.old (given result) net.new }
     ensures count { length net.new.nodes ≡ length net.old.nodes }
     ensures goes_on { IfOk result (λ reply. is_end reply ≡ false) }
 {
@@ -197,8 +198,8 @@ fn serve<B: Bay, F: FlowSet>(
     net: &mut Net<B, F>,
     words: &[String],
 ) -> Result<Reply, AllocError>
-    ensures serves { let ws = map (λ s. string_bytes s) words.now in KeepsWorld F.machine F.reading net.old net.new (λ e w v. Comes e w (command_of ws) ws result v) }
-    ensures responds { let ws = map (λ s. string_bytes s) words.now in CommandResponds F.machine F.reading (command_of ws) ws net.old (given result) net.new }
+    ensures serves { let ws = map (λ s. string_bytes s) words.now in KeepsWorld (unjudged F.machine F.reading) net.old net.new (λ e w v. Comes e w (command_of ws) ws result v) }
+    ensures responds { let ws = map (λ s. string_bytes s) words.now in CommandResponds (unjudged F.machine F.reading) (command_of ws) ws net.old (given result) net.new }
     ensures count { length net.new.nodes ≡ length net.old.nodes }
     ensures end { IfOk result (λ reply. is_end reply ≡ is_quit_command (command_of (map (λ s. string_bytes s) words.now))) }
 {
@@ -276,8 +277,8 @@ pub fn reply_to<B: Bay, F: FlowSet>(
     net: &mut Net<B, F>,
     line: &[u8],
 ) -> Result<Reply, AllocError>
-    ensures replies { KeepsWorld F.machine F.reading net.old net.new (λ e w v. LineComes e w line.now result v) }
-    ensures responds { LineResponds F.machine F.reading line.now net.old (given result) net.new }
+    ensures replies { KeepsWorld (unjudged F.machine F.reading) net.old net.new (λ e w v. LineComes e w line.now result v) }
+    ensures responds { LineResponds (unjudged F.machine F.reading) line.now net.old (given result) net.new }
     ensures count { length net.new.nodes ≡ length net.old.nodes }
     ensures end { IfOk result (λ reply. is_end reply ≡ is_quit line.now) }
 {

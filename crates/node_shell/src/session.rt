@@ -3,7 +3,7 @@ ghost use Rattle.outside.specs.Faults.{Rose};
 ghost use Rattle.network_core.specs.Worlds.{World, NetSeen, Shows, Coherent};
 ghost use Rattle.network_core.specs.Drains.{with_world};
 ghost use Rattle.net_base.specs.declared.names.Identity.{Identity};
-ghost use Rattle.net_model.specs.Environment.{environment};
+ghost use Rattle.net_model.specs.Environment.{environment, unjudged};
 ghost use Rattle.shell_words.specs.Script.{is_quit};
 ghost use Rattle.std.specs.Io.KnownBytes.{Consumes, IsAtEnd};
 ghost use Rattle.node_shell.specs.Responds.{NetLink, NetShort};
@@ -43,7 +43,7 @@ fn answer<B: Bay, F: FlowSet, K: Sink>(
     sink: &mut K,
     line: &[u8],
 ) -> Result<bool, Stop>
-    ensures comes { AnswerComes (NetLink F.machine F.reading) (NetShort F.machine F.reading) net.old line.now (K.written sink.old) (K.written sink.new) result net.new }
+    ensures comes { AnswerComes (NetLink (unjudged F.machine F.reading)) (NetShort (unjudged F.machine F.reading)) net.old line.now (K.written sink.old) (K.written sink.new) result net.new }
     ensures count { length net.new.nodes ≡ length net.old.nodes }
     ensures quit { IfOk result (λ quit. quit ≡ is_quit line.now) }
     ensures cause { IsErrOf result Stop.Write → Rose (K.faults sink.old) (K.faults sink.new) }
@@ -77,8 +77,8 @@ fn answer_last<B: Bay, F: FlowSet, K: Sink>(
     sink: &mut K,
     line: &[u8],
 ) -> Status
-    ensures ended { (start : NetSeen) (left0 left1 written0 : Option (List ℕ)) (count : ℕ) → count ≤ 16777216 → IsAtEnd left1 → Progress (NetLink F.machine F.reading) start left0 left1 written0 (K.written sink.old) count net.old line.now
-        → ScriptRun (NetLink F.machine F.reading) (NetShort F.machine F.reading) start left0 left1 written0 (K.written sink.new) count net.new result }
+    ensures ended { (start : NetSeen) (left0 left1 written0 : Option (List ℕ)) (count : ℕ) → count ≤ 16777216 → IsAtEnd left1 → Progress (NetLink (unjudged F.machine F.reading)) start left0 left1 written0 (K.written sink.old) count net.old line.now
+        → ScriptRun (NetLink (unjudged F.machine F.reading)) (NetShort (unjudged F.machine F.reading)) start left0 left1 written0 (K.written sink.new) count net.new result }
     ensures count { length net.new.nodes ≡ length net.old.nodes }
     ensures kinds { IsLastStatus result }
     ensures cause { result ≡ Status.WriteFault → Rose (K.faults sink.old) (K.faults sink.new) }
@@ -100,10 +100,10 @@ fn answer_line<B: Bay, F: FlowSet, K: Sink>(
     sink: &mut K,
     line: &[u8],
 ) -> Result<(), Status>
-    ensures ok { OnOk result ((start : NetSeen) (left0 left1 left2 written0 : Option (List ℕ)) (count : ℕ) → count < 16777216 → Consumes left1 left2 (10 ∷ []) → Progress (NetLink F.machine F.reading) start left0 left1 written0 (K.written sink.old) count net.old line.now
-        → Progress (NetLink F.machine F.reading) start left0 left2 written0 (K.written sink.new) (count + 1) net.new []) }
-    ensures err { IfErr result (λ status. (start : NetSeen) (left0 left1 left2 written0 : Option (List ℕ)) (count : ℕ) → count < 16777216 → Consumes left1 left2 (10 ∷ []) → Progress (NetLink F.machine F.reading) start left0 left1 written0 (K.written sink.old) count net.old line.now
-        → ScriptRun (NetLink F.machine F.reading) (NetShort F.machine F.reading) start left0 left2 written0 (K.written sink.new) (count + 1) net.new status) }
+    ensures ok { OnOk result ((start : NetSeen) (left0 left1 left2 written0 : Option (List ℕ)) (count : ℕ) → count < 16777216 → Consumes left1 left2 (10 ∷ []) → Progress (NetLink (unjudged F.machine F.reading)) start left0 left1 written0 (K.written sink.old) count net.old line.now
+        → Progress (NetLink (unjudged F.machine F.reading)) start left0 left2 written0 (K.written sink.new) (count + 1) net.new []) }
+    ensures err { IfErr result (λ status. (start : NetSeen) (left0 left1 left2 written0 : Option (List ℕ)) (count : ℕ) → count < 16777216 → Consumes left1 left2 (10 ∷ []) → Progress (NetLink (unjudged F.machine F.reading)) start left0 left1 written0 (K.written sink.old) count net.old line.now
+        → ScriptRun (NetLink (unjudged F.machine F.reading)) (NetShort (unjudged F.machine F.reading)) start left0 left2 written0 (K.written sink.new) (count + 1) net.new status) }
     ensures count { length net.new.nodes ≡ length net.old.nodes }
     ensures kinds { IfErr result IsLastStatus }
     ensures cause { IsErrOf result Status.WriteFault → Rose (K.faults sink.old) (K.faults sink.new) }
@@ -126,11 +126,11 @@ fn take_byte<B: Bay, F: FlowSet, S: Source, K: Sink>(
     count: u64,
 ) -> Result<(), End>
     requires within { count ≤ 16777216 }
-    ensures ok { OnOk result ((start : NetSeen) (left0 written0 : Option (List ℕ)) → Progress (NetLink F.machine F.reading) start left0 (S.left source.old) written0 (K.written sink.old) count net.old line.old.items
-        → Progress (NetLink F.machine F.reading) start left0 (S.left source.new) written0 (K.written sink.new) (count + 1) net.new line.new.items) }
+    ensures ok { OnOk result ((start : NetSeen) (left0 written0 : Option (List ℕ)) → Progress (NetLink (unjudged F.machine F.reading)) start left0 (S.left source.old) written0 (K.written sink.old) count net.old line.old.items
+        → Progress (NetLink (unjudged F.machine F.reading)) start left0 (S.left source.new) written0 (K.written sink.new) (count + 1) net.new line.new.items) }
     ensures within { OnOk result (count < 16777216) }
-    ensures err { IfErr result (λ e. (start : NetSeen) (left0 written0 : Option (List ℕ)) → Progress (NetLink F.machine F.reading) start left0 (S.left source.old) written0 (K.written sink.old) count net.old line.old.items
-        → ScriptRun (NetLink F.machine F.reading) (NetShort F.machine F.reading) start left0 (S.left source.new) written0 (K.written sink.new) e.bytes_read net.new e.status) }
+    ensures err { IfErr result (λ e. (start : NetSeen) (left0 written0 : Option (List ℕ)) → Progress (NetLink (unjudged F.machine F.reading)) start left0 (S.left source.old) written0 (K.written sink.old) count net.old line.old.items
+        → ScriptRun (NetLink (unjudged F.machine F.reading)) (NetShort (unjudged F.machine F.reading)) start left0 (S.left source.new) written0 (K.written sink.new) e.bytes_read net.new e.status) }
     ensures too_long { IfErr result (λ e. e.status ≡ Status.TooLong ↔ (e.bytes_read ≡ 16777217)) }
     ensures few { IfErr result (λ e. e.bytes_read ≤ 16777217) }
     ensures count { length net.new.nodes ≡ length net.old.nodes }
@@ -186,12 +186,12 @@ pub fn session<B: Bay, F: FlowSet, S: Source, K: Sink>(
     sink: &mut K,
 ) -> End
     ensures count { length net.new.nodes ≡ length net.old.nodes }
-    ensures went { ScriptRun (NetLink F.machine F.reading) (NetShort F.machine F.reading) net.old (S.left source.old) (S.left source.new) (K.written sink.old) (K.written sink.new) result.bytes_read net.new result.status }
+    ensures went { ScriptRun (NetLink (unjudged F.machine F.reading)) (NetShort (unjudged F.machine F.reading)) net.old (S.left source.old) (S.left source.new) (K.written sink.old) (K.written sink.new) result.bytes_read net.new result.status }
     ensures ran { (id : Identity) (start : World)
-        (shows : Shows (environment F.machine F.reading id) net.old start)
-        (coherent : Coherent (environment F.machine F.reading id) start)
-        → InPair (environment F.machine F.reading id) net.new
-        (λ last. ScriptRun (PairLink F.machine F.reading id) (PairShort F.machine F.reading id)
+        (shows : Shows (environment (unjudged F.machine F.reading) id) net.old start)
+        (coherent : Coherent (environment (unjudged F.machine F.reading) id) start)
+        → InPair (environment (unjudged F.machine F.reading) id) net.new
+        (λ last. ScriptRun (PairLink (unjudged F.machine F.reading) id) (PairShort (unjudged F.machine F.reading) id)
         (with_world net.old start shows coherent) (S.left source.old) (S.left source.new)
         (K.written sink.old) (K.written sink.new) result.bytes_read last result.status) }
     ensures too_long { result.status ≡ Status.TooLong ↔ (result.bytes_read ≡ 16777217) }

@@ -1,7 +1,7 @@
 ghost use Rattle.std.specs.Prelude.{◌≡◌, ◌≤◌, ◌<◌, ◌↔◌, ◌+◌, ◌*◌, ℕ, length, map, drop, slice_get, string_bytes, Some, None};
 ghost use Rattle.outside.specs.Disk.{DiskView};
 ghost use Rattle.outside.specs.Faults.{Rose};
-ghost use Rattle.net_model.specs.Environment.{party};
+ghost use Rattle.net_model.specs.Environment.{party, unjudged};
 ghost use Rattle.node_core.specs.Disks.{attached_as};
 ghost use Rattle.network_core.specs.Worlds.{World, Shows, Coherent};
 ghost use Rattle.shell_words.specs.Script.{network_of_words, IsNetwork};
@@ -45,9 +45,9 @@ fn play<S: Source, K: Sink, B: Bay, F: FlowSet>(
     requires disks { length own.items ≡ network.nodes }
     ensures count { length result.2.items ≡ length own.items }
     ensures attached { attached_as (map B.seen result.2.items) ≡ attached_as (map B.seen own.items) }
-    ensures runs { let e = environment_for F.machine F.reading network in (w : World) → Shows e (over e w.now (map B.seen own.items)) w → Coherent e w
-        → PlaysOrRefuses F.machine F.reading network.nodes (party network.notary) w (map B.seen own.items) (map B.seen result.2.items) (S.left source.old) (S.left source.new) (K.written sink.old) (K.written sink.new) result.1 result.0 }
-    ensures went { GoesOrHalts F.machine F.reading network.nodes (party network.notary) (map B.seen own.items) (map B.seen result.2.items) (S.left source.old) (S.left source.new) (K.written sink.old) (K.written sink.new) result.1 result.0 }
+    ensures runs { let e = environment_for (unjudged F.machine F.reading) network in (w : World) → Shows e (over e w.now (map B.seen own.items)) w → Coherent e w
+        → PlaysOrRefuses (unjudged F.machine F.reading) network.nodes (party network.notary) w (map B.seen own.items) (map B.seen result.2.items) (S.left source.old) (S.left source.new) (K.written sink.old) (K.written sink.new) result.1 result.0 }
+    ensures went { GoesOrHalts (unjudged F.machine F.reading) network.nodes (party network.notary) (map B.seen own.items) (map B.seen result.2.items) (S.left source.old) (S.left source.new) (K.written sink.old) (K.written sink.new) result.1 result.0 }
     ensures too_long { result.0 ≡ Status.TooLong ↔ (result.1 ≡ 16777217) }
     ensures few { result.1 ≤ 16777217 }
     ensures own { IsPlayedStatus result.0 → KeepOwn F.reading network.nodes (party network.notary) (map B.seen own.items) }
@@ -81,9 +81,9 @@ fn run_network<S: Source, K: Sink, B: Bay, F: FlowSet>(
 ) -> Ended<B>
     requires within { IsNetwork network }
     requires disks { length disks.items ≡ 32 }
-    ensures story { let e = environment_for F.machine F.reading network in let old = first_disks network.nodes (map B.seen disks.items) in let new = first_disks network.nodes (map B.seen result.disks.items) in (w : World) → Shows e (over e w.now old) w → Coherent e w
-        → RunsAs F.machine F.reading network.nodes (party network.notary) w old new (S.left source.old) (S.left source.new) (K.written sink.old) (K.written sink.new) result.bytes_read result.status }
-    ensures went { RunsAnyhow F.machine F.reading network.nodes (party network.notary) (first_disks network.nodes (map B.seen disks.items)) (first_disks network.nodes (map B.seen result.disks.items)) (S.left source.old) (S.left source.new) (K.written sink.old) (K.written sink.new) result.bytes_read result.status }
+    ensures story { let e = environment_for (unjudged F.machine F.reading) network in let old = first_disks network.nodes (map B.seen disks.items) in let new = first_disks network.nodes (map B.seen result.disks.items) in (w : World) → Shows e (over e w.now old) w → Coherent e w
+        → RunsAs (unjudged F.machine F.reading) network.nodes (party network.notary) w old new (S.left source.old) (S.left source.new) (K.written sink.old) (K.written sink.new) result.bytes_read result.status }
+    ensures went { RunsAnyhow (unjudged F.machine F.reading) network.nodes (party network.notary) (first_disks network.nodes (map B.seen disks.items)) (first_disks network.nodes (map B.seen result.disks.items)) (S.left source.old) (S.left source.new) (K.written sink.old) (K.written sink.new) result.bytes_read result.status }
     ensures words { result.status ≡ 2 → ⊥ }
     ensures count { length result.disks.items ≡ 32 }
     ensures rest { drop (2 * network.nodes) result.disks.items ≡ drop (2 * network.nodes) disks.items }
@@ -131,9 +131,9 @@ pub fn run<S: Source, K: Sink, B: Bay, F: FlowSet>(
     disks: Vec<B>,
 ) -> Ended<B>
     requires { length disks.items ≡ 32 }
-    ensures story { (n : NetworkWords) → network_of_words (map (λ s. string_bytes s) words.now) ≡ Some n → let e = environment_for F.machine F.reading n in let old = first_disks n.nodes (map B.seen disks.items) in let new = first_disks n.nodes (map B.seen result.disks.items) in (w : World) → Shows e (over e w.now old) w → Coherent e w
-        → RunsAs F.machine F.reading n.nodes (party n.notary) w old new (S.left source.old) (S.left source.new) (K.written sink.old) (K.written sink.new) result.bytes_read result.status }
-    ensures went { (n : NetworkWords) → network_of_words (map (λ s. string_bytes s) words.now) ≡ Some n → RunsAnyhow F.machine F.reading n.nodes (party n.notary) (first_disks n.nodes (map B.seen disks.items)) (first_disks n.nodes (map B.seen result.disks.items)) (S.left source.old) (S.left source.new) (K.written sink.old) (K.written sink.new) result.bytes_read result.status }
+    ensures story { (n : NetworkWords) → network_of_words (map (λ s. string_bytes s) words.now) ≡ Some n → let e = environment_for (unjudged F.machine F.reading) n in let old = first_disks n.nodes (map B.seen disks.items) in let new = first_disks n.nodes (map B.seen result.disks.items) in (w : World) → Shows e (over e w.now old) w → Coherent e w
+        → RunsAs (unjudged F.machine F.reading) n.nodes (party n.notary) w old new (S.left source.old) (S.left source.new) (K.written sink.old) (K.written sink.new) result.bytes_read result.status }
+    ensures went { (n : NetworkWords) → network_of_words (map (λ s. string_bytes s) words.now) ≡ Some n → RunsAnyhow (unjudged F.machine F.reading) n.nodes (party n.notary) (first_disks n.nodes (map B.seen disks.items)) (first_disks n.nodes (map B.seen result.disks.items)) (S.left source.old) (S.left source.new) (K.written sink.old) (K.written sink.new) result.bytes_read result.status }
     ensures words { (result.status ≡ 2) ↔ (network_of_words (map (λ s. string_bytes s) words.now) ≡ None) }
     ensures untouched { network_of_words (map (λ s. string_bytes s) words.now) ≡ None → (result.bytes_read ≡ 0) × (result.disks.items ≡ disks.items) × (S.left source.new ≡ S.left source.old) × (K.written sink.new ≡ K.written sink.old) }
     ensures disks { (length result.disks.items ≡ 32) × ((n : NetworkWords) → network_of_words (map (λ s. string_bytes s) words.now) ≡ Some n → drop (2 * n.nodes) result.disks.items ≡ drop (2 * n.nodes) disks.items) }

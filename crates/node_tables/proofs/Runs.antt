@@ -28,7 +28,7 @@ use Rattle.flow_machine.specs.declared.flows.FlowState.{FlowState}
 use Rattle.flow_machine.specs.declared.flows.FlowState.TheVariants.{Live, Ended, Failed}
 use Rattle.checkpoints.specs.Tables.{with_flow, IsNumbered as IsTabled}
 use Rattle.checkpoints.proofs.Items.{set_parts, push_parts, length_parts}
-use Rattle.net_model.specs.Environment.{Environment, environment, party}
+use Rattle.net_model.specs.Environment.{Environment, environment, party, unjudged}
 use Rattle.net_model.specs.State.{NodeState, no_flow, Record, Effect, flow_of, flows_on, sessions_on, apply_effect, fresh, replay, replay_from}
 use Rattle.net_model.specs.Steps.{checkpoint_of}
 use Rattle.net_model.specs.Enabled.{part_of}
@@ -228,7 +228,7 @@ pub no_machine : {F : Type 0} → Machine F
 no_machine = record { worded = λ name words. Err word.UnknownClass; made = λ class args at. Err make.UnknownClass; begun = λ class key at. None; next = λ frame with at. (frame, act.Fail 0); content = λ frame. []; weight = λ frame. 0; over = λ frame. false; tags = λ frame. []; load = λ class. 0 }
 
 abbrev pub some_world : {F : Type 0} → Party → ℕ → Environment F
-some_world notary nodes = environment no_machine (λ bytes. Err 0) (record { party = party 0; nodes = nodes; notary = notary })
+some_world notary nodes = environment (unjudged no_machine (λ bytes. Err 0)) (record { party = party 0; nodes = nodes; notary = notary })
 
 pub own_of : {F : Type 0} (is_frame : F → Type 0) (flow : Option (FlowAfter F)) → IfSome flow (IsAfter is_frame) → IfSome flow IsOwn
 own_of is_frame None h = tt

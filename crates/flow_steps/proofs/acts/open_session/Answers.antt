@@ -1,4 +1,4 @@
-use Rattle.net_model.specs.Environment.{environment}
+use Rattle.net_model.specs.Environment.{environment, unjudged}
 use Rattle.net_model.specs.Steps.{opens}
 use Rattle.session_acts.specs.Parts.{done_of}
 use Rattle.flow_steps.proofs.Limits.{open_done}
@@ -17,4 +17,4 @@ returns-clause-becomes g c =
     let at = c.args.at.now in
     let id = c.args.identity.now in
     let list = c.args.sessions.now.list in
-    told_becomes (environment g.F.FlowSet.machine g.F.Spelt.reading id) id.party.0 c.args.cause.moment.0 g.F.Spelt.within at (done_of c.in_ok-done.done) (opens id.nodes id.party.0 list at.flow c.args.to c.args.class c.args.first.now) c.go_on.result c.in_ok-done.ensures.done c.go_on.ensures.becomes
+    told_becomes (environment (unjudged g.F.FlowSet.machine g.F.Spelt.reading) id) id.party.0 c.args.cause.moment.0 g.F.Spelt.within at (done_of c.in_ok-done.done) (opens id.nodes id.party.0 list at.flow c.args.to c.args.class c.args.first.now) c.go_on.result c.in_ok-done.ensures.done c.go_on.ensures.becomes

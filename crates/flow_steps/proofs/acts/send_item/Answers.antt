@@ -1,4 +1,4 @@
-use Rattle.net_model.specs.Environment.{environment}
+use Rattle.net_model.specs.Environment.{environment, unjudged}
 use Rattle.net_model.specs.Steps.{sends}
 use Rattle.session_wire.specs.Rules.{owned}
 use Rattle.session_acts.specs.Parts.{done_of}
@@ -18,4 +18,4 @@ returns-clause-becomes g c =
     let at = c.args.at.now in
     let id = c.args.identity.now in
     let list = c.args.sessions.now.list in
-    told_becomes (environment g.F.FlowSet.machine g.F.Spelt.reading id) id.party.0 c.args.cause.moment.0 g.F.Spelt.within at (done_of c.in_ok-done.done) (sends id.party.0 c.args.value.now (owned at.flow c.args.key.now list)) c.go_on.result c.in_ok-done.ensures.done c.go_on.ensures.becomes
+    told_becomes (environment (unjudged g.F.FlowSet.machine g.F.Spelt.reading) id) id.party.0 c.args.cause.moment.0 g.F.Spelt.within at (done_of c.in_ok-done.done) (sends id.party.0 c.args.value.now (owned at.flow c.args.key.now list)) c.go_on.result c.in_ok-done.ensures.done c.go_on.ensures.becomes

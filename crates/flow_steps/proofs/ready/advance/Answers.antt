@@ -1,6 +1,6 @@
 use Rattle.std.proofs.Common.{◌≡◌, ◌<◌, ◌-◌, ◌^◌, None, refl}
 use Rattle.net_base.proofs.Lists.{all_get}
-use Rattle.net_model.specs.Environment.{environment}
+use Rattle.net_model.specs.Environment.{environment, unjudged}
 use Rattle.net_model.specs.Sound.{steps_of}
 use Rattle.net_model.specs.State.{NodeState}
 use Rattle.flow_records.specs.Records.{IsFlow}
@@ -14,14 +14,14 @@ use Rattle.flow_steps.proofs.ready.advance.Goals as goal
 
 pub unreachable-requires : goal.unreachable-requires
 unreachable-requires g c =
-    let w = environment g.F.FlowSet.machine g.F.Spelt.reading c.args.identity.now in
+    let w = environment (unjudged g.F.FlowSet.machine g.F.Spelt.reading) c.args.identity.now in
     let list = c.args.sessions.now.list in
     let go = goes w list c.args.cause.moment.0 c.requires.picked.0 c.args.flows.now.flows c.args.cause.event c.requires.numbered c.requires.picked.1 in
     goes_not w list c.args.cause.moment.0 c.flow_in.result c.args.flows.now.flows c.args.cause.event go c.flow_in.ensures c.in_default.ensures.checkpoint
 
 pub perform-requires-clause-step : goal.perform-requires-clause-step
 perform-requires-clause-step g c =
-    let w = environment g.F.FlowSet.machine g.F.Spelt.reading c.args.identity.now in
+    let w = environment (unjudged g.F.FlowSet.machine g.F.Spelt.reading) c.args.identity.now in
     let list = c.args.sessions.now.list in
     let go = goes w list c.args.cause.moment.0 c.requires.picked.0 c.args.flows.now.flows c.args.cause.event c.requires.numbered c.requires.picked.1 in
     let p = goes_at w list c.args.cause.moment.0 c.flow_in.result c.args.flows.now.flows c.args.cause.event c.in-Some.at.now go c.flow_in.ensures c.in-Some.ensures.checkpoint in
@@ -29,7 +29,7 @@ perform-requires-clause-step g c =
 
 pub perform-requires-clause-limits : goal.perform-requires-clause-limits
 perform-requires-clause-limits g c =
-    let w = environment g.F.FlowSet.machine g.F.Spelt.reading c.args.identity.now in
+    let w = environment (unjudged g.F.FlowSet.machine g.F.Spelt.reading) c.args.identity.now in
     let list = c.args.sessions.now.list in
     let go = goes w list c.args.cause.moment.0 c.requires.picked.0 c.args.flows.now.flows c.args.cause.event c.requires.numbered c.requires.picked.1 in
     let p = goes_at w list c.args.cause.moment.0 c.flow_in.result c.args.flows.now.flows c.args.cause.event c.in-Some.at.now go c.flow_in.ensures c.in-Some.ensures.checkpoint in
@@ -37,7 +37,7 @@ perform-requires-clause-limits g c =
 
 pub perform-requires-clause-enabled : goal.perform-requires-clause-enabled
 perform-requires-clause-enabled g c =
-    let w = environment g.F.FlowSet.machine g.F.Spelt.reading c.args.identity.now in
+    let w = environment (unjudged g.F.FlowSet.machine g.F.Spelt.reading) c.args.identity.now in
     let list = c.args.sessions.now.list in
     let go = goes w list c.args.cause.moment.0 c.requires.picked.0 c.args.flows.now.flows c.args.cause.event c.requires.numbered c.requires.picked.1 in
     let p = goes_at w list c.args.cause.moment.0 c.flow_in.result c.args.flows.now.flows c.args.cause.event c.in-Some.at.now go c.flow_in.ensures c.in-Some.ensures.checkpoint in
@@ -46,7 +46,7 @@ perform-requires-clause-enabled g c =
 pub returns-clause-ready : goal.returns-clause-ready
 returns-clause-ready g c =
     let id = c.args.identity.now in
-    let w = environment g.F.FlowSet.machine g.F.Spelt.reading id in
+    let w = environment (unjudged g.F.FlowSet.machine g.F.Spelt.reading) id in
     let list = c.args.sessions.now.list in
     let go = goes w list c.args.cause.moment.0 c.requires.picked.0 c.args.flows.now.flows c.args.cause.event c.requires.numbered c.requires.picked.1 in
     let p = goes_at w list c.args.cause.moment.0 c.flow_in.result c.args.flows.now.flows c.args.cause.event c.in-Some.at.now go c.flow_in.ensures c.in-Some.ensures.checkpoint in

@@ -1,3 +1,4 @@
+use Rattle.net_model.specs.Environment.{unjudged}
 use Rattle.std.proofs.Common.{◌≡◌, ◌<◌, refl, sym, ◌∙◌, ap, arith, length, map, slice_get, slice_set, Some, subst}
 use Rattle.std.specs.Option.{option_map, option_to_list}
 use Rattle.std.proofs.lemmas.Option.{slice_get_read, same_Some, slice_get_within}
@@ -25,7 +26,7 @@ returns-in_err-make_room g c =
     let count : length c.make_room.new.waiting.items ≡ length lists = same_lists frames_of lists c.make_room.new.waiting.items c.make_room.ensures.frames in
     let within : p < length c.make_room.new.waiting.items = omega (arith, inside, count, c.self.invariant.4) in
     rw (← c.self.view_is)
-    (handed_short g.F.FlowSet.machine g.F.Spelt.reading c.args.repeated p c.args.at (record { nodes = items; waiting = map frames_of lists; now = c.self.inside.now.0 }) (record { nodes = items; waiting = map frames_of c.make_room.new.waiting.items; now = c.self.inside.now.0 }) n frames at c.requires.node.2 waits c.from_residual.result c.from_residual.ensures.0 c.requires.frame.2
+    (handed_short (unjudged g.F.FlowSet.machine g.F.Spelt.reading) c.args.repeated p c.args.at (record { nodes = items; waiting = map frames_of lists; now = c.self.inside.now.0 }) (record { nodes = items; waiting = map frames_of c.make_room.new.waiting.items; now = c.self.inside.now.0 }) n frames at c.requires.node.2 waits c.from_residual.result c.from_residual.ensures.0 c.requires.frame.2
     (ap (λ l. record { nodes = items; waiting = l; now = c.self.inside.now.0 }) c.make_room.ensures.frames))
 
 pub index-requires : goal.index-requires
@@ -128,11 +129,11 @@ returns-in_err-reply g c =
     let node_at = slice_get_read items (length items) p c.index_mut-node.result.now refl inside c.index_mut-node.ensures.value in
     let same : c.index_mut-node.result.now ≡ n = same_Some _ _ (sym node_at ∙ at) in
     let found : slice_get frames c.args.at ≡ Some c.unwrap-bytes.result.now = sym (ap (λ l. slice_get l c.args.at) list_is) ∙ sym c.get.ensures ∙ ap (λ o. option_map (λ f. f.now) o) c.unwrap-bytes.ensures in
-    let serves : TakeServes g.F.FlowSet.machine g.F.Spelt.reading c.self.inside.now.0 c.unwrap-bytes.result.now n c.take_at.result c.take_at.new.node = subst (λ (z : NodeSeen). TakeServes g.F.FlowSet.machine g.F.Spelt.reading c.self.inside.now.0 c.unwrap-bytes.result.now z c.take_at.result c.take_at.new.node) same c.take_at.ensures.serves in
+    let serves : TakeServes (unjudged g.F.FlowSet.machine g.F.Spelt.reading) c.self.inside.now.0 c.unwrap-bytes.result.now n c.take_at.result c.take_at.new.node = subst (λ (z : NodeSeen). TakeServes (unjudged g.F.FlowSet.machine g.F.Spelt.reading) c.self.inside.now.0 c.unwrap-bytes.result.now z c.take_at.result c.take_at.new.node) same c.take_at.ensures.serves in
     let old : NetSeen = record { nodes = items; waiting = map frames_of lists; now = c.self.inside.now.0 } in
     let new : NetSeen = record { nodes = slice_set items p c.take_at.new.node; waiting = map frames_of c.make_room.new.waiting.items; now = c.self.inside.now.0 } in
     rw (← c.self.view_is)
-    (handed_err g.F.FlowSet.machine g.F.Spelt.reading c.args.repeated p c.args.at old new n frames at c.requires.node.2 waits c.from_residual-in_err-reply.result c.take_at.result _ c.unwrap-bytes.result.now c.take_at.new.node c.from_residual-in_err-reply.ensures.0 c.in_err-reply.was found serves refl c.make_room.ensures.frames refl)
+    (handed_err (unjudged g.F.FlowSet.machine g.F.Spelt.reading) c.args.repeated p c.args.at old new n frames at c.requires.node.2 waits c.from_residual-in_err-reply.result c.take_at.result _ c.unwrap-bytes.result.now c.take_at.new.node c.from_residual-in_err-reply.ensures.0 c.in_err-reply.was found serves refl c.make_room.ensures.frames refl)
 
 pub settle-requires-clause-place : goal.settle-requires-clause-place
 settle-requires-clause-place g c =
@@ -190,14 +191,14 @@ returns g c =
     let node_at = slice_get_read items (length items) p c.index_mut-node.result.now refl inside c.index_mut-node.ensures.value in
     let same : c.index_mut-node.result.now ≡ n = same_Some _ _ (sym node_at ∙ at) in
     let found : slice_get frames c.args.at ≡ Some c.unwrap-bytes.result.now = sym (ap (λ l. slice_get l c.args.at) list_is) ∙ sym c.get.ensures ∙ ap (λ o. option_map (λ f. f.now) o) c.unwrap-bytes.ensures in
-    let serves : TakeServes g.F.FlowSet.machine g.F.Spelt.reading c.self.inside.now.0 c.unwrap-bytes.result.now n c.take_at.result c.take_at.new.node = subst (λ (z : NodeSeen). TakeServes g.F.FlowSet.machine g.F.Spelt.reading c.self.inside.now.0 c.unwrap-bytes.result.now z c.take_at.result c.take_at.new.node) same c.take_at.ensures.serves in
+    let serves : TakeServes (unjudged g.F.FlowSet.machine g.F.Spelt.reading) c.self.inside.now.0 c.unwrap-bytes.result.now n c.take_at.result c.take_at.new.node = subst (λ (z : NodeSeen). TakeServes (unjudged g.F.FlowSet.machine g.F.Spelt.reading) c.self.inside.now.0 c.unwrap-bytes.result.now z c.take_at.result c.take_at.new.node) same c.take_at.ensures.serves in
     let old : NetSeen = record { nodes = items; waiting = map frames_of lists; now = c.self.inside.now.0 } in
     let new : NetSeen = record { nodes = slice_set items p c.take_at.new.node; waiting = map frames_of c.settle.new.waiting.items; now = c.self.inside.now.0 } in
     let b = c.waits_on-waits.result in
     let ack = option_to_list c.in_ok-reply.reply.ack in
     let waiting = c.settle.ensures c.index.result.now here ∙ ap (λ l. mailed ack (parted b p c.args.at l (map frames_of c.make_room.new.waiting.items))) list_is ∙ ap (λ ws. mailed ack (parted b p c.args.at frames ws)) c.make_room.ensures.frames in
     rw (← c.self.view_is)
-    (handed_done g.F.FlowSet.machine g.F.Spelt.reading c.args.repeated p c.args.at old new n frames at c.requires.node.2 waits the_row.Denot c.take_at.result c.in_ok-reply.reply c.unwrap-bytes.result.now c.take_at.new.node b c.in_ok-reply.was found serves c.waits_on-waits.ensures refl waiting refl)
+    (handed_done (unjudged g.F.FlowSet.machine g.F.Spelt.reading) c.args.repeated p c.args.at old new n frames at c.requires.node.2 waits the_row.Denot c.take_at.result c.in_ok-reply.reply c.unwrap-bytes.result.now c.take_at.new.node b c.in_ok-reply.was found serves c.waits_on-waits.ensures refl waiting refl)
 
 pub invariant_of-self : goal.invariant_of-self
 invariant_of-self g c =

@@ -1,6 +1,6 @@
 use Rattle.std.proofs.Common.{◌≡◌, Err, None, true, sym, ◌∙◌, ap, subst}
 use Rattle.net_base.specs.declared.causes.Cause.{Cause}
-use Rattle.net_model.specs.Environment.{environment}
+use Rattle.net_model.specs.Environment.{environment, unjudged}
 use Rattle.net_model.specs.Steps.{next_cause}
 use Rattle.node_tables.specs.Journals.{state_of}
 use Rattle.node_core.specs.declared.faults.StartFault.TheVariants as start_fault
@@ -16,7 +16,7 @@ returns-then-is_full-clause-start g c =
     let here : seen_up id c.in-Up.up ≡ c.args.self.now = ap (λ s. record { identity = id; disk = disk_in g.D.Disk.seen s; journal = journal_in s; acked = acked_in s }) (sym c.in-Up.is) ∙ c.self.view_is in
     let tied : Tied id c.in-Up.up.journal c.in-Up.up.bodies = subst (IsWhole id) c.in-Up.is c.self.invariant.1 in
     let full : is_full g.F.Spelt.reading 0 c.in-Up.up.bodies ≡ true = sym (c.is_full.ensures id tied) ∙ c.if-is_full.true in
-    subst (λ (o : NodeSeen). StartAnswers (environment g.F.FlowSet.machine g.F.Spelt.reading o.identity) c.args.now.0 c.args.class c.args.args.now o (Err start_fault.Full) (seen_up id c.in-Up.up)) here
+    subst (λ (o : NodeSeen). StartAnswers (environment (unjudged g.F.FlowSet.machine g.F.Spelt.reading) o.identity) c.args.now.0 c.args.class c.args.args.now o (Err start_fault.Full) (seen_up id c.in-Up.up)) here
     (start_full g.F.FlowSet.machine g.F.Spelt.reading c.args.now.0 c.args.class c.args.args.now id c.in-Up.up c.in_ok-step.ensures.2 full)
 
 pub commit_alone-requires-clause-room : goal.commit_alone-requires-clause-room

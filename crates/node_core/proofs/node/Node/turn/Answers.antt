@@ -1,6 +1,6 @@
 use Rattle.std.proofs.Common.{◌≡◌, Err, None, true, false, refl, sym, ◌∙◌, ap, subst}
 use Rattle.std.specs.Option.{option_map}
-use Rattle.net_model.specs.Environment.{environment}
+use Rattle.net_model.specs.Environment.{environment, unjudged}
 use Rattle.node_core.specs.declared.faults.TurnFault.TheVariants as turn_fault
 use Rattle.node_core.specs.declared.idle.Picked.{Picked}
 use Rattle.node_core.specs.Journals.{is_full}
@@ -15,7 +15,7 @@ returns-then-is_full-clause-turn g c =
     let here : seen_up id c.in-Up.up ≡ c.args.self.now = ap (λ s. record { identity = id; disk = disk_in g.D.Disk.seen s; journal = journal_in s; acked = acked_in s }) (sym c.in-Up.is) ∙ c.self.view_is in
     let tied : Tied id c.in-Up.up.journal c.in-Up.up.bodies = subst (IsWhole id) c.in-Up.is c.self.invariant.1 in
     let full : is_full g.F.Spelt.reading 0 c.in-Up.up.bodies ≡ true = sym (c.is_full.ensures id tied) ∙ c.if-is_full.true in
-    subst (λ (o : NodeSeen). TurnAnswers (environment g.F.FlowSet.machine g.F.Spelt.reading o.identity) c.args.now.0 c.args.pick o (Err turn_fault.Full) (seen_up id c.in-Up.up)) here
+    subst (λ (o : NodeSeen). TurnAnswers (environment (unjudged g.F.FlowSet.machine g.F.Spelt.reading) o.identity) c.args.now.0 c.args.pick o (Err turn_fault.Full) (seen_up id c.in-Up.up)) here
     (c.in-Some.picked.event, sym (c.pick.ensures.event id) ∙ ap (option_map (λ (p : Picked). p.event)) c.in-Some.is, full, refl)
 
 pub go_on-requires-clause-picked : goal.go_on-requires-clause-picked
@@ -27,7 +27,7 @@ returns-in-Err-Memory-clause-turn g c =
     let here : seen_up id c.in-Up.up ≡ c.args.self.now = ap (λ s. record { identity = id; disk = disk_in g.D.Disk.seen s; journal = journal_in s; acked = acked_in s }) (sym c.in-Up.is) ∙ c.self.view_is in
     let tied : Tied id c.in-Up.up.journal c.in-Up.up.bodies = subst (IsWhole id) c.in-Up.is c.self.invariant.1 in
     let room : is_full g.F.Spelt.reading 0 c.in-Up.up.bodies ≡ false = sym (c.is_full.ensures id tied) ∙ c.if-is_full.false in
-    let w = environment g.F.FlowSet.machine g.F.Spelt.reading id in
+    let w = environment (unjudged g.F.FlowSet.machine g.F.Spelt.reading) id in
     let same = memory_up w id c.args.now.0 c.in-Some.picked.event None c.in-Up.up c.go_on.new.self c.in-Err-Memory.field-0 c.in-Err-Memory.field-0-is c.in-Err-Memory.ensures.commits in
-    subst (λ (o : NodeSeen). TurnAnswers (environment g.F.FlowSet.machine g.F.Spelt.reading o.identity) c.args.now.0 c.args.pick o (Err turn_fault.Memory) (seen_up id c.go_on.new.self)) here
+    subst (λ (o : NodeSeen). TurnAnswers (environment (unjudged g.F.FlowSet.machine g.F.Spelt.reading) o.identity) c.args.now.0 c.args.pick o (Err turn_fault.Memory) (seen_up id c.go_on.new.self)) here
     (c.in-Some.picked.event, sym (c.pick.ensures.event id) ∙ ap (option_map (λ (p : Picked). p.event)) c.in-Some.is, room, same)

@@ -1,7 +1,7 @@
 use Rattle.std.proofs.Common.{◌≤◌, Option, Err, refl, sym, ◌∙◌, ap, subst}
 use Rattle.net_base.specs.declared.names.Identity.{Identity}
 use Rattle.session_wire.specs.Sessions.{Sent}
-use Rattle.net_model.specs.Environment.{environment}
+use Rattle.net_model.specs.Environment.{environment, unjudged}
 use Rattle.net_model.specs.Steps.{stamp_in}
 use Rattle.net_model.specs.Fits.{IsSound}
 use Rattle.node_tables.specs.Journals.{state_of}
@@ -13,7 +13,7 @@ pub log-requires-clause-room : goal.log-requires-clause-room
 log-requires-clause-room g c =
     let id = c.args.identity.now in
     let f = g.F.Spelt.reading in
-    let w = environment g.F.FlowSet.machine f id in
+    let w = environment (unjudged g.F.FlowSet.machine f) id in
     let bodies = c.self.inside.tables.bodies in
     let tied : Tied id c.self.inside.journal bodies = rw (← c.self.view_is) at c.requires.tied in
     let r : (item : Option Sent) × MayCommit w id c.args.now.0 g.F.Spelt.within bodies item c.args.step = rw (← c.self.view_is) at c.requires.ready in
@@ -23,7 +23,7 @@ pub add-requires-clause-fits : goal.add-requires-clause-fits
 add-requires-clause-fits g c =
     let id = c.args.identity.now in
     let f = g.F.Spelt.reading in
-    let w = environment g.F.FlowSet.machine f id in
+    let w = environment (unjudged g.F.FlowSet.machine f) id in
     let bodies = c.self.inside.tables.bodies in
     let tied : Tied id c.self.inside.journal bodies = rw (← c.self.view_is) at c.requires.tied in
     let by : (state_of f bodies).moment ≤ c.args.now.0 = rw (← c.self.view_is) at c.requires.by in
@@ -35,7 +35,7 @@ pub invariant_of-self : goal.invariant_of-self
 invariant_of-self g c =
     let id = c.args.identity.now in
     let f = g.F.Spelt.reading in
-    let w = environment g.F.FlowSet.machine f id in
+    let w = environment (unjudged g.F.FlowSet.machine f) id in
     let bodies = c.self.inside.tables.bodies in
     let tied : Tied id c.self.inside.journal bodies = rw (← c.self.view_is) at c.requires.tied in
     let by : (state_of f bodies).moment ≤ c.args.now.0 = rw (← c.self.view_is) at c.requires.by in
@@ -52,7 +52,7 @@ pub returns-in-Ok-clause-commits : goal.returns-in-Ok-clause-commits
 returns-in-Ok-clause-commits g c = λ item may.
     let id = c.args.identity.now in
     let f = g.F.Spelt.reading in
-    let w = environment g.F.FlowSet.machine f id in
+    let w = environment (unjudged g.F.FlowSet.machine f) id in
     let bodies = c.self.inside.tables.bodies in
     let tied : Tied id c.self.inside.journal bodies = rw (← c.self.view_is) at c.requires.tied in
     let by : (state_of f bodies).moment ≤ c.args.now.0 = rw (← c.self.view_is) at c.requires.by in
@@ -63,7 +63,7 @@ pub returns-in-Ok-clause-by : goal.returns-in-Ok-clause-by
 returns-in-Ok-clause-by g c =
     let id = c.args.identity.now in
     let f = g.F.Spelt.reading in
-    let w = environment g.F.FlowSet.machine f id in
+    let w = environment (unjudged g.F.FlowSet.machine f) id in
     let bodies = c.self.inside.tables.bodies in
     let tied : Tied id c.self.inside.journal bodies = rw (← c.self.view_is) at c.requires.tied in
     let by : (state_of f bodies).moment ≤ c.args.now.0 = rw (← c.self.view_is) at c.requires.by in
@@ -74,7 +74,7 @@ pub returns-in-Err-clause-commits : goal.returns-in-Err-clause-commits
 returns-in-Err-clause-commits g c = λ item may.
     let id = c.args.identity.now in
     let f = g.F.Spelt.reading in
-    let w = environment g.F.FlowSet.machine f id in
+    let w = environment (unjudged g.F.FlowSet.machine f) id in
     let bodies = c.self.inside.tables.bodies in
     let tied : Tied id c.self.inside.journal bodies = rw (← c.self.view_is) at c.requires.tied in
     let by : (state_of f bodies).moment ≤ c.args.now.0 = rw (← c.self.view_is) at c.requires.by in
