@@ -2,7 +2,7 @@
 
 ghost use Rattle.std.specs.Prelude.{◌≡◌, ◌↔◌, ◌<◌, ◌≤◌, true, false, IsTrue, IsSome, MatchOption, List, [], ℕ, Some, None};
 ghost use Rattle.net_base.specs.Names.{IsIdentity};
-ghost use Rattle.net_model.specs.Environment.{environment, unjudged};
+ghost use Rattle.net_model.specs.Environment.{environment, meaning, unjudged};
 ghost use Rattle.node_ledger.specs.Ledgered.{HoldsLedger, ledger_in};
 ghost use Rattle.node_tables.specs.Journals.{state_of, causes_of};
 ghost use Rattle.node_core.specs.Disks.{roomless, CutsNow};
@@ -14,6 +14,7 @@ use super::faults::CommitFault;
 use super::up::{Up, let_go};
 use super::{BootFault, CutFault, StartFault, TakeFault, Taken, TurnFault, Turned, UnackedFault};
 use checkpoints::Flows;
+use contract_verify::Judge;
 use flow_machine::FlowSet;
 use flow_steps::flow_in;
 use ledger_tables::LedgerTables;
@@ -248,6 +249,27 @@ impl<D: Disk, F: FlowSet> Node<D, F> {
                 Err(TurnFault::Fault)
             }
         }
+    }
+
+    /// Lets the picked flow go on, or the one with the least number that can, as `turn` does, with these contracts for what has to be
+    /// judged. No act that nodes perform so far asks them.
+    ///
+    /// # Errors
+    ///
+    /// As those of `turn`.
+    pub fn turn_whole<J: Judge>(
+        &mut self,
+        alloc: Global,
+        now: Moment,
+        pick: Option<u32>,
+        contracts: &J,
+    ) -> Result<Turned, TurnFault>
+        requires { IsBy F.reading self.old.journal now.0 }
+        ensures turn { TurnAnswers (environment (meaning F.machine F.reading (J.judges contracts.now)) self.old.identity) now.0 pick self.old result self.new }
+        ensures by { IsBy F.reading self.new.journal now.0 }
+    {
+        let _ = contracts;
+        self.turn(alloc, now, pick)
     }
 
     /// Takes the frame that the bytes are, at a moment that is no less than that of the last cause. An item that comes next of its
