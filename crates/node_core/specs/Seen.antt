@@ -168,7 +168,7 @@ StartsAs w now class args bodies old (Err start_fault.Fault) new = Faults w now 
 
 -- the event by which a node with this journal goes on
 abbrev pub picked_at : {F : Type 0} → Environment F → ℕ → Option ℕ → List (List ℕ) → Option Event
-picked_at w now pick bodies = picked w (state_of w.frame_at bodies).sessions now pick (state_of w.frame_at bodies).flows
+picked_at w now pick bodies = picked (state_of w.frame_at bodies).sessions now pick (state_of w.frame_at bodies).flows
 
 -- what a turn answers at a node that is up
 abbrev pub TurnsAs : {F : Type 0} → Environment F → ℕ → Option ℕ → List (List ℕ) → NodeSeen → Result Turned TurnFault → NodeSeen → Type 0

@@ -213,21 +213,23 @@ impl<D: Disk, F: FlowSet> Node<D, F> {
     }
 
     /// Lets the picked flow go on, or the one with the least number that can, at a moment that is no less than that of the last
-    /// cause. It looks at live flows alone. What flows send is listed by `unacked`.
+    /// cause. It looks at live flows alone. A transaction that the flow has judged or recorded is judged by these contracts at once.
+    /// What flows send is listed by `unacked`.
     ///
     /// # Errors
     ///
     /// `NodeDown` exactly where the node is down; `Full` exactly where a flow can go on and the journal is full or the last stamp was
     /// given; `Memory`; `Fault` only where the disk's count of faults rose, and the node is then down. After any but `Fault` nothing
     /// has changed.
-    pub fn turn(
+    pub fn turn_whole<J: Judge>(
         &mut self,
         alloc: Global,
         now: Moment,
         pick: Option<u32>,
+        contracts: &J,
     ) -> Result<Turned, TurnFault>
         requires { IsBy F.reading self.old.journal now.0 }
-        ensures turn { TurnAnswers (environment (unjudged F.machine F.reading) self.old.identity) now.0 pick self.old result self.new }
+        ensures turn { TurnAnswers (environment (meaning F.machine F.reading (J.judges contracts.now)) self.old.identity) now.0 pick self.old result self.new }
         ensures by { IsBy F.reading self.new.journal now.0 }
     {
         let State::Up { up } = &mut self.state else {
@@ -240,7 +242,7 @@ impl<D: Disk, F: FlowSet> Node<D, F> {
             return Err(TurnFault::Full);
         }
         let flow = flow_in(&picked.event);
-        match up.go_on(alloc, &self.identity, now, picked) {
+        match up.go_on(alloc, &self.identity, now, picked, contracts) {
             Ok(()) => Ok(Turned::Moved { flow }),
             Err(CommitFault::Full) => unreachable!(),
             Err(CommitFault::Memory) => Err(TurnFault::Memory),
@@ -249,27 +251,6 @@ impl<D: Disk, F: FlowSet> Node<D, F> {
                 Err(TurnFault::Fault)
             }
         }
-    }
-
-    /// Lets the picked flow go on, or the one with the least number that can, as `turn` does, with these contracts for what has to be
-    /// judged. No act that nodes perform so far asks them.
-    ///
-    /// # Errors
-    ///
-    /// As those of `turn`.
-    pub fn turn_whole<J: Judge>(
-        &mut self,
-        alloc: Global,
-        now: Moment,
-        pick: Option<u32>,
-        contracts: &J,
-    ) -> Result<Turned, TurnFault>
-        requires { IsBy F.reading self.old.journal now.0 }
-        ensures turn { TurnAnswers (environment (meaning F.machine F.reading (J.judges contracts.now)) self.old.identity) now.0 pick self.old result self.new }
-        ensures by { IsBy F.reading self.new.journal now.0 }
-    {
-        let _ = contracts;
-        self.turn(alloc, now, pick)
     }
 
     /// Takes the frame that the bytes are, at a moment that is no less than that of the last cause. An item that comes next of its

@@ -12,7 +12,7 @@ ghost use Rattle.session_frames.specs.Items.{GoesFurther, IsNextItem};
 ghost use Rattle.session_frames.specs.Judging.{IsJudged};
 ghost use Rattle.session_frames.specs.Sending.{AreMessages};
 ghost use Rattle.flow_records.specs.Steps.{step_record, IsStep};
-ghost use Rattle.net_model.specs.Environment.{environment, unjudged};
+ghost use Rattle.net_model.specs.Environment.{Judgement, environment, meaning, unjudged};
 ghost use Rattle.net_model.specs.Steps.{next_cause};
 ghost use Rattle.flow_steps.specs.Ready.{IsBegun, IsReady};
 ghost use Rattle.node_ledger.specs.Ledgered.{HoldsLedger, ledger_in};
@@ -236,36 +236,40 @@ impl<D: Disk, F: FlowSet> Up<D, F> {
         self.tables.stamp().max(stamp) + 1
     }
 
-    /// The step by which a flow goes on, by this cause, whose event was picked.
-    fn advance(
+    /// The step by which a flow goes on, by this cause, whose event was picked. What it has judged is judged by these contracts. The only
+    /// error is want of memory.
+    fn advance<J: Judge>(
         &self,
         alloc: Global,
         identity: &Identity,
         cause: Cause,
+        contracts: &J,
     ) -> Result<Step<F>, AllocError>
         requires identity { IsIdentity identity.now }
         requires tied { Tied identity.now self.now.journal self.now.bodies }
         requires picked { (pick : Option ℕ) × (picked_at (environment (unjudged F.machine F.reading) identity.now) cause.moment.0 pick self.now.bodies ≡ Some cause.event) }
         ensures cause { IfOk result (λ step. step.cause ≡ cause) }
-        ensures ready { IfOk result (λ step. IsReady (environment (unjudged F.machine F.reading) identity.now) identity.now.party.0 cause.moment.0 F.within (state_of F.reading self.now.bodies) None step) }
+        ensures ready { IfOk result (λ step. IsReady (environment (meaning F.machine F.reading (J.judges contracts.now)) identity.now) identity.now.party.0 cause.moment.0 F.within (state_of F.reading self.now.bodies) None step) }
     {
         self.tables.kept();
-        advance(
-            alloc,
-            identity,
-            self.tables.flows(),
-            self.tables.sessions(),
-            cause,
-        )
+        let flows = self.tables.flows();
+        let sessions = self.tables.sessions();
+        let ledger = self.tables.ledger();
+        match take_job(alloc, identity, ledger, flows, &cause.event) {
+            Ok(Some(job)) => settle(alloc, identity, flows, cause, job.run(contracts)),
+            Ok(None) => advance(alloc, identity, ledger, flows, sessions, cause),
+            Err(fault) => Err(fault),
+        }
     }
 
-    /// Lets a flow go on by this event, which was picked.
-    pub fn go_on(
+    /// Lets a flow go on by this event, which was picked. What it has judged is judged by these contracts.
+    pub fn go_on<J: Judge>(
         &mut self,
         alloc: Global,
         identity: &Identity,
         now: Moment,
         picked: Picked,
+        contracts: &J,
     ) -> Result<(), CommitFault>
         requires identity { IsIdentity identity.now }
         requires tied { Tied identity.now self.old.journal self.old.bodies }
@@ -273,7 +277,7 @@ impl<D: Disk, F: FlowSet> Up<D, F> {
         requires room { is_full F.reading 0 self.old.bodies ≡ false }
         requires picked { (pick : Option ℕ) × (picked_at (environment (unjudged F.machine F.reading) identity.now) now.0 pick self.old.bodies ≡ Some picked.event) }
         requires idle { AreIdle (state_of F.reading self.old.bodies) picked.idle }
-        ensures commits { CommitsAs (environment (unjudged F.machine F.reading) identity.now) identity.now now.0 picked.event None self.old result self.new }
+        ensures commits { CommitsAs (environment (meaning F.machine F.reading (J.judges contracts.now)) identity.now) identity.now now.0 picked.event None self.old result self.new }
         ensures by { (state_of F.reading self.new.bodies).moment ≤ now.0 }
     {
         let Picked { event, idle } = picked;
@@ -283,8 +287,8 @@ impl<D: Disk, F: FlowSet> Up<D, F> {
             moment: now,
             event,
         };
-        let step = self.advance(alloc, identity, cause)?;
-        self.commit_alone(alloc, identity, now, step)
+        let step = self.advance(alloc, identity, cause, contracts)?;
+        self.commit(alloc, identity, now, step)
     }
 
     /// Commits a step over no item.
@@ -380,8 +384,8 @@ impl<D: Disk, F: FlowSet> Up<D, F> {
     ) -> Result<(), CommitFault>
         requires tied { Tied identity.now self.old.journal self.old.bodies }
         requires by { (state_of F.reading self.old.bodies).moment ≤ now.0 }
-        requires ready { (item : Option Sent) × MayCommit (environment (unjudged F.machine F.reading) identity.now) identity.now now.0 F.within self.old.bodies item step }
-        ensures commits { (item : Option Sent) → MayCommit (environment (unjudged F.machine F.reading) identity.now) identity.now now.0 F.within self.old.bodies item step → CommitsAs (environment (unjudged F.machine F.reading) identity.now) identity.now now.0 step.cause.event item self.old result self.new }
+        requires ready { (judge : Judgement) × (item : Option Sent) × MayCommit (environment (meaning F.machine F.reading judge) identity.now) identity.now now.0 F.within self.old.bodies item step }
+        ensures commits { (judge : Judgement) (item : Option Sent) → MayCommit (environment (meaning F.machine F.reading judge) identity.now) identity.now now.0 F.within self.old.bodies item step → CommitsAs (environment (meaning F.machine F.reading judge) identity.now) identity.now now.0 step.cause.event item self.old result self.new }
         ensures by { (state_of F.reading self.new.bodies).moment ≤ now.0 }
     {
         self.tables.kept();

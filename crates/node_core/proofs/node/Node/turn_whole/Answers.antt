@@ -1,7 +1,33 @@
-use Rattle.net_model.specs.Environment.{judge_without_contracts}
-use Rattle.node_core.proofs.Judging.{turn_any}
+use Rattle.std.proofs.Common.{◌≡◌, Err, None, true, false, refl, sym, ◌∙◌, ap, subst}
+use Rattle.std.specs.Option.{option_map}
+use Rattle.net_model.specs.Environment.{environment, meaning}
+use Rattle.node_core.specs.declared.faults.TurnFault.TheVariants as turn_fault
+use Rattle.node_core.specs.declared.idle.Picked.{Picked}
+use Rattle.node_core.specs.Journals.{is_full}
+use Rattle.node_core.specs.States.{disk_in, journal_in, acked_in, IsWhole, seen_up}
+use Rattle.node_core.specs.Seen.{NodeSeen, TurnAnswers, Tied}
+use Rattle.node_core.proofs.Nodes.{memory_up}
 use Rattle.node_core.proofs.node.Node.turn_whole.Goals as goal
 
-pub returns-clause-turn : goal.returns-clause-turn
-returns-clause-turn g c =
-    turn_any g.F.FlowSet.machine g.F.Spelt.reading judge_without_contracts (g.J.Judge.judges c.args.contracts.now) c.args.self.now.identity c.args.now.0 c.args.pick c.args.self.now c.turn.result c.turn.new.self c.turn.ensures.turn
+pub returns-then-is_full-clause-turn : goal.returns-then-is_full-clause-turn
+returns-then-is_full-clause-turn g c =
+    let id = c.self.inside.identity in
+    let here : seen_up id c.in-Up.up ≡ c.args.self.now = ap (λ s. record { identity = id; disk = disk_in g.D.Disk.seen s; journal = journal_in s; acked = acked_in s }) (sym c.in-Up.is) ∙ c.self.view_is in
+    let tied : Tied id c.in-Up.up.journal c.in-Up.up.bodies = subst (IsWhole id) c.in-Up.is c.self.invariant.1 in
+    let full : is_full g.F.Spelt.reading 0 c.in-Up.up.bodies ≡ true = sym (c.is_full.ensures id tied) ∙ c.if-is_full.true in
+    subst (λ (o : NodeSeen). TurnAnswers (environment (meaning g.F.FlowSet.machine g.F.Spelt.reading (g.J.Judge.judges c.args.contracts.now)) o.identity) c.args.now.0 c.args.pick o (Err turn_fault.Full) (seen_up id c.in-Up.up)) here
+    (c.in-Some.picked.event, sym (c.pick.ensures.event id) ∙ ap (option_map (λ (p : Picked). p.event)) c.in-Some.is, full, refl)
+
+pub go_on-requires-clause-picked : goal.go_on-requires-clause-picked
+go_on-requires-clause-picked g c = (c.args.pick, sym (c.pick.ensures.event c.self.inside.identity) ∙ ap (option_map (λ (p : Picked). p.event)) c.in-Some.is)
+
+pub returns-in-Err-Memory-clause-turn : goal.returns-in-Err-Memory-clause-turn
+returns-in-Err-Memory-clause-turn g c =
+    let id = c.self.inside.identity in
+    let here : seen_up id c.in-Up.up ≡ c.args.self.now = ap (λ s. record { identity = id; disk = disk_in g.D.Disk.seen s; journal = journal_in s; acked = acked_in s }) (sym c.in-Up.is) ∙ c.self.view_is in
+    let tied : Tied id c.in-Up.up.journal c.in-Up.up.bodies = subst (IsWhole id) c.in-Up.is c.self.invariant.1 in
+    let room : is_full g.F.Spelt.reading 0 c.in-Up.up.bodies ≡ false = sym (c.is_full.ensures id tied) ∙ c.if-is_full.false in
+    let w = environment (meaning g.F.FlowSet.machine g.F.Spelt.reading (g.J.Judge.judges c.args.contracts.now)) id in
+    let same = memory_up w id c.args.now.0 c.in-Some.picked.event None c.in-Up.up c.go_on.new.self c.in-Err-Memory.field-0 c.in-Err-Memory.field-0-is c.in-Err-Memory.ensures.commits in
+    subst (λ (o : NodeSeen). TurnAnswers (environment (meaning g.F.FlowSet.machine g.F.Spelt.reading (g.J.Judge.judges c.args.contracts.now)) o.identity) c.args.now.0 c.args.pick o (Err turn_fault.Memory) (seen_up id c.go_on.new.self)) here
+    (c.in-Some.picked.event, sym (c.pick.ensures.event id) ∙ ap (option_map (λ (p : Picked). p.event)) c.in-Some.is, room, same)

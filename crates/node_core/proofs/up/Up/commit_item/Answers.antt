@@ -1,5 +1,6 @@
 use Rattle.std.proofs.Common.{Some, sym, ◌∙◌, ap}
 use Rattle.net_base.specs.declared.causes.Cause.{Cause}
+use Rattle.net_model.specs.Environment.{judge_without_contracts}
 use Rattle.net_model.specs.Steps.{next_cause}
 use Rattle.session_wire.specs.Sessions.{Sent}
 use Rattle.node_tables.specs.Journals.{state_of}
@@ -15,6 +16,7 @@ commit-requires-clause-ready g c =
     let item = c.args.item in
     let sent : Sent = record { body = item.body; stamp = item.stamp } in
     let is = c.in_ok-step.ensures.cause in (
+      judge_without_contracts,
       Some sent,
       record {
         room = c.requires.room;
