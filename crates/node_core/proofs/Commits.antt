@@ -19,7 +19,6 @@ use Rattle.flow_records.specs.declared.step.Step.{Step}
 use Rattle.flow_records.specs.Steps.{effect_by, step_record}
 use Rattle.flow_steps.specs.Going.{flow_in}
 use Rattle.flow_steps.specs.Idle.{IdleBelow}
-use Rattle.flow_steps.proofs.Picks.{Built}
 use Rattle.flow_steps.proofs.Idles.{idle_after}
 use Rattle.node_tables.specs.Journals.{Reads, state_of}
 use Rattle.node_tables.specs.Fits.{fits, apply_read}
@@ -99,11 +98,11 @@ module _ {F : Type 0} (w : Environment F) (id : Identity) (now : ℕ) (within : 
       record { effect = effect; reads = reads; step = steps ∙ ap (λ x. Some (x, effect)) (sym there) }
 
   -- the flows before its flow that were idle still are
-  still_idle : Built w → IsSoundState id.party.0 state → (at below : ℕ) → IdleBelow state.sessions at state.flows below → (body : List ℕ) → record_of w.frame_at body ≡ Some (record { cause = cause; effect = effect })
+  still_idle : IsSoundState id.party.0 state → (at below : ℕ) → IdleBelow state.sessions at state.flows below → (body : List ℕ) → record_of w.frame_at body ≡ Some (record { cause = cause; effect = effect })
       → IdleBelow (state_of w.frame_at (bodies ++ body ∷ [])).sessions at (state_of w.frame_at (bodies ++ body ∷ [])).flows (min below (flow_in step.cause.event))
-  still_idle built sound at below idle body reads =
+  still_idle sound at below idle body reads =
       let there : state_of w.frame_at (bodies ++ body ∷ []) ≡ apply_effect state cause effect = state_push w.frame_at bodies body ∙ ap (λ o. apply_read state o) reads in
-      subst (λ (s : NodeState F). IdleBelow s.sessions at s.flows (min below (flow_in step.cause.event))) (sym there) (idle_after w built id.party.0 now at state cause (body_in item) effect below sound.numbered may.ready.effect idle)
+      subst (λ (s : NodeState F). IdleBelow s.sessions at s.flows (min below (flow_in step.cause.event))) (sym there) (idle_after w id.party.0 now at state cause (body_in item) effect below sound.numbered may.ready.effect idle)
 
   module _ (old new : JournalView) (more : List (List ℕ)) (acked after : List ℕ) (of : old.of ≡ id) where
     said_of : (result : Result (List ℕ) CommitFault) → LogsAs w.frame_at (step_record step) bodies old result new → LogsAs w.frame_at (record { cause = cause; effect = effect }) bodies old result new
@@ -135,11 +134,11 @@ module _ {F : Type 0} (w : Environment F) (id : Identity) (now : ℕ) (within : 
         let at = pends_moment w id.party.0 now bodies step.cause.event item body (step_pends body said.0) in
         subst (λ (b : List (List ℕ)). (state_of w.frame_at b).moment ≤ now) (sym longer) (omega (arith, at))
 
-    pub committed_idle : Built w → IsSoundState id.party.0 state → (at below : ℕ) → IdleBelow state.sessions at state.flows below → (body : List ℕ) → LogsAs w.frame_at (step_record step) bodies old (Ok body) new → more ≡ bodies ++ body ∷ []
+    pub committed_idle : IsSoundState id.party.0 state → (at below : ℕ) → IdleBelow state.sessions at state.flows below → (body : List ℕ) → LogsAs w.frame_at (step_record step) bodies old (Ok body) new → more ≡ bodies ++ body ∷ []
         → IdleBelow (state_of w.frame_at more).sessions at (state_of w.frame_at more).flows (min below (flow_in step.cause.event))
-    committed_idle built sound at below idle body logged longer =
+    committed_idle sound at below idle body logged longer =
         let said : LogsAs w.frame_at (record { cause = cause; effect = effect }) bodies old (Ok body) new = said_of (Ok body) logged in
-        subst (λ (b : List (List ℕ)). IdleBelow (state_of w.frame_at b).sessions at (state_of w.frame_at b).flows (min below (flow_in step.cause.event))) (sym longer) (still_idle built sound at below idle body said.0)
+        subst (λ (b : List (List ℕ)). IdleBelow (state_of w.frame_at b).sessions at (state_of w.frame_at b).flows (min below (flow_in step.cause.event))) (sym longer) (still_idle sound at below idle body said.0)
 
     failed : (fault : CommitFault) → more ≡ bodies → after ≡ acked → LogsAs w.frame_at (record { cause = cause; effect = effect }) bodies old (Err fault) new
         → CommitsAs w id now step.cause.event item {T = Unit {0}} (record { journal = old; bodies = bodies; acked = acked }) (Err fault) (record { journal = new; bodies = more; acked = after })
