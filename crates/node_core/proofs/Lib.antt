@@ -6,3 +6,4 @@ pub mod Kept
 pub mod Logs
 pub mod Nodes
 pub mod Power
+pub mod Turns
