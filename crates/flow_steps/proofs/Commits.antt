@@ -3,11 +3,14 @@ use Rattle.std.proofs.Common.{◌≡◌, ℕ, ◌^◌, ◌<◌, ◌≤◌, List,
 use Rattle.std.specs.Prelude.{IfSome, is_some}
 use Rattle.std.proofs.lemmas.Bool.{eq-eqb}
 use Rattle.net_base.specs.declared.causes.Cause.{Cause}
+use Rattle.net_base.specs.declared.causes.Event.{Event}
 use Rattle.net_base.specs.declared.causes.Event.TheVariants as event
 use Rattle.net_base.specs.declared.names.Identity.{Identity}
 use Rattle.net_base.specs.declared.names.Key.{Key}
 use Rattle.net_base.specs.declared.values.Moment.{Moment}
 use Rattle.net_base.specs.Names.{IsKey}
+use Rattle.signing.specs.Marks.{keyed_mark}
+use Rattle.ledger_tables.specs.Ledgers.{Ledger}
 use Rattle.session_wire.specs.declared.body.Body.{Body}
 use Rattle.session_wire.specs.declared.body.Body.TheVariants as body_of
 use Rattle.session_wire.specs.declared.change.SessionChange.{SessionChange}
@@ -21,9 +24,9 @@ use Rattle.flow_machine.specs.Flows.{AreWithin}
 use Rattle.flow_machine.specs.Machine.{Machine}
 use Rattle.transition_record.specs.Causes.{IsEvent, came_key_of}
 use Rattle.transition_record.specs.Changes.{IsSession, session_text, IsLedger}
-use Rattle.net_model.specs.Environment.{Environment, environment, unjudged}
-use Rattle.net_model.specs.State.{NodeState, Effect, session_part}
-use Rattle.net_model.specs.Steps.{place, effect_of, answering, answered_with}
+use Rattle.net_model.specs.Environment.{Environment, Judgement, party, environment, meaning, unjudged}
+use Rattle.net_model.specs.State.{NodeState, Effect, session_part, with_ids}
+use Rattle.net_model.specs.Steps.{place, effect_of, goes_on, answering, answered_with}
 use Rattle.net_model.specs.Enabled.{enabled_event}
 use Rattle.net_model.proofs.Enabled.{effect_at}
 use Rattle.session_acts.specs.Parts.{unchanged, answer_to, arrival}
@@ -31,25 +34,50 @@ use Rattle.session_acts.proofs.Limits.{unchanged_within}
 use Rattle.flow_records.specs.declared.step.FlowAfter.{FlowAfter}
 use Rattle.flow_records.specs.declared.step.Step.{Step}
 use Rattle.flow_records.specs.Steps.{no_ledger, effect_by, part_after, owner_of, ends_with, IsAfter}
-use Rattle.flow_steps.specs.Going.{first_after, begun_for, Performs}
+use Rattle.node_ledger.specs.Ledgered.{ledger_in, HoldsLedger}
+use Rattle.ledger_acts.specs.declared.job.Done.{Done as DoneJob}
+use Rattle.ledger_acts.specs.Jobs.{awaited, IsRun, conclusion}
+use Rattle.ledger_acts.proofs.Concluded.{settles_as_meant}
+use Rattle.flow_steps.specs.Going.{first_after, begun_for, effect_in, Becomes, Performs}
 use Rattle.flow_steps.specs.Ready.{IsReady}
 use Rattle.flow_steps.proofs.Limits.{unchanged_short}
 use Rattle.flow_steps.proofs.Picks.{IsOwn}
 
 -- ---- a flow that goes on
 
-pub goes_ready : {F : Type 0} (w : Environment F) (me now n : ℕ) (within : F → Type 0) (flows : List (FlowState F)) (sessions : List Session) (cause : Cause) (at : Checkpoint F) (step : Step F) → at.flow ≡ n → slice_get flows n ≡ Some (state.Live at)
-    → enabled_event w sessions now (state.Live at) ≡ Some cause.event → IsOwn n cause.event → n < 2 ^ 32 → step.cause ≡ cause → Performs w me now within sessions at step → (s : NodeState F) → s.flows ≡ flows → s.sessions ≡ sessions → IsReady w me now within s None step
-goes_ready {F} w me now n within flows sessions cause at step num there by own small is p s same also = record {
+pub goes_ready : {F : Type 0} (w : Environment F) (me now n : ℕ) (within : F → Type 0) (flows : List (FlowState F)) (sessions : List Session) (tables : Ledger) (cause : Cause) (at : Checkpoint F) (step : Step F) → at.flow ≡ n → slice_get flows n ≡ Some (state.Live at)
+    → enabled_event sessions now (state.Live at) ≡ Some cause.event → IsOwn n cause.event → n < 2 ^ 32 → step.cause ≡ cause → Performs w me now within sessions tables at step → (s : NodeState F) → s.flows ≡ flows → s.sessions ≡ sessions → HoldsLedger (party me) (ledger_in s) tables → IsReady w me now within s None step
+goes_ready {F} w me now n within flows sessions tables cause at step num there by own small is p s same also holds = record {
   effect = ap (λ (c : Cause). effect_of w me s now c.event None) is
-      ∙ effect_at w me s now at.flow (state.Live at) cause.event (effect_by step.flow step.session step.ledger) (ap (λ (l : List (FlowState F)). slice_get l at.flow) same ∙ ap (λ k. slice_get flows k) num ∙ there) refl (ap (λ (l : List Session). enabled_event w l now (state.Live at)) also ∙ by)
-      (p.by s cause.event also by ∙ ap (λ (x : Effect F). Some x) (sym p.becomes.effect));
+      ∙ effect_at w me s now at.flow (state.Live at) cause.event (effect_in step) (ap (λ (l : List (FlowState F)). slice_get l at.flow) same ∙ ap (λ k. slice_get flows k) num ∙ there) refl (ap (λ (l : List Session). enabled_event l now (state.Live at)) also ∙ by)
+      (p.by s cause.event also holds by);
   limits = subst (λ (c : Cause). IsEvent c.event) (sym is) (own.limits small);
-  flow = p.becomes.flow;
-  session = subst (λ (c : Cause). IsSession (owner_of step.flow) (came_key_of c.event) step.session) (sym is) (subst (λ k. IsSession (owner_of step.flow) k step.session) (sym own.key) p.becomes.session);
-  ledger = p.becomes.ledger;
-  short = p.becomes.short;
+  flow = p.limits.flow;
+  session = subst (λ (c : Cause). IsSession (owner_of step.flow) (came_key_of c.event) step.session) (sym is) (subst (λ k. IsSession (owner_of step.flow) k step.session) (sym own.key) p.limits.session);
+  ledger = p.limits.ledger;
+  short = p.limits.short;
 }
+
+-- ---- a flow whose job was run
+
+module _ {F : Type 0} (m : Machine F) (r : List ℕ → Result (F × List ℕ) ℕ) (id : Identity) (now : ℕ) (at : Checkpoint F) (d : DoneJob) (judge : Judgement) (run : IsRun judge keyed_mark d) (s : NodeState F) where
+  -- where the flow waits for the job, what that came to is the effect of moving it
+  settled_effect : (f : ℕ) → slice_get s.flows f ≡ Some (state.Live at) → awaited id (with_ids s.stored) at ≡ Some d.job → effect_of (environment (meaning m r judge) id) id.party.0 s now (event.Move f) None ≡ Some (goes_on (environment (unjudged m r) id) id.party.0 now at (conclusion d))
+  unfolding effect_of
+  settled_effect f there waits = rw there (settles_as_meant (environment (meaning m r judge) id) id.party.0 s now at d run waits)
+
+  pub settled_ready : (within : F → Type 0) (cause : Cause) (step : Step F) → slice_get s.flows d.job.flow ≡ Some (state.Live at) → awaited id (with_ids s.stored) at ≡ Some d.job → cause.event ≡ event.Move d.job.flow → d.job.flow < 2 ^ 32 → step.cause ≡ cause
+      → Becomes within (goes_on (environment (unjudged m r) id) id.party.0 now at (conclusion d)) step → IsReady (environment (meaning m r judge) id) id.party.0 now within s None step
+  settled_ready within cause step there waits moves small is b =
+      let by : step.cause.event ≡ event.Move d.job.flow = ap (λ (c : Cause). c.event) is ∙ moves in
+      record {
+        effect = ap (λ (e : Event). effect_of (environment (meaning m r judge) id) id.party.0 s now e None) by ∙ settled_effect d.job.flow there waits ∙ ap (λ (x : Effect F). Some x) (sym b.effect);
+        limits = subst IsEvent (sym by) small;
+        flow = b.limits.flow;
+        session = subst (λ (e : Event). IsSession (owner_of step.flow) (came_key_of e) step.session) (sym by) b.limits.session;
+        ledger = b.limits.ledger;
+        short = b.limits.short;
+      }
 
 -- nothing changes of the ledger
 quiet_within : (n : ℕ) (b : Bool) → IsLedger n b (no_ledger n b)

@@ -19,16 +19,15 @@ use Rattle.flow_machine.specs.declared.acts.Act.TheVariants as act
 use Rattle.flow_machine.specs.declared.flows.Checkpoint.{Checkpoint}
 use Rattle.flow_machine.specs.declared.flows.FlowState.{FlowState}
 use Rattle.flow_machine.specs.declared.flows.FlowState.TheVariants.{Live, Ended, Failed}
-use Rattle.net_model.specs.Environment.{Environment, is_act_built}
+use Rattle.net_model.specs.Environment.{Environment}
 use Rattle.net_model.specs.State.{NodeState, FlowPart, no_flow, now_live, now_ended, now_failed, Change, Effect, came_on, flow_of, placed, flows_on, sessions_on, apply_effect}
 use Rattle.net_model.specs.Steps.{Done, takes, checkpoint_of, live_at, effect_of}
-use Rattle.net_model.specs.Enabled.{enabling}
+use Rattle.net_model.specs.Enabled.{enabling, enabled_event}
 use Rattle.net_model.proofs.Basics.{find_before}
 use Rattle.net_model.proofs.Acts.{Performs, tells, opens_to, sends_on, takes_from, has_found, has_tagged, has_locked, has_answered, has_recorded, Gives, goes, pushed, popped, finished, failed, Does, starts, answers_to, arrives, acts, effect_does, owned_there}
 use Rattle.net_model.proofs.Falling.{came_none}
-use Rattle.flow_steps.specs.Going.{event_at, event_there, flow_in}
+use Rattle.flow_steps.specs.Going.{event_there, flow_in}
 use Rattle.flow_steps.specs.Idle.{IdleBelow}
-use Rattle.flow_steps.proofs.Picks.{Built}
 
 -- ---- a flow that waits in a session
 
@@ -223,14 +222,10 @@ module _ {F : Type 0} (old new : List Session) (now g : ℕ) (still : (key : Key
   enabling_kept (act.ReceiveBy key until) h = wait_kept (waits_for (owned g key old)) (waits_for (owned g key new)) _ _ (still key) h
   enabling_kept _ h = cc
 
-  built_kept : (a : Act F) (b : Bool) → cond b (enabling old g now a) None ≡ None → cond b (enabling new g now a) None ≡ None
-  built_kept a true h = enabling_kept a h
-  built_kept a false h = refl
-
-event_kept : {F : Type 0} (f : ℕ) (old new : List Session) (now g : ℕ) (x : FlowState F) → Still f old new → g < f → ((at : Checkpoint F) → x ≡ Live at → at.flow ≡ g) → event_at old now x ≡ None → event_at new now x ≡ None
+event_kept : {F : Type 0} (f : ℕ) (old new : List Session) (now g : ℕ) (x : FlowState F) → Still f old new → g < f → ((at : Checkpoint F) → x ≡ Live at → at.flow ≡ g) → enabled_event old now x ≡ None → enabled_event new now x ≡ None
 event_kept f old new now g (Live at) still lt own h =
     let one : at.flow ≡ g = own at refl in
-    built_kept old new now at.flow (λ key. still at.flow (omega (arith, lt, one)) key) at.waiting (is_act_built at.waiting) h
+    enabling_kept old new now at.flow (λ key. still at.flow (omega (arith, lt, one)) key) at.waiting h
 event_kept f old new now g (Ended step class value) still lt own h = refl
 event_kept f old new now g (Failed step class code) still lt own h = refl
 
@@ -248,7 +243,7 @@ module _ {F : Type 0} (s : NodeState F) (cause : Cause) (e : Effect F) (n moment
         subst (λ (ss : List Session). waits_for (owned g key (change_on cause.stamp (flow_of e.flow) e.change ss)) ≡ true) (sym came)
         (still_change f cause.stamp (flow_of e.flow) e.change s.sessions taken g lt key h)
 
-    idle_there : (g : ℕ) → g < f → (o : Option (FlowState F)) → slice_get s.flows g ≡ o → option_and_then (event_at s.sessions moment) o ≡ None → option_and_then (event_at (sessions_on cause e s.sessions) moment) o ≡ None
+    idle_there : (g : ℕ) → g < f → (o : Option (FlowState F)) → slice_get s.flows g ≡ o → option_and_then (enabled_event s.sessions moment) o ≡ None → option_and_then (enabled_event (sessions_on cause e s.sessions) moment) o ≡ None
     idle_there g lt None is h = refl
     idle_there g lt (Some x) is h =
         event_kept f s.sessions (sessions_on cause e s.sessions) moment g x still_after lt
@@ -257,7 +252,7 @@ module _ {F : Type 0} (s : NodeState F) (cause : Cause) (e : Effect F) (n moment
     idle_kept : (g : ℕ) → g < n → g < f → event_there (apply_effect s cause e).sessions moment (apply_effect s cause e).flows g ≡ None
     unfolding apply_effect
     idle_kept g below lt =
-        ap (option_and_then (event_at (sessions_on cause e s.sessions) moment)) (flows_before s.flows e.flow f g flow lt)
+        ap (option_and_then (enabled_event (sessions_on cause e s.sessions) moment)) (flows_before s.flows e.flow f g flow lt)
         ∙ idle_there g lt (slice_get s.flows g) refl (idle g below)
 
   idle_does : (w : Environment F) (me now : ℕ) (body : Option Body) → Does w me s now cause.event body e → IdleBelow (apply_effect s cause e).sessions moment (apply_effect s cause e).flows (min n (flow_in cause.event))
@@ -273,9 +268,9 @@ module _ {F : Type 0} (s : NodeState F) (cause : Cause) (e : Effect F) (n moment
       (subst (λ (k : ℕ). Takes k s.sessions e.change) own (gives_takes w me s now at at.waiting e gives)) g (omega (arith, lt)) (omega (arith, lt, number))
 
 -- what an event makes of a node leaves each flow idle that was, and that is before the flow which the event changes
-pub idle_after : {F : Type 0} (w : Environment F) (built : Built w) (me now moment : ℕ) (s : NodeState F) (cause : Cause) (body : Option Body) (e : Effect F) (n : ℕ)
+pub idle_after : {F : Type 0} (w : Environment F) (me now moment : ℕ) (s : NodeState F) (cause : Cause) (body : Option Body) (e : Effect F) (n : ℕ)
     → ((f : ℕ) (at : Checkpoint F) → live_at s f ≡ Some at → at.flow ≡ f)
     → effect_of w me s now cause.event body ≡ Some e
     → IdleBelow s.sessions moment s.flows n
     → IdleBelow (apply_effect s cause e).sessions moment (apply_effect s cause e).flows (min n (flow_in cause.event))
-idle_after w built me now moment s cause body e n numbered effect idle = idle_does s cause e n moment numbered idle w me now body (effect_does w me s now cause.event body e effect)
+idle_after w me now moment s cause body e n numbered effect idle = idle_does s cause e n moment numbered idle w me now body (effect_does w me s now cause.event body e effect)

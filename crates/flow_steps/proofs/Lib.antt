@@ -4,3 +4,4 @@ pub mod Firsts
 pub mod Idles
 pub mod Performs
 pub mod Commits
+pub mod Jobs

@@ -2,11 +2,15 @@
 use Rattle.std.specs.Prelude.{◌≡◌, ℕ, ◌+◌, ◌≤◌, List, [], ◌∷◌, length, nat_lt, if◌then◌else◌, slice_get, Option, Some, None, IfSome, option_map}
 use Rattle.std.specs.Option.{option_or, option_and_then, unwrap_or}
 use Rattle.net_base.specs.declared.names.Key.{Key}
+use Rattle.net_base.specs.declared.causes.Cause.{Cause}
 use Rattle.net_base.specs.declared.causes.Event.{Event}
 use Rattle.net_base.specs.declared.causes.Event.TheVariants as event
+use Rattle.ledger_types.specs.declared.change.LedgerChange.{LedgerChange}
 use Rattle.ledger_types.specs.declared.value.Value.{Value}
+use Rattle.ledger_tables.specs.Ledgers.{Ledger}
 use Rattle.session_wire.specs.declared.body.Body.{Body}
 use Rattle.session_wire.specs.declared.body.Body.TheVariants as body_of
+use Rattle.session_wire.specs.declared.change.SessionChange.{SessionChange}
 use Rattle.session_wire.specs.Sessions.{Session}
 use Rattle.flow_machine.specs.declared.acts.Act.{Act}
 use Rattle.flow_machine.specs.declared.acts.Resumed.{Resumed}
@@ -17,26 +21,21 @@ use Rattle.flow_machine.specs.declared.flows.FlowState.TheVariants as state
 use Rattle.flow_machine.specs.Limits.{IsResumed}
 use Rattle.flow_machine.specs.Stacks.{Frames}
 use Rattle.transition_record.specs.Changes.{IsSession, session_text, IsLedger}
-use Rattle.net_model.specs.Environment.{Environment, is_act_built}
+use Rattle.net_model.specs.Environment.{Environment, party}
 use Rattle.net_model.specs.State.{NodeState, Effect, nothing}
 use Rattle.net_model.specs.Steps.{Done, place, receives, last_items}
-use Rattle.net_model.specs.Enabled.{enabling, enabled_event, effect_on, part_of}
+use Rattle.net_model.specs.Enabled.{enabled_event, effect_on, part_of}
 use Rattle.flow_records.specs.declared.step.FlowAfter.{FlowAfter}
 use Rattle.flow_records.specs.declared.step.Step.{Step}
 use Rattle.flow_records.specs.Steps.{effect_by, owner_of, ends_with, IsAfter}
 use Rattle.session_acts.specs.declared.acts.Performed.{Performed}
+use Rattle.node_ledger.specs.Ledgered.{ledger_in, HoldsLedger}
 
 -- ---- the event
 
--- the event by which a flow goes on at a moment, where it is live on an act that is enabled and that nodes perform
-abbrev pub event_at : {F : Type 0} → List Session → ℕ → FlowState F → Option Event
-event_at sessions now (state.Live at) = if is_act_built at.waiting then enabling sessions at.flow now at.waiting else None
-event_at sessions now (state.Ended step class value) = None
-event_at sessions now (state.Failed step class code) = None
-
 -- the event by which the flow of a number goes on, where it is there
 abbrev pub event_there : {F : Type 0} → List Session → ℕ → List (FlowState F) → ℕ → Option Event
-event_there sessions now flows number = option_and_then (event_at sessions now) (slice_get flows number)
+event_there sessions now flows number = option_and_then (enabled_event sessions now) (slice_get flows number)
 
 -- the event by which the first of the flows of these numbers goes on that can
 abbrev pub first_of : {F : Type 0} → List Session → ℕ → List (FlowState F) → List ℕ → Option Event
@@ -99,20 +98,31 @@ pub record IsDone (flow : ℕ) (p : Performed) : Type 0 where
   pub session : IsSession flow None p.change
   pub short : length (session_text p.change) ≤ 50000
 
--- a step has this effect, within its limits; no item is accepted
-pub record Becomes {F : Type 0} (within : F → Type 0) (e : Effect F) (step : Step F) : Type 0 where
-  pub effect : effect_by step.flow step.session step.ledger ≡ e
+-- a step is within its limits, and accepts no item
+pub record IsBounded {F : Type 0} (within : F → Type 0) (step : Step F) : Type 0 where
   pub flow : IfSome step.flow (IsAfter within)
   pub session : IsSession (owner_of step.flow) None step.session
   pub ledger : IsLedger (owner_of step.flow) (ends_with step.flow) step.ledger
   pub short : length (session_text step.session) ≤ 50000
 
+-- the step by which the flow of a number becomes this, and by which this changes
+abbrev pub changed_by : {F : Type 0} → Cause → ℕ → FlowState F → SessionChange → LedgerChange → Step F
+changed_by cause number new session ledger = record { cause = cause; flow = Some (record { number = number; state = new }); session = session; ledger = ledger }
+
+-- the effect of a step
+abbrev pub effect_in : {F : Type 0} → Step F → Effect F
+effect_in step = effect_by step.flow step.session step.ledger
+
+-- a step has this effect, within its limits
+pub record Becomes {F : Type 0} (within : F → Type 0) (e : Effect F) (step : Step F) : Type 0 where
+  pub effect : effect_in step ≡ e
+  pub limits : IsBounded within step
+
 -- the flow is over as this, and each of its sessions is told by this item
 abbrev pub over : {F : Type 0} → ℕ → List Session → Checkpoint F → FlowState F → Body → Effect F
 over me sessions at new last = record { flow = part_of at.flow new; change = last_items me sessions at.flow last }
 
--- a step lets a flow go on as its act means, over these sessions, by whichever event the act is performed
-pub record Performs {F : Type 0} (w : Environment F) (me now : ℕ) (within : F → Type 0) (sessions : List Session) (at : Checkpoint F) (step : Step F) : Type 0 where
-  pub effect : Effect F
-  pub becomes : Becomes within effect step
-  pub by : (s : NodeState F) (e : Event) → s.sessions ≡ sessions → enabled_event w sessions now (state.Live at) ≡ Some e → effect_on w me s now (state.Live at) e ≡ Some effect
+-- a step lets a flow go on as its act means, over these sessions and whatever ledger the tables hold, by whichever event the act is performed
+pub record Performs {F : Type 0} (w : Environment F) (me now : ℕ) (within : F → Type 0) (sessions : List Session) (tables : Ledger) (at : Checkpoint F) (step : Step F) : Type 0 where
+  pub limits : IsBounded within step
+  pub by : (s : NodeState F) (e : Event) → s.sessions ≡ sessions → HoldsLedger (party me) (ledger_in s) tables → enabled_event sessions now (state.Live at) ≡ Some e → effect_on w me s now (state.Live at) e ≡ Some (effect_in step)

@@ -1,52 +1,33 @@
-//! How a flow goes on by its act, and what changes of the node's sessions then.
+//! How a flow goes on by its act, and what changes of its node's sessions and ledger then.
 
-ghost use Rattle.std.specs.Prelude.{◌≡◌, ◌<◌, ◌+◌, ◌-◌, ◌^◌, false, IfOk, IsSome, Some};
+ghost use Rattle.std.specs.Prelude.{◌≡◌, ◌<◌, ◌+◌, ◌-◌, ◌^◌, false, IfOk, None};
 ghost use Rattle.net_base.specs.Names.{IsIdentity, IsKey};
 ghost use Rattle.ledger_types.specs.Values.{IsValue};
 ghost use Rattle.session_wire.specs.Bodies.{IsBody};
 ghost use Rattle.session_wire.specs.Rules.{owned};
 ghost use Rattle.flow_machine.specs.Checkpoints.{IsCheckpoint};
 ghost use Rattle.flow_machine.specs.declared.acts.Resumed.TheVariants.{Lapsed};
-ghost use Rattle.flow_machine.specs.declared.flows.FlowState.TheVariants.{Live};
-ghost use Rattle.net_model.specs.Environment.{environment, unjudged};
+ghost use Rattle.net_model.specs.Environment.{Judgement, environment, meaning, unjudged};
 ghost use Rattle.net_model.specs.State.{NodeState, nothing};
-ghost use Rattle.net_model.specs.Enabled.{enabled_event};
 ghost use Rattle.net_model.specs.Steps.{goes_on, pushes, returns, fails, opens, sends};
 ghost use Rattle.session_acts.specs.Parts.{done_of, unchanged};
-ghost use Rattle.flow_records.specs.Spelling.{is_over};
-ghost use Rattle.flow_records.specs.Steps.{no_ledger, IsAfter, carries_value};
+ghost use Rattle.flow_records.specs.Steps.{IsAfter, carries_value};
+ghost use Rattle.ledger_acts.specs.Jobs.{awaited};
 ghost use Rattle.flow_steps.specs.Going.{takes_or_lapses, over, IsDone, Becomes, Performs};
 ghost use Rattle.flow_steps.specs.Ready.{AreKept};
 
-use crate::resuming::{call, hand_down, let_go, resume};
+use crate::resuming::{call, hand_down, let_go};
+use crate::stepping::{go_on_by, go_on_told, step_of};
 use flow_machine::{Act, Checkpoint, FlowSet, FlowState, Resumed};
-use flow_records::{FlowAfter, Step, unchanged_ledger};
+use flow_records::Step;
+use ledger_acts::{look_up, missing, notarise, record_unjudged, reserve, sign, verify_unjudged};
+use ledger_tables::LedgerTables;
 use ledger_types::Value;
 use net_base::{Cause, Identity, Key, Party, Unlimited};
 use session_acts::{Performed, end_sessions, open, receive, send, unchanged};
 use session_table::Sessions;
-use session_wire::{Body, SessionChange};
+use session_wire::Body;
 use std::alloc::{AllocError, Global};
-
-/// The step by which the flow of the number becomes this, and by which this changes in the sessions.
-pub(crate) fn step_of<F>(
-    alloc: Global,
-    cause: Cause,
-    number: u32,
-    state: FlowState<F>,
-    session: SessionChange,
-) -> Step<F>
-    ensures { result ≡ record { cause = cause; flow = Some (record { number = number; state = state }); session = session; ledger = no_ledger number (is_over state) } }
-{
-    let flow = Some(FlowAfter { number, state });
-    let ledger = unchanged_ledger(alloc, &flow);
-    Step {
-        cause,
-        flow,
-        session,
-        ledger,
-    }
-}
 
 /// The next item of a session is taken where one is there; else the moment has come. The only error is want of memory.
 fn take_item(
@@ -73,28 +54,6 @@ fn lapse(alloc: Global, flow: u32) -> Performed
         with: Resumed::Lapsed,
         change: unchanged(alloc, flow),
     }
-}
-
-/// The top frame goes on with what was done. The only error is want of memory.
-fn go_on<F: FlowSet>(
-    alloc: Global,
-    identity: &Identity,
-    cause: Cause,
-    at: &Checkpoint<F>,
-    done: Performed,
-) -> Result<Step<F>, AllocError>
-    requires step { at.now.step < 2 ^ 32 - 1 }
-    requires limits { IsCheckpoint F.within at.now }
-    requires identity { IsIdentity identity.now }
-    requires done { IsDone at.now.flow done }
-    ensures becomes { IfOk result (λ step. Becomes F.within (goes_on (environment (unjudged F.machine F.reading) identity.now) identity.now.party.0 cause.moment.0 at.now (done_of done)) step) }
-    ensures cause { IfOk result (λ step. step.cause ≡ cause) }
-{
-    let Performed { with, change } = done;
-    cause.moment.known();
-    let state = resume(alloc, identity, cause.moment, at, &with);
-    let_go(with);
-    Ok(step_of(alloc, cause, at.flow, state?, change))
 }
 
 /// A subflow begins, or the flow is told that its stack has 8 frames. The only error is want of memory.
@@ -223,7 +182,7 @@ fn open_session<F: FlowSet>(
     ensures cause { IfOk result (λ step. step.cause ≡ cause) }
 {
     let done = open(alloc, identity, sessions, at.flow, to, class, first)?;
-    go_on(alloc, identity, cause, at, done)
+    go_on_told(alloc, identity, cause, at, done)
 }
 
 /// A value is sent in a session, or the flow is told that it owns no such session. The only error is want of memory.
@@ -247,7 +206,7 @@ fn send_item<F: FlowSet>(
     ensures cause { IfOk result (λ step. step.cause ≡ cause) }
 {
     let done = send(alloc, identity, sessions, at.flow, key, value)?;
-    go_on(alloc, identity, cause, at, done)
+    go_on_told(alloc, identity, cause, at, done)
 }
 
 /// The next item of a session is taken, or its moment has come. The only error is want of memory.
@@ -269,7 +228,7 @@ fn receive_item<F: FlowSet>(
     ensures cause { IfOk result (λ step. step.cause ≡ cause) }
 {
     let done = take_item(alloc, sessions, at.flow, key)?;
-    go_on(alloc, identity, cause, at, done)
+    go_on_told(alloc, identity, cause, at, done)
 }
 
 /// The moment has come until which a flow slept. The only error is want of memory.
@@ -285,17 +244,15 @@ fn wake<F: FlowSet>(
     ensures becomes { IfOk result (λ step. Becomes F.within (goes_on (environment (unjudged F.machine F.reading) identity.now) identity.now.party.0 cause.moment.0 at.now (Lapsed, nothing)) step) }
     ensures cause { IfOk result (λ step. step.cause ≡ cause) }
 {
-    cause.moment.known();
-    let state = resume(alloc, identity, cause.moment, at, &Resumed::Lapsed)?;
-    let session = unchanged(alloc, at.flow);
-    Ok(step_of(alloc, cause, at.flow, state, session))
+    go_on_told(alloc, identity, cause, at, lapse(alloc, at.flow))
 }
 
-/// The step by which a live flow goes on: its act, which is enabled, is performed. The only error is want of memory.
+/// The step by which a live flow goes on that waits for no job: its act is performed. The only error is want of memory.
 pub(crate) fn perform<F: FlowSet>(
     alloc: Global,
     identity: &Identity,
     sessions: &Sessions,
+    ledger: &LedgerTables,
     cause: Cause,
     at: &Checkpoint<F>,
 ) -> Result<Step<F>, AllocError>
@@ -304,21 +261,43 @@ pub(crate) fn perform<F: FlowSet>(
     requires identity { IsIdentity identity.now }
     requires party { sessions.now.party ≡ identity.now.party }
     requires kept { AreKept identity.now.party sessions.now.list }
-    requires enabled { IsSome (enabled_event (environment (unjudged F.machine F.reading) identity.now) sessions.now.list cause.moment.0 (Live at.now)) }
-    ensures performs { IfOk result (λ step. Performs (environment (unjudged F.machine F.reading) identity.now) identity.now.party.0 cause.moment.0 F.within sessions.now.list at.now step) }
+    requires job { awaited identity.now ledger.now.store.list at.now ≡ None }
+    ensures performs { IfOk result (λ step. (judge : Judgement) → Performs (environment (meaning F.machine F.reading judge) identity.now) identity.now.party.0 cause.moment.0 F.within sessions.now.list ledger.now at.now step) }
     ensures cause { IfOk result (λ step. step.cause ≡ cause) }
 {
-    match &at.waiting {
+    let outcome = match &at.waiting {
         Act::Open { to, class, first } => {
-            open_session(alloc, identity, sessions, cause, at, *to, *class, first)
+            return open_session(alloc, identity, sessions, cause, at, *to, *class, first);
         }
-        Act::Send { key, value } => send_item(alloc, identity, sessions, cause, at, key, value),
-        Act::Receive { key } => receive_item(alloc, identity, sessions, cause, at, key),
-        Act::ReceiveBy { key, .. } => receive_item(alloc, identity, sessions, cause, at, key),
-        Act::Sleep { .. } => wake(alloc, identity, cause, at),
-        Act::Sub { frame } => push(alloc, identity, cause, at, frame),
-        Act::Return { value } => give_back(alloc, identity, sessions, cause, at, value),
-        Act::Fail { code } => fail(alloc, identity, sessions, cause, at, *code),
-        _ => unreachable!(),
-    }
+        Act::Send { key, value } => {
+            return send_item(alloc, identity, sessions, cause, at, key, value);
+        }
+        Act::Receive { key } => return receive_item(alloc, identity, sessions, cause, at, key),
+        Act::ReceiveBy { key, .. } => {
+            return receive_item(alloc, identity, sessions, cause, at, key);
+        }
+        Act::Sleep { .. } => return wake(alloc, identity, cause, at),
+        Act::Sub { frame } => return push(alloc, identity, cause, at, frame),
+        Act::Return { value } => return give_back(alloc, identity, sessions, cause, at, value),
+        Act::Fail { code } => return fail(alloc, identity, sessions, cause, at, *code),
+        Act::Reserve { token, amount } => reserve(alloc, ledger, at.flow, token, *amount),
+        Act::Lookup { id } => look_up(alloc, ledger, at.flow, id),
+        Act::Missing { tx } => missing(alloc, ledger, at.flow, tx.get()),
+        Act::Sign { id } => Ok(sign(alloc, identity, at.flow, *id)),
+        Act::Notarise { request } => {
+            notarise(
+                alloc,
+                identity,
+                ledger,
+                at.flow,
+                cause.moment,
+                request.get(),
+            )
+        }
+        Act::Verify { .. } => Ok(verify_unjudged(alloc, at.flow)),
+        Act::Record { stx } => {
+            Ok(record_unjudged(alloc, identity, ledger.store(), at.flow, stx.get()))
+        }
+    };
+    go_on_by(alloc, identity, cause, at, outcome)
 }

@@ -1,31 +1,35 @@
 //! The step by which a flow begins or goes on.
 
-ghost use Rattle.std.specs.Prelude.{◌≡◌, ◌<◌, ◌^◌, ◌-◌, length, IfOk, IfSome, None, Some, ℕ, Option, option_map, option_and_then, slice_get};
+ghost use Rattle.std.specs.Prelude.{◌≡◌, ◌<◌, ◌^◌, ◌-◌, ℕ, Option, Some, None, length, IfOk, IfSome, option_map, option_and_then, slice_get};
 ghost use Rattle.std.specs.List.{AllByRecursion};
 ghost use Rattle.net_base.specs.Names.{IsIdentity};
 ghost use Rattle.net_base.specs.Reading.{IsBytes};
 ghost use Rattle.net_model.specs.State.{NodeState};
-ghost use Rattle.net_model.specs.Environment.{environment, unjudged};
+ghost use Rattle.net_model.specs.Environment.{Judgement, environment, meaning, unjudged};
 ghost use Rattle.net_model.specs.Enabled.{picked};
 ghost use Rattle.net_model.specs.Steps.{checkpoint_of};
 ghost use Rattle.net_model.specs.Sound.{steps_of, AreNumbered};
 ghost use Rattle.flow_records.specs.Records.{IsFlow};
+ghost use Rattle.node_ledger.specs.Ledgered.{ledger_in, HoldsLedger};
+ghost use Rattle.flow_steps.specs.Awaiting.{job_of};
 ghost use Rattle.flow_steps.specs.Going.{first_state};
 ghost use Rattle.flow_steps.specs.Ready.{AreKept, IsBegun, IsReady};
 
-use crate::acts::{perform, step_of};
+use crate::acts::perform;
 use crate::picking::flow_in;
 use crate::resuming::{let_go, place_of};
+use crate::stepping::step_of;
 use checkpoints::{FlowView, Flows};
 use flow_machine::{Act, Checkpoint, FlowSet, FlowState, MakeFault, Stack};
 use flow_records::Step;
+use ledger_tables::LedgerTables;
 use net_base::{ByteList, Cause, Event, Identity, Moment, Unlimited};
 use session_acts::unchanged;
 use session_table::Sessions;
 use std::alloc::{AllocError, Global};
 
 /// The checkpoint of the flow of the number, where it is live.
-fn live_at<F: Drop>(flows: &Flows<F>, number: u32) -> Option<&Checkpoint<F>>
+pub(crate) fn live_at<F: Drop>(flows: &Flows<F>, number: u32) -> Option<&Checkpoint<F>>
     ensures checkpoint { option_map (λ at. at.now) result ≡ option_and_then checkpoint_of (slice_get flows.now.flows number) }
     ensures own { IfSome result (λ at. at.now.flow ≡ number) }
 {
@@ -108,26 +112,28 @@ pub fn begin<F: FlowSet>(
     Ok(step_of(alloc, cause, number, state, session))
 }
 
-/// The step by which a flow goes on, by this cause, whose event was picked. The only error is want of memory.
+/// The step by which a flow goes on that waits for no job, by this cause, whose event was picked. The only error is want of memory.
 pub fn advance<F: FlowSet>(
     alloc: Global,
     identity: &Identity,
     flows: &Flows<F>,
     sessions: &Sessions,
+    ledger: &LedgerTables,
     cause: Cause,
 ) -> Result<Step<F>, AllocError>
     requires identity { IsIdentity identity.now }
-    requires picked { (pick : Option ℕ) × (picked (environment (unjudged F.machine F.reading) identity.now) sessions.now.list cause.moment.0 pick flows.now.flows ≡ Some cause.event) }
+    requires picked { (pick : Option ℕ) × (picked sessions.now.list cause.moment.0 pick flows.now.flows ≡ Some cause.event) }
+    requires job { job_of identity.now ledger.now.store.list flows.now.flows cause.event ≡ None }
     requires steps { AllByRecursion (λ flow. steps_of flow < 2 ^ 32 - 1) flows.now.flows }
     requires limits { AllByRecursion (IsFlow F.within) flows.now.flows }
     requires numbered { AreNumbered 0 flows.now.flows }
     requires party { sessions.now.party ≡ identity.now.party }
     requires kept { AreKept identity.now.party sessions.now.list }
     ensures cause { IfOk result (λ step. step.cause ≡ cause) }
-    ensures ready { IfOk result (λ step. (s : NodeState F) → s.flows ≡ flows.now.flows → s.sessions ≡ sessions.now.list → IsReady (environment (unjudged F.machine F.reading) identity.now) identity.now.party.0 cause.moment.0 F.within s None step) }
+    ensures ready { IfOk result (λ step. (judge : Judgement) → (s : NodeState F) → s.flows ≡ flows.now.flows → s.sessions ≡ sessions.now.list → HoldsLedger identity.now.party (ledger_in s) ledger.now → IsReady (environment (meaning F.machine F.reading judge) identity.now) identity.now.party.0 cause.moment.0 F.within s None step) }
 {
     let Some(at) = live_at(flows, flow_in(&cause.event)) else {
         unreachable!();
     };
-    perform(alloc, identity, sessions, cause, at)
+    perform(alloc, identity, sessions, ledger, cause, at)
 }

@@ -18,7 +18,7 @@ is_held w me s claims (Some at) = list_any (λ f. f == at.flow) claims && is_som
 
 -- the event by which a flow goes on that waits for no job which was handed out
 abbrev pub free_event : {F : Type 0} → Environment F → ℕ → NodeState F → List ℕ → ℕ → FlowState F → Option Event
-free_event w me s claims now flow = if is_held w me s claims (checkpoint_of flow) then None else enabled_event w s.sessions now flow
+free_event w me s claims now flow = if is_held w me s claims (checkpoint_of flow) then None else enabled_event s.sessions now flow
 
 -- the event by which the first such flow of the list goes on
 abbrev pub first_free : {F : Type 0} → Environment F → ℕ → NodeState F → List ℕ → ℕ → List (FlowState F) → Option Event
@@ -34,4 +34,4 @@ picked_free w me s claims now None = first_free w me s claims now s.flows
 
 -- where nothing is claimed it is the machine's own choice
 abbrev pub UnclaimedIsPicked : (F : Type 0) → Type 0
-UnclaimedIsPicked F = (w : Environment F) (me : ℕ) (s : NodeState F) (now : ℕ) (pick : Option ℕ) → picked_free w me s [] now pick ≡ picked w s.sessions now pick s.flows
+UnclaimedIsPicked F = (w : Environment F) (me : ℕ) (s : NodeState F) (now : ℕ) (pick : Option ℕ) → picked_free w me s [] now pick ≡ picked s.sessions now pick s.flows

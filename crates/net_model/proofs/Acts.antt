@@ -32,10 +32,9 @@ use Rattle.ledger_types.specs.Rules.{is_other_notary}
 use Rattle.ledger_types.specs.Vaults.{reserved, reservable}
 use Rattle.ledger_types.specs.Signatures.{tx_id, is_signed}
 use Rattle.net_model.specs.State.{NodeState, no_flow, Effect, nothing, with_ids}
-use Rattle.net_model.specs.Steps.{Done, opening, sends, receives, takes, verifies, reserves, finds, notarises, records_in, records_by, vault_at, goes_on, onwards, place, returns, fails, performed, lapsed, lapses, started, answering, answered_with, arrived, meant_of, effect_of, live, live_at}
+use Rattle.net_model.specs.Steps.{Done, opening, sends, receives, takes, verifies, reserves, finds, notarises, records_in, records_by, vault_at, goes_on, onwards, place, returns, fails, performed, lapsed, lapses, started, answering, answered_with, arrived, effect_of, live, live_at}
 use Rattle.session_wire.specs.Rules.{is_no_peer, has_many, is_next, is_new_key, owned, owned_by, is_owner}
 use Rattle.net_model.proofs.Basics.{from_some, from_map, from_then, from_cond}
-use Rattle.net_model.proofs.Effects.{effect_meant}
 
 -- results that hold no tag
 pub data IsTold : Resumed → Type 0 where
@@ -203,16 +202,14 @@ module _ {F : Type 0} (w : Environment F) (me : ℕ) (s : NodeState F) (now : �
   answers_by key (body_of.Error code) e g h = cc
   answers_by key body_of.End e g h = cc
 
-  meant_does : (ev : Event) (body : Option Body) (e : Effect F) → meant_of w me s now ev body ≡ Some e → Does ev body e
-  meant_does (event.Start f class args) body e h = from_cond _ (f == length s.flows) (started f class (w.machine.made class args (place w me f 0 now))) e h (λ t k. starts_by f class args body e _ (eqb-true f (length s.flows) t) refl k)
-  meant_does (event.Answer key) None e h = cc
-  meant_does (event.Answer key) (Some b) e h = from_cond _ (is_new_key w.nodes (party me) s.sessions key) (answered_with w me s now key b) e h (λ t k. answers_by key b e t k)
-  meant_does (event.Arrive key direction number) None e h = from_then _ (λ session. None) (session_of key s.sessions) e h (λ session _ k. cc)
-  meant_does (event.Arrive key direction number) (Some b) e h =
+  pub effect_does : (ev : Event) (body : Option Body) (e : Effect F) → effect_of w me s now ev body ≡ Some e → Does ev body e
+  unfolding effect_of
+  effect_does (event.Start f class args) body e h = from_cond _ (f == length s.flows) (started f class (w.machine.made class args (place w me f 0 now))) e h (λ t k. starts_by f class args body e _ (eqb-true f (length s.flows) t) refl k)
+  effect_does (event.Answer key) None e h = cc
+  effect_does (event.Answer key) (Some b) e h = from_cond _ (is_new_key w.nodes (party me) s.sessions key) (answered_with w me s now key b) e h (λ t k. answers_by key b e t k)
+  effect_does (event.Arrive key direction number) None e h = from_then _ (λ session. None) (session_of key s.sessions) e h (λ session _ k. cc)
+  effect_does (event.Arrive key direction number) (Some b) e h =
       from_then _ (λ session. arrived me key direction number b session) (session_of key s.sessions) e h (λ session is k.
       from_cond _ (is_next (party me) key direction number b session) (Some (record { flow = no_flow; change = record nothing { came = Some b } })) e k (λ t l. arrives key direction number b session refl refl is t (sym (some_eq l))))
-  meant_does (event.Move f) body e h = from_then _ (λ at. performed w me s now at at.waiting) (live_at s f) e h (λ at is k. acts f at (inl refl) is (performed_gives at at.waiting e k))
-  meant_does (event.Lapse f) body e h = from_then _ (λ at. lapsed w me now at (lapses s now at.flow at.waiting)) (live_at s f) e h (λ at is k. acts f at (inr refl) is (lapsed_gives at at.waiting e k))
-
-  pub effect_does : (ev : Event) (body : Option Body) (e : Effect F) → effect_of w me s now ev body ≡ Some e → Does ev body e
-  effect_does ev body e h = meant_does ev body e (effect_meant w me s now ev body e h)
+  effect_does (event.Move f) body e h = from_then _ (λ at. performed w me s now at at.waiting) (live_at s f) e h (λ at is k. acts f at (inl refl) is (performed_gives at at.waiting e k))
+  effect_does (event.Lapse f) body e h = from_then _ (λ at. lapsed w me now at (lapses s now at.flow at.waiting)) (live_at s f) e h (λ at is k. acts f at (inr refl) is (lapsed_gives at at.waiting e k))

@@ -1,5 +1,5 @@
 -- What has come into a session was sent there by its peer, in the same order.
-use Rattle.std.proofs.Common.{◌≡◌, ◌⊎◌, ⊎_elim, ℕ, zero, suc, List, [], ◌∷◌, ◌++◌, Option, Some, None, Bool, true, false, cond, ◌==◌, map, take, option_and_then, slice_get, slice_set, length, refl, sym, ap, subst, ◌∙◌, append-nil}
+use Rattle.std.proofs.Common.{◌≡◌, ⊎_elim, ℕ, zero, suc, List, [], ◌∷◌, ◌++◌, Option, Some, None, Bool, true, false, cond, ◌==◌, map, take, option_and_then, slice_get, slice_set, length, refl, sym, ap, subst, ◌∙◌, append-nil}
 use Rattle.std.specs.Prelude.{⊤, option_to_list}
 use Rattle.std.proofs.lemmas.Bool.{and_parts, eqb-true}
 use Rattle.net_base.specs.declared.names.Key.{Key}
@@ -19,7 +19,7 @@ use Rattle.net_model.specs.State.{NodeState, Effect, came_on, sessions_on, flow_
 use Rattle.net_model.specs.Steps.{arrived, effect_of, body_in}
 use Rattle.net_model.specs.Runs.{sent_to, sent_in, items_from, item_from, item_for, net_step, fresh_net, run_from, run_of, network_of, merged, accepts, CameFromPeers, CameWasSent, CameWasSentInJournals}
 use Rattle.net_model.proofs.Basics.{from_map, from_then, from_cond, find_last, get_set, apply_sessions, fresh_get}
-use Rattle.net_model.proofs.Effects.{step_taken, effect_meant, effect_plain, effect_accepts}
+use Rattle.net_model.proofs.Effects.{step_taken, effect_plain, effect_accepts}
 use Rattle.net_model.proofs.Local.{body_in_item, net_taken, set_grows}
 use Rattle.net_model.proofs.Faithful.{faithful_run}
 
@@ -121,8 +121,9 @@ module _ {F : Type 0} (w : Environment F) (net : List (NodeState F)) (p : ℕ) (
 
   -- the number of an item that arrives is how many came before it
   counted : (key : Key) (direction number : ℕ) (o : Option Body) (session : Session) → session_of key s.sessions ≡ Some session → effect_of w p s now (event.Arrive key direction number) o ≡ Some e → number ≡ length session.came
+  unfolding effect_of
   counted key direction number o session is h =
-      from_then _ (λ x. option_and_then (λ b. arrived p key direction number b x) o) (session_of key s.sessions) e (effect_meant w p s now (event.Arrive key direction number) o e h) (λ x there k.
+      from_then _ (λ x. option_and_then (λ b. arrived p key direction number b x) o) (session_of key s.sessions) e h (λ x there k.
       from_then _ (λ b. arrived p key direction number b x) o e k (λ b _ l.
       from_cond _ (is_next (party p) key direction number b x) _ e l (λ t _.
       let q = and_parts (direction == direction_in (party p) key) _ t in

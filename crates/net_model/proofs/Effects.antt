@@ -29,7 +29,7 @@ use Rattle.ledger_types.specs.Rules.{is_other_notary}
 use Rattle.ledger_types.specs.Vaults.{reservable}
 use Rattle.ledger_types.specs.Signatures.{tx_id, is_signed}
 use Rattle.net_model.specs.State.{NodeState, Effect, nothing, with_ids, apply_effect}
-use Rattle.net_model.specs.Steps.{Done, opens, opening, sends, receives, takes, verifies, reserves, vault_at, finds, signs_id, records, records_in, records_by, goes_on, onwards, pushes, returns, performed, lapsed, started, answering, answered_with, is_built, meant_of, effect_of, node_step, body_in, stamp_in, in_order, live_at}
+use Rattle.net_model.specs.Steps.{Done, opens, opening, sends, receives, takes, verifies, reserves, vault_at, finds, signs_id, records, records_in, records_by, goes_on, onwards, pushes, returns, performed, lapsed, started, answering, answered_with, effect_of, node_step, body_in, stamp_in, in_order, live_at}
 use Rattle.session_wire.specs.Rules.{is_no_peer, has_many, is_next, is_new_key, owned}
 use Rattle.net_model.specs.Runs.{accepts, StepIsItsEffect}
 use Rattle.net_model.proofs.Basics.{from_some, from_map, from_then, from_cond}
@@ -133,35 +133,26 @@ module _ {F : Type 0} (w : Environment F) (me : ℕ) (s : NodeState F) (now : �
   answered_came key (body_of.Error code) e h = cc
   answered_came key body_of.End e h = cc
 
-  meant_plain : (ev : Event) (body : Option Body) (e : Effect F) → accepts ev ≡ false → meant_of w me s now ev body ≡ Some e → AcceptsNone e
-  meant_plain (event.Start f class args) body e a h = from_cond _ (f == length s.flows) _ e h (λ _ k. started_plain f class _ e k)
-  meant_plain (event.Answer key) body e a h = cc
-  meant_plain (event.Arrive key direction number) body e a h = cc
-  meant_plain (event.Move f) body e a h = from_then _ _ (live_at s f) e h (λ at _ k. performed_plain at at.waiting e k)
-  meant_plain (event.Lapse f) body e a h = from_then _ _ (live_at s f) e h (λ at _ k. lapsed_plain at _ e k)
-
-  meant_accepts : (ev : Event) (body : Option Body) (e : Effect F) → accepts ev ≡ true → meant_of w me s now ev body ≡ Some e → (b : Body) × (body ≡ Some b) × (e.change.came ≡ Some b)
-  meant_accepts (event.Start f class args) body e a h = cc
-  meant_accepts (event.Answer key) None e a h = cc
-  meant_accepts (event.Answer key) (Some b) e a h = from_cond _ (is_new_key w.nodes (party me) s.sessions key) _ e h (λ _ k. (b, refl, answered_came key b e k))
-  meant_accepts (event.Arrive key direction number) None e a h = from_then _ _ (session_of key s.sessions) e h (λ session _ k. cc)
-  meant_accepts (event.Arrive key direction number) (Some b) e a h =
-      from_then _ _ (session_of key s.sessions) e h (λ session _ k. from_cond _ (is_next (party me) key direction number b session) _ e k (λ _ l. (b, refl, from_some (λ (x : Effect F). x.change.came ≡ Some b) l refl)))
-  meant_accepts (event.Move f) body e a h = cc
-  meant_accepts (event.Lapse f) body e a h = cc
-
-  -- what nodes do is what is meant
-  pub effect_meant : (ev : Event) (body : Option Body) (e : Effect F) → effect_of w me s now ev body ≡ Some e → meant_of w me s now ev body ≡ Some e
-  unfolding effect_of
-  effect_meant ev body e h = from_cond _ (is_built w s ev) (meant_of w me s now ev body) e h (λ _ k. k)
-
   -- an event that accepts no item has an effect without one
   pub effect_plain : (ev : Event) (body : Option Body) (e : Effect F) → accepts ev ≡ false → effect_of w me s now ev body ≡ Some e → AcceptsNone e
-  effect_plain ev body e a h = meant_plain ev body e a (effect_meant ev body e h)
+  unfolding effect_of
+  effect_plain (event.Start f class args) body e a h = from_cond _ (f == length s.flows) _ e h (λ _ k. started_plain f class _ e k)
+  effect_plain (event.Answer key) body e a h = cc
+  effect_plain (event.Arrive key direction number) body e a h = cc
+  effect_plain (event.Move f) body e a h = from_then _ _ (live_at s f) e h (λ at _ k. performed_plain at at.waiting e k)
+  effect_plain (event.Lapse f) body e a h = from_then _ _ (live_at s f) e h (λ at _ k. lapsed_plain at _ e k)
 
   -- an event that accepts an item has it in its effect
   pub effect_accepts : (ev : Event) (body : Option Body) (e : Effect F) → accepts ev ≡ true → effect_of w me s now ev body ≡ Some e → (b : Body) × (body ≡ Some b) × (e.change.came ≡ Some b)
-  effect_accepts ev body e a h = meant_accepts ev body e a (effect_meant ev body e h)
+  unfolding effect_of
+  effect_accepts (event.Start f class args) body e a h = cc
+  effect_accepts (event.Answer key) None e a h = cc
+  effect_accepts (event.Answer key) (Some b) e a h = from_cond _ (is_new_key w.nodes (party me) s.sessions key) _ e h (λ _ k. (b, refl, answered_came key b e k))
+  effect_accepts (event.Arrive key direction number) None e a h = from_then _ _ (session_of key s.sessions) e h (λ session _ k. cc)
+  effect_accepts (event.Arrive key direction number) (Some b) e a h =
+      from_then _ _ (session_of key s.sessions) e h (λ session _ k. from_cond _ (is_next (party me) key direction number b session) _ e k (λ _ l. (b, refl, from_some (λ (x : Effect F). x.change.came ≡ Some b) l refl)))
+  effect_accepts (event.Move f) body e a h = cc
+  effect_accepts (event.Lapse f) body e a h = cc
 
   -- over no item no effect has one
   pub effect_bare : (ev : Event) (e : Effect F) → effect_of w me s now ev None ≡ Some e → e.change.came ≡ None

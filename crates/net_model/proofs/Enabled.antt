@@ -30,7 +30,7 @@ module _ {F : Type 0} (w : Environment F) (me : ℕ) (s : NodeState F) (now f : 
   abbrev Tells : (Event → Option (Effect F)) → Option Event → Type 0
   Tells effect o = MatchOption o ((effect (event.Move f) ≡ None) × (effect (event.Lapse f) ≡ None)) (λ e. IsSome (effect e))
 
-  -- ---- for every cut
+  -- ---- by the act
 
   by_moment : (effect : Event → Option (Effect F)) (at : Checkpoint F) (b : Bool) → effect (event.Move f) ≡ None → effect (event.Lapse f) ≡ lapsed w me now at b → Tells effect (cond b (Some (event.Lapse f)) None)
   by_moment effect at true move lapse = rw lapse refl
@@ -71,16 +71,9 @@ module _ {F : Type 0} (w : Environment F) (me : ℕ) (s : NodeState F) (now f : 
       (subst (λ g. effect (event.Lapse f) ≡ lapsed w me now at (nat_le until now && waits_for (owned g key s.sessions))) own lapse)
   by_performed effect at _ own move lapse = rw move refl
 
-  -- an act that nodes perform, or not
-  by_cut : (effect : Event → Option (Effect F)) (at : Checkpoint F) (b : Bool) → at.flow ≡ f
-      → effect (event.Move f) ≡ cond b (performed w me s now at at.waiting) None → effect (event.Lapse f) ≡ cond b (lapsed w me now at (lapses s now at.flow at.waiting)) None
-      → Tells effect (cond b (enabling s.sessions at.flow now at.waiting) None)
-  by_cut effect at true own move lapse = subst (λ g. Tells effect (enabling s.sessions g now at.waiting)) (sym own) (by_performed effect at at.waiting own move lapse)
-  by_cut effect at false own move lapse = (move, lapse)
-
   by_state : (effect : Event → Option (Effect F)) (flow : FlowState F) → IsNumbered f flow → effect (event.Move f) ≡ effect_on w me s now flow (event.Move f) → effect (event.Lapse f) ≡ effect_on w me s now flow (event.Lapse f)
-      → Tells effect (enabled_event w s.sessions now flow)
-  by_state effect (state.Live at) own move lapse = by_cut effect at (w.performs at.waiting) own move lapse
+      → Tells effect (enabled_event s.sessions now flow)
+  by_state effect (state.Live at) own move lapse = subst (λ g. Tells effect (enabling s.sessions g now at.waiting)) (sym own) (by_performed effect at at.waiting own move lapse)
   by_state effect (state.Ended step class value) own move lapse = (move, lapse)
   by_state effect (state.Failed step class code) own move lapse = (move, lapse)
 
@@ -104,17 +97,13 @@ module _ {F : Type 0} (w : Environment F) (me : ℕ) (s : NodeState F) (now f : 
   act_kind g (act.ReceiveBy key until) e h = by_either (waits_for (owned g key s.sessions)) (nat_le until now) g e h
   act_kind g _ e h = inl (cc)
 
-  flow_kind : (b : Bool) (g : ℕ) (a : Act F) (e : Event) → cond b (enabling s.sessions g now a) None ≡ Some e → (e ≡ event.Move g) ⊎ (e ≡ event.Lapse g)
-  flow_kind true g a e h = act_kind g a e h
-  flow_kind false g a e h = cc
-
-  event_kind : (flow : FlowState F) (e : Event) → IsNumbered f flow → enabled_event w s.sessions now flow ≡ Some e → (e ≡ event.Move f) ⊎ (e ≡ event.Lapse f)
-  event_kind (state.Live at) e own h = subst (λ g. (e ≡ event.Move g) ⊎ (e ≡ event.Lapse g)) own (flow_kind (w.performs at.waiting) at.flow at.waiting e h)
+  event_kind : (flow : FlowState F) (e : Event) → IsNumbered f flow → enabled_event s.sessions now flow ≡ Some e → (e ≡ event.Move f) ⊎ (e ≡ event.Lapse f)
+  event_kind (state.Live at) e own h = subst (λ g. (e ≡ event.Move g) ⊎ (e ≡ event.Lapse g)) own (act_kind at.flow at.waiting e h)
   event_kind (state.Ended step class value) e own h = cc
   event_kind (state.Failed step class code) e own h = cc
 
   -- the event by which a flow goes on has in the state the effect that it has on the flow
-  pub effect_at : (flow : FlowState F) (e : Event) (done : Effect F) → slice_get s.flows f ≡ Some flow → IsNumbered f flow → enabled_event w s.sessions now flow ≡ Some e → effect_on w me s now flow e ≡ Some done → effect_of w me s now e None ≡ Some done
+  pub effect_at : (flow : FlowState F) (e : Event) (done : Effect F) → slice_get s.flows f ≡ Some flow → IsNumbered f flow → enabled_event s.sessions now flow ≡ Some e → effect_on w me s now flow e ≡ Some done → effect_of w me s now e None ≡ Some done
   effect_at flow e done h own k is =
       ⊎_elim
       (λ p. ap (λ x. effect_of w me s now x None) p ∙ moves_on flow h ∙ ap (λ x. effect_on w me s now flow x) (sym p) ∙ is)

@@ -1,7 +1,7 @@
 -- Worked runs, by computation.
-use Rattle.net_model.specs.Environment.{party, judge_without_contracts, is_act_built}
+use Rattle.net_model.specs.Environment.{party, judge_without_contracts}
 use Rattle.signing.specs.Marks.{keyed_mark}
-use Rattle.std.proofs.Common.{◌≡◌, ℕ, ◌+◌, ◌-◌, ◌==◌, List, [], ◌∷◌, Option, Some, None, Result, Ok, Err, Bool, true, false, if◌then◌else◌, map, option_map, refl}
+use Rattle.std.proofs.Common.{◌≡◌, ℕ, ◌+◌, ◌-◌, ◌==◌, List, [], ◌∷◌, Option, Some, None, Result, Ok, Err, false, if◌then◌else◌, map, option_map, refl}
 use Rattle.net_base.specs.declared.names.Key.{Key}
 use Rattle.net_base.specs.declared.causes.Cause.{Cause}
 use Rattle.net_base.specs.declared.causes.Event.{Event}
@@ -107,17 +107,9 @@ machine = record {
   load = λ class. 0;
 }
 
--- so many nodes, which perform these acts, and accept items or don't
-abbrev network : (Act Frame → Bool) → Bool → ℕ → Environment Frame
-network performs talks nodes = record { machine = machine; nodes = nodes; notary = party 0; judge = judge_without_contracts; mark = keyed_mark; frame_at = λ bytes. Err 0; performs = performs; talks = talks }
-
--- nodes that do what nodes do so far
-abbrev built : ℕ → Environment Frame
-built nodes = network is_act_built true nodes
-
--- nodes that perform all acts and accept items
-abbrev whole : ℕ → Environment Frame
-whole nodes = network (λ a. true) true nodes
+-- so many nodes
+abbrev network : ℕ → Environment Frame
+network nodes = record { machine = machine; nodes = nodes; notary = party 0; judge = judge_without_contracts; mark = keyed_mark; frame_at = λ bytes. Err 0 }
 
 abbrev at : ℕ → ℕ → Event → ℕ × Cause
 at stamp node e = (node, record { stamp = stamp; moment = record { 0 = 0 }; event = e })
@@ -139,34 +131,34 @@ flows_after w causes = option_map (λ net. map (λ s. s.flows) net) (run_of w ca
 abbrev sessions_after : Environment Frame → List (ℕ × Cause) → Option (List (List Session))
 sessions_after w causes = option_map (λ net. map (λ s. s.sessions) net) (run_of w causes)
 
-row_two_runs : flows_after (built 1) row_two ≡ Some ((state.Ended 1 1 (value.Number 0) ∷ []) ∷ [])
-unfolding is_act_built run_of net_step node_step effect_of apply_effect item_from
+row_two_runs : flows_after (network 1) row_two ≡ Some ((state.Ended 1 1 (value.Number 0) ∷ []) ∷ [])
+unfolding run_of net_step node_step effect_of apply_effect item_from
 row_two_runs = refl
 
 abbrev slept : List (ℕ × Cause)
 slept = at 1 0 (event.Start 0 1 (2 ∷ [])) ∷ at 2 0 (event.Lapse 0) ∷ at 3 0 (event.Lapse 0) ∷ at 4 0 (event.Move 0) ∷ []
 
-slept_runs : flows_after (built 1) slept ≡ Some ((state.Ended 3 1 (value.Number 2) ∷ []) ∷ [])
-unfolding is_act_built run_of net_step node_step effect_of apply_effect item_from
+slept_runs : flows_after (network 1) slept ≡ Some ((state.Ended 3 1 (value.Number 2) ∷ []) ∷ [])
+unfolding run_of net_step node_step effect_of apply_effect item_from
 slept_runs = refl
 
 -- a frame begins above another, returns to it, and that one ends the flow
 abbrev subbed : List (ℕ × Cause)
 subbed = at 1 0 (event.Start 0 3 []) ∷ at 2 0 (event.Move 0) ∷ at 3 0 (event.Move 0) ∷ at 4 0 (event.Move 0) ∷ []
 
-subbed_runs : flows_after (built 1) subbed ≡ Some ((state.Ended 3 3 (value.Number 7) ∷ []) ∷ [])
-unfolding is_act_built run_of net_step node_step effect_of apply_effect item_from
+subbed_runs : flows_after (network 1) subbed ≡ Some ((state.Ended 3 3 (value.Number 7) ∷ []) ∷ [])
+unfolding run_of net_step node_step effect_of apply_effect item_from
 subbed_runs = refl
 
 -- a stamp that isn't the next one is no step
-not_a_run : run_of (built 1) (at 2 0 (event.Start 0 1 (0 ∷ [])) ∷ []) ≡ None
-unfolding is_act_built run_of net_step node_step effect_of apply_effect item_from
+not_a_run : run_of (network 1) (at 2 0 (event.Start 0 1 (0 ∷ [])) ∷ []) ≡ None
+unfolding run_of net_step node_step effect_of apply_effect item_from
 not_a_run = refl
 
 -- ---- two nodes and a session
 
-row_four_runs : flows_after (whole 2) row_four ≡ Some ((state.Ended 3 2 (value.Number 1) ∷ []) ∷ (state.Ended 4 2 value.Unit ∷ []) ∷ [])
-unfolding is_act_built run_of net_step node_step effect_of apply_effect item_from
+row_four_runs : flows_after (network 2) row_four ≡ Some ((state.Ended 3 2 (value.Number 1) ∷ []) ∷ (state.Ended 4 2 value.Unit ∷ []) ∷ [])
+unfolding run_of net_step node_step effect_of apply_effect item_from
 row_four_runs = refl
 
 abbrev item : ℕ → Body → Sent
@@ -196,23 +188,9 @@ answered_session = record {
   ending = Some body.End;
 }
 
-row_four_talks : sessions_after (whole 2) row_four ≡ Some ((opened_session ∷ []) ∷ (answered_session ∷ []) ∷ [])
-unfolding is_act_built run_of net_step node_step effect_of apply_effect item_from
+row_four_talks : sessions_after (network 2) row_four ≡ Some ((opened_session ∷ []) ∷ (answered_session ∷ []) ∷ [])
+unfolding run_of net_step node_step effect_of apply_effect item_from
 row_four_talks = refl
-
--- nodes that accept no items, or open no sessions, don't run it
-row_four_needs_items : flows_after (network (λ a. true) false 2) row_four ≡ None
-unfolding is_act_built run_of net_step node_step effect_of apply_effect item_from
-row_four_needs_items = refl
-
--- nodes that do what nodes do so far run it too
-row_four_built : sessions_after (built 2) row_four ≡ Some ((opened_session ∷ []) ∷ (answered_session ∷ []) ∷ [])
-unfolding is_act_built run_of net_step node_step effect_of apply_effect item_from
-row_four_built = refl
-
-row_four_needs_acts : flows_after (network (λ a. false) true 2) row_four ≡ None
-unfolding is_act_built run_of net_step node_step effect_of apply_effect item_from
-row_four_needs_acts = refl
 
 -- merging the lists of the nodes gives the run back
 abbrev own : ℕ → List (ℕ × Cause) → List Cause
@@ -223,14 +201,14 @@ unfolding merge
 row_four_merged = refl
 
 -- a Move before the Init's Arrive, a second Arrive of one item, and an item that the sender doesn't have, are no steps
-early : flows_after (whole 2) (at 1 0 (event.Start 0 2 (1 ∷ 1 ∷ [])) ∷ at 2 0 (event.Move 0) ∷ at 3 1 (event.Answer key) ∷ at 4 0 (event.Move 0) ∷ []) ≡ None
-unfolding is_act_built run_of net_step node_step effect_of apply_effect item_from
+early : flows_after (network 2) (at 1 0 (event.Start 0 2 (1 ∷ 1 ∷ [])) ∷ at 2 0 (event.Move 0) ∷ at 3 1 (event.Answer key) ∷ at 4 0 (event.Move 0) ∷ []) ≡ None
+unfolding run_of net_step node_step effect_of apply_effect item_from
 early = refl
 
-twice : flows_after (whole 2) (at 1 0 (event.Start 0 2 (1 ∷ 1 ∷ [])) ∷ at 2 0 (event.Move 0) ∷ at 3 1 (event.Answer key) ∷ at 4 0 (event.Arrive key 1 0) ∷ at 5 0 (event.Arrive key 1 0) ∷ []) ≡ None
-unfolding is_act_built run_of net_step node_step effect_of apply_effect item_from
+twice : flows_after (network 2) (at 1 0 (event.Start 0 2 (1 ∷ 1 ∷ [])) ∷ at 2 0 (event.Move 0) ∷ at 3 1 (event.Answer key) ∷ at 4 0 (event.Arrive key 1 0) ∷ at 5 0 (event.Arrive key 1 0) ∷ []) ≡ None
+unfolding run_of net_step node_step effect_of apply_effect item_from
 twice = refl
 
-unsent : flows_after (whole 2) (at 1 0 (event.Start 0 2 (1 ∷ 1 ∷ [])) ∷ at 2 1 (event.Answer key) ∷ []) ≡ None
-unfolding is_act_built run_of net_step node_step effect_of apply_effect item_from
+unsent : flows_after (network 2) (at 1 0 (event.Start 0 2 (1 ∷ 1 ∷ [])) ∷ at 2 1 (event.Answer key) ∷ []) ≡ None
+unfolding run_of net_step node_step effect_of apply_effect item_from
 unsent = refl

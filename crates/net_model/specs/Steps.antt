@@ -245,29 +245,12 @@ arrived me key direction number body session =
 -- ---- the step
 
 -- the effect that an event has, where it is defined; the body is that of the accepted item
-abbrev pub meant_of : {F : Type 0} → Environment F → ℕ → NodeState F → ℕ → Event → Option Body → Option (Effect F)
-meant_of w me s now (event.Start f class args) body = if f == length s.flows then started f class (w.machine.made class args (place w me f 0 now)) else None
-meant_of w me s now (event.Answer key) body = option_and_then (answered w me s now key) body
-meant_of w me s now (event.Arrive key direction number) body = option_and_then (λ session. option_and_then (λ b. arrived me key direction number b session) body) (session_of key s.sessions)
-meant_of w me s now (event.Move f) body = option_and_then (λ at. performed w me s now at at.waiting) (live_at s f)
-meant_of w me s now (event.Lapse f) body = option_and_then (λ at. lapsed w me now at (lapses s now at.flow at.waiting)) (live_at s f)
-
--- whether nodes perform the act that a flow waits on
-abbrev pub is_flow_built : {F : Type 0} → Environment F → Option (Checkpoint F) → Bool
-is_flow_built w None = false
-is_flow_built w (Some at) = w.performs at.waiting
-
--- whether nodes do what an event says; what they don't is never enabled. Here alone the machine may be less than its definitions say
-abbrev pub is_built : {F : Type 0} → Environment F → NodeState F → Event → Bool
-is_built w s (event.Start f class args) = true
-is_built w s (event.Answer key) = w.talks
-is_built w s (event.Arrive key direction number) = w.talks
-is_built w s (event.Move f) = is_flow_built w (live_at s f)
-is_built w s (event.Lapse f) = is_flow_built w (live_at s f)
-
--- the effect of an event that nodes perform, where it is defined
 unfoldable pub effect_of : {F : Type 0} → Environment F → ℕ → NodeState F → ℕ → Event → Option Body → Option (Effect F)
-effect_of w me s now event body = if is_built w s event then meant_of w me s now event body else None
+effect_of w me s now (event.Start f class args) body = if f == length s.flows then started f class (w.machine.made class args (place w me f 0 now)) else None
+effect_of w me s now (event.Answer key) body = option_and_then (answered w me s now key) body
+effect_of w me s now (event.Arrive key direction number) body = option_and_then (λ session. option_and_then (λ b. arrived me key direction number b session) body) (session_of key s.sessions)
+effect_of w me s now (event.Move f) body = option_and_then (λ at. performed w me s now at at.waiting) (live_at s f)
+effect_of w me s now (event.Lapse f) body = option_and_then (λ at. lapsed w me now at (lapses s now at.flow at.waiting)) (live_at s f)
 
 -- the body of an item
 abbrev pub body_in : Option Sent → Option Body

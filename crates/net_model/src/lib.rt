@@ -3,9 +3,6 @@
 //! The definitions stand in `specs/`, in this order: `Environment`, `State`, `Steps`, `Enabled`, `Runs`, `Fits`, `Left`,
 //! `Tags`, `Stores`, `Books`, `Print`. Each function here without a body is a law of these definitions, which is its contract;
 //! `merge` puts the causes of all nodes into the order of their run, and `copy_cause` copies one.
-//!
-//! Which acts nodes perform, and whether they accept items, is part of the environment; each law holds whatever is said there. What nodes do
-//! so far is what `environment` says.
 #![tactic(auto)]
 
 mod laws;

@@ -28,10 +28,13 @@ use super::BootFault;
 use super::faults::CommitFault;
 use super::idle::{Idle, Picked};
 use checkpoints::Flows;
+use contract_verify::Judge;
 use disk_journal::{AppendFault, Journal, OpenFault};
 use flow_machine::{FlowSet, MakeFault};
 use flow_records::{Step, spell_step};
-use flow_steps::{advance, answer_init, arrive_item, begin, flow_in, pick_event};
+use flow_steps::{
+    advance, answer_init, arrive_item, begin, flow_in, pick_event, settle, take_job,
+};
 use ledger_tables::LedgerTables;
 use net_base::{ByteList, Cause, Event, Identity, Key, Moment, Spelt, Unlimited};
 use node_tables::{NodeTables, RebuildFault, rebuild};
@@ -257,7 +260,7 @@ impl<D: Disk, F: FlowSet> Up<D, F> {
         let ledger = self.tables.ledger();
         match take_job(alloc, identity, ledger, flows, &cause.event) {
             Ok(Some(job)) => settle(alloc, identity, flows, cause, job.run(contracts)),
-            Ok(None) => advance(alloc, identity, ledger, flows, sessions, cause),
+            Ok(None) => advance(alloc, identity, flows, sessions, ledger, cause),
             Err(fault) => Err(fault),
         }
     }

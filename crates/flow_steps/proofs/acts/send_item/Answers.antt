@@ -6,8 +6,8 @@ use Rattle.flow_steps.proofs.Limits.{send_done}
 use Rattle.flow_steps.proofs.Performs.{told_becomes}
 use Rattle.flow_steps.proofs.acts.send_item.Goals as goal
 
-pub go_on-requires-clause-done : goal.go_on-requires-clause-done
-go_on-requires-clause-done g c =
+pub go_on_told-requires-clause-done : goal.go_on_told-requires-clause-done
+go_on_told-requires-clause-done g c =
     let at = c.args.at.now in
     let id = c.args.identity.now in
     let list = c.args.sessions.now.list in
@@ -18,4 +18,4 @@ returns-clause-becomes g c =
     let at = c.args.at.now in
     let id = c.args.identity.now in
     let list = c.args.sessions.now.list in
-    told_becomes (environment (unjudged g.F.FlowSet.machine g.F.Spelt.reading) id) id.party.0 c.args.cause.moment.0 g.F.Spelt.within at (done_of c.in_ok-done.done) (sends id.party.0 c.args.value.now (owned at.flow c.args.key.now list)) c.go_on.result c.in_ok-done.ensures.done c.go_on.ensures.becomes
+    told_becomes (environment (unjudged g.F.FlowSet.machine g.F.Spelt.reading) id) id.party.0 c.args.cause.moment.0 g.F.Spelt.within at (done_of c.in_ok-done.done) (sends id.party.0 c.args.value.now (owned at.flow c.args.key.now list)) c.go_on_told.result c.in_ok-done.ensures.done c.go_on_told.ensures.becomes
