@@ -3,7 +3,7 @@ use Rattle.flow_machine.specs.Flows.{AreWithin}
 use Rattle.flow_machine.specs.Limits.{IsPlace}
 use Rattle.net_base.specs.declared.causes.Event.TheVariants as event
 use Rattle.net_base.proofs.Options.{of_ok}
-use Rattle.net_model.specs.Environment.{environment}
+use Rattle.net_model.specs.Environment.{environment, unjudged}
 use Rattle.flow_steps.proofs.Performs.{place_limits}
 use Rattle.flow_steps.proofs.Commits.{begun_ready}
 use Rattle.flow_steps.proofs.ready.begin.Goals as goal
@@ -20,6 +20,6 @@ returns g c = λ s same.
     let at_place = rw c.place_of.ensures at made in
     rw (c.step_of.ensures, c.in-Ok.ensures, c.in-Ok-first_state.ensures) (
       ap (λ n. record { stamp = c.args.stamp; moment = c.args.now; event = event.Start n c.args.class c.args.args.now }) (sym same),
-      begun_ready (environment m g.F.Spelt.reading id) id.party.0 c.args.stamp c.args.now g.F.Spelt.within c.args.class c.args.number c.args.args.now (c.in_ok-top.top, c.in_ok-top.waiting) c.unchanged-session.result c.ranges.number.fits c.ranges.class.fits at_place within short c.unchanged-session.ensures s same,
+      begun_ready (environment (unjudged m g.F.Spelt.reading) id) id.party.0 c.args.stamp c.args.now g.F.Spelt.within c.args.class c.args.number c.args.args.now (c.in_ok-top.top, c.in_ok-top.waiting) c.unchanged-session.result c.ranges.number.fits c.ranges.class.fits at_place within short c.unchanged-session.ensures s same,
       rw (same, at_place) refl,
     )
