@@ -1,5 +1,5 @@
 -- A flow that waits for a job goes on by moving.
-use Rattle.std.proofs.Common.{◌≡◌, ℕ, List, Option, Some, None, Bool, true, false, cond, slice_get, refl, sym, ◌∙◌, ap, subst, cc}
+use Rattle.std.proofs.Common.{◌≡◌, ℕ, List, Option, Some, None, Bool, true, false, cond, slice_get, refl, sym, ◌∙◌, ap, subst}
 use Rattle.std.specs.Option.{option_map, option_and_then}
 use Rattle.net_base.specs.declared.values.Hash32.{Hash32}
 use Rattle.net_base.specs.declared.names.Identity.{Identity}
