@@ -31,3 +31,12 @@ returns-in-Err-Memory-clause-turn g c =
     let same = memory_up w id c.args.now.0 c.in-Some.picked.event None c.in-Up.up c.go_on.new.self c.in-Err-Memory.field-0 c.in-Err-Memory.field-0-is c.in-Err-Memory.ensures.commits in
     subst (λ (o : NodeSeen). TurnAnswers (environment (meaning g.F.FlowSet.machine g.F.Spelt.reading (g.J.Judge.judges c.args.contracts.now)) o.identity) c.args.now.0 c.args.pick o (Err turn_fault.Memory) (seen_up id c.go_on.new.self)) here
     (c.in-Some.picked.event, sym (c.pick.ensures.event id) ∙ ap (option_map (λ (p : Picked). p.event)) c.in-Some.is, room, same)
+
+pub returns-in_default-pick-clause-turn : goal.returns-in_default-pick-clause-turn
+returns-in_default-pick-clause-turn g c = ?
+
+pub returns-in-Ok-clause-turn : goal.returns-in-Ok-clause-turn
+returns-in-Ok-clause-turn g c = ?
+
+pub returns-in-Err-Fault-clause-turn : goal.returns-in-Err-Fault-clause-turn
+returns-in-Err-Fault-clause-turn g c = ?
