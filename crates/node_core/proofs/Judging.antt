@@ -1,6 +1,7 @@
 -- What a node does with a start or a frame asks no contract.
-use Rattle.std.proofs.Common.{◌≡◌, inl, inr, ℕ, suc, ◌+◌, List, [], ◌∷◌, ◌++◌, Option, Some, None, IsSome, MatchOption, Result, Ok, Err, Bool, true, false, cond, is_none, slice_get, refl, sym, ◌∙◌, ap, subst}
-use Rattle.std.specs.Option.{option_map, option_or, option_and_then}
+use Rattle.std.proofs.Common.{◌≡◌, inl, inr, ℕ, List, Option, Some, None, MatchOption, Result, Ok, Err, Bool, true, false, cond, is_none, refl, ◌∙◌}
+use Rattle.std.specs.Prelude.{⊤}
+use Rattle.std.specs.Option.{option_map}
 use Rattle.outside.specs.Disk.{DiskView}
 use Rattle.net_base.specs.declared.names.Identity.{Identity}
 use Rattle.net_base.specs.declared.names.Key.{Key}
@@ -8,34 +9,22 @@ use Rattle.net_base.specs.declared.values.Party.{Party}
 use Rattle.net_base.specs.declared.causes.Event.{Event}
 use Rattle.net_base.specs.declared.causes.Event.TheVariants as event
 use Rattle.net_base.specs.declared.causes.Cause.{Cause}
-use Rattle.ledger_types.specs.declared.value.Value.{Value}
 use Rattle.session_wire.specs.declared.body.Body.{Body}
 use Rattle.session_wire.specs.Sessions.{Session, Sent, session_of}
-use Rattle.session_wire.specs.Rules.{owned}
 use Rattle.flow_machine.specs.Machine.{Machine}
-use Rattle.flow_machine.specs.declared.acts.Act.{Act}
-use Rattle.flow_machine.specs.declared.acts.Act.TheVariants as act
-use Rattle.flow_machine.specs.declared.flows.Checkpoint.{Checkpoint}
-use Rattle.flow_machine.specs.declared.flows.FlowState.{FlowState}
-use Rattle.flow_machine.specs.declared.flows.FlowState.TheVariants as state
 use Rattle.session_frames.specs.declared.judged.Judged.{Judged}
 use Rattle.session_frames.specs.declared.judged.Judged.TheVariants as judged
-use Rattle.net_model.specs.Environment.{Environment, Judgement, Meaning, environment, meaning, is_act_built}
-use Rattle.net_model.specs.State.{NodeState, Effect}
-use Rattle.net_model.specs.Enabled.{enabled_event, first_event, picked}
-use Rattle.net_model.specs.Steps.{Done, effect_of, goes_on, lapsed, lapses, live_at, next_cause, node_step, performed, receives, returns}
+use Rattle.net_model.specs.Environment.{Environment, Judgement, environment, meaning}
+use Rattle.net_model.specs.State.{NodeState}
+use Rattle.net_model.specs.Steps.{effect_of, next_cause, node_step}
 use Rattle.node_tables.specs.Journals.{Reads, state_of}
 use Rattle.node_core.specs.declared.faults.StartFault.{StartFault}
 use Rattle.node_core.specs.declared.faults.StartFault.TheVariants as start_fault
-use Rattle.node_core.specs.declared.faults.TurnFault.{TurnFault}
-use Rattle.node_core.specs.declared.faults.TurnFault.TheVariants as turn_fault
-use Rattle.node_core.specs.declared.faults.Turned.{Turned}
-use Rattle.node_core.specs.declared.faults.Turned.TheVariants as turned
 use Rattle.node_core.specs.declared.faults.TakeFault.{TakeFault}
 use Rattle.node_core.specs.declared.faults.TakeFault.TheVariants as take_fault
 use Rattle.node_core.specs.declared.faults.Taken.{Taken}
 use Rattle.node_core.specs.declared.faults.Taken.TheVariants as taken
-use Rattle.node_core.specs.Seen.{NodeSeen, Pends, Appended, Failing, Commits, Faults, StartsAs, StartAnswers, TurnsAs, TurnAnswers}
+use Rattle.node_core.specs.Seen.{NodeSeen, Pends, Appended, Failing, Commits, Faults, StartsAs, StartAnswers}
 use Rattle.node_core.specs.Takes.{accepting, AcceptsAs, Responds, TakesAs, TakeAnswers}
 
 module _ {F : Type 0} (m : Machine F) (r : Reads F) (j k : Judgement) (id : Identity) where
@@ -64,6 +53,8 @@ module _ {F : Type 0} (m : Machine F) (r : Reads F) (j k : Judgement) (id : Iden
   effect_same me s now (event.Answer key) None begins = refl
   effect_same me s now (event.Answer key) (Some b) begins = refl
   effect_same me s now (event.Arrive key direction number) body begins = refl
+  effect_same me s now (event.Move f) body begins = absurd begins
+  effect_same me s now (event.Lapse f) body begins = absurd begins
 
   step_same : (me : ℕ) (s : NodeState F) (cause : Cause) (item : Option Sent) → Begins cause.event → node_step there me s cause item ≡ node_step here me s cause item
   unfolding node_step

@@ -32,9 +32,7 @@ use contract_verify::Judge;
 use disk_journal::{AppendFault, Journal, OpenFault};
 use flow_machine::{FlowSet, MakeFault};
 use flow_records::{Step, spell_step};
-use flow_steps::{
-    advance, answer_init, arrive_item, begin, flow_in, pick_event, settle, take_job,
-};
+use flow_steps::{advance, answer_init, arrive_item, begin, flow_in, pick_event, settle, take_job};
 use ledger_tables::LedgerTables;
 use net_base::{ByteList, Cause, Event, Identity, Key, Moment, Spelt, Unlimited};
 use node_tables::{NodeTables, RebuildFault, rebuild};

@@ -1,12 +1,14 @@
-use Rattle.std.proofs.Common.{◌≡◌, Err, None, true, false, refl, sym, ◌∙◌, ap, subst}
+use Rattle.std.proofs.Common.{◌≡◌, Ok, Err, None, true, false, refl, sym, ◌∙◌, ap, subst}
 use Rattle.std.specs.Option.{option_map}
 use Rattle.net_model.specs.Environment.{environment, meaning}
 use Rattle.node_core.specs.declared.faults.TurnFault.TheVariants as turn_fault
+use Rattle.node_core.specs.declared.faults.Turned.TheVariants as turned
 use Rattle.node_core.specs.declared.idle.Picked.{Picked}
 use Rattle.node_core.specs.Journals.{is_full}
 use Rattle.node_core.specs.States.{disk_in, journal_in, acked_in, IsWhole, seen_up}
-use Rattle.node_core.specs.Seen.{NodeSeen, TurnAnswers, Tied}
-use Rattle.node_core.proofs.Nodes.{memory_up}
+use Rattle.node_core.specs.Seen.{NodeSeen, TurnAnswers, Tied, Faults}
+use Rattle.node_core.proofs.Nodes.{fell, memory_up}
+use Rattle.node_core.proofs.Turns.{commits_up, faults_up}
 use Rattle.node_core.proofs.node.Node.turn_whole.Goals as goal
 
 pub returns-then-is_full-clause-turn : goal.returns-then-is_full-clause-turn
@@ -33,10 +35,33 @@ returns-in-Err-Memory-clause-turn g c =
     (c.in-Some.picked.event, sym (c.pick.ensures.event id) ∙ ap (option_map (λ (p : Picked). p.event)) c.in-Some.is, room, same)
 
 pub returns-in_default-pick-clause-turn : goal.returns-in_default-pick-clause-turn
-returns-in_default-pick-clause-turn g c = ?
+returns-in_default-pick-clause-turn g c =
+    let id = c.self.inside.identity in
+    let here : seen_up id c.in-Up.up ≡ c.args.self.now = ap (λ s. record { identity = id; disk = disk_in g.D.Disk.seen s; journal = journal_in s; acked = acked_in s }) (sym c.in-Up.is) ∙ c.self.view_is in
+    subst (λ (o : NodeSeen). TurnAnswers (environment (meaning g.F.FlowSet.machine g.F.Spelt.reading (g.J.Judge.judges c.args.contracts.now)) o.identity) c.args.now.0 c.args.pick o (Ok turned.Idle) (seen_up id c.in-Up.up)) here
+    (sym (c.pick.ensures.event id) ∙ ap (option_map (λ (p : Picked). p.event)) c.in_default-pick.is, refl)
 
 pub returns-in-Ok-clause-turn : goal.returns-in-Ok-clause-turn
-returns-in-Ok-clause-turn g c = ?
+returns-in-Ok-clause-turn g c =
+    let id = c.self.inside.identity in
+    let here : seen_up id c.in-Up.up ≡ c.args.self.now = ap (λ s. record { identity = id; disk = disk_in g.D.Disk.seen s; journal = journal_in s; acked = acked_in s }) (sym c.in-Up.is) ∙ c.self.view_is in
+    let w = environment (meaning g.F.FlowSet.machine g.F.Spelt.reading (g.J.Judge.judges c.args.contracts.now)) id in
+    subst (λ (o : NodeSeen). TurnAnswers (environment (meaning g.F.FlowSet.machine g.F.Spelt.reading (g.J.Judge.judges c.args.contracts.now)) o.identity) c.args.now.0 c.args.pick o (Ok (turned.Moved c.flow_in-flow.result)) (seen_up id c.go_on.new.self)) here (
+      c.in-Some.picked.event,
+      sym (c.pick.ensures.event id) ∙ ap (option_map (λ (p : Picked). p.event)) c.in-Some.is,
+      sym c.flow_in-flow.ensures,
+      commits_up w id c.args.now.0 c.in-Some.picked.event None c.in-Ok.field-0 c.in-Up.up c.go_on.new.self c.in-Ok.ensures.commits,
+    )
 
 pub returns-in-Err-Fault-clause-turn : goal.returns-in-Err-Fault-clause-turn
-returns-in-Err-Fault-clause-turn g c = ?
+returns-in-Err-Fault-clause-turn g c =
+    let id = c.self.inside.identity in
+    let here : seen_up id c.in-Up.up ≡ c.args.self.now = ap (λ s. record { identity = id; disk = disk_in g.D.Disk.seen s; journal = journal_in s; acked = acked_in s }) (sym c.in-Up.is) ∙ c.self.view_is in
+    let w = environment (meaning g.F.FlowSet.machine g.F.Spelt.reading (g.J.Judge.judges c.args.contracts.now)) id in
+    let down = sym (fell g.D.Disk.seen id c.go_on.new.self c.go_down.new.state c.go_down.ensures.disk c.go_down.ensures.down) in
+    let faults = faults_up w id c.args.now.0 c.in-Some.picked.event None c.in-Err-Fault.field-0 c.in-Up.up c.go_on.new.self c.in-Err-Fault.field-0-is c.in-Err-Fault.ensures.commits in
+    subst (λ (o : NodeSeen). TurnAnswers (environment (meaning g.F.FlowSet.machine g.F.Spelt.reading (g.J.Judge.judges c.args.contracts.now)) o.identity) c.args.now.0 c.args.pick o (Err turn_fault.Fault) (record { identity = id; disk = disk_in g.D.Disk.seen c.go_down.new.state; journal = journal_in c.go_down.new.state; acked = acked_in c.go_down.new.state })) here (
+      c.in-Some.picked.event,
+      sym (c.pick.ensures.event id) ∙ ap (option_map (λ (p : Picked). p.event)) c.in-Some.is,
+      subst (λ (n : NodeSeen). Faults w c.args.now.0 c.in-Up.up.bodies c.in-Some.picked.event None (seen_up id c.in-Up.up) n) down faults,
+    )

@@ -1,4 +1,4 @@
-use Rattle.std.proofs.Common.{◌≤◌, Option, Err, refl, sym, ◌∙◌, ap, subst}
+use Rattle.std.proofs.Common.{◌≤◌, Option, Err, sym, ◌∙◌, ap, subst}
 use Rattle.net_base.specs.declared.names.Identity.{Identity}
 use Rattle.session_wire.specs.Sessions.{Sent}
 use Rattle.net_model.specs.Environment.{Judgement, environment, meaning}
