@@ -1,5 +1,5 @@
 -- Which job the flow of an event waits for.
-use Rattle.std.specs.Prelude.{ℕ, List, Option, option_and_then, slice_get}
+use Rattle.std.specs.Prelude.{List, Option, option_and_then, slice_get}
 use Rattle.net_base.specs.declared.values.Hash32.{Hash32}
 use Rattle.net_base.specs.declared.names.Identity.{Identity}
 use Rattle.net_base.specs.declared.causes.Event.{Event}

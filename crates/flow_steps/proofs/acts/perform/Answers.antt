@@ -1,12 +1,92 @@
 use Rattle.std.proofs.Common.{◌≡◌, refl}
 use Rattle.std.proofs.lemmas.Result.{IfOk-weaker}
+use Rattle.flow_machine.specs.declared.acts.Resumed.TheVariants as resumed
+use Rattle.session_wire.specs.Rules.{owned}
 use Rattle.net_model.specs.Environment.{environment, meaning, unjudged}
-use Rattle.net_model.specs.State.{NodeState}
-use Rattle.net_model.specs.Steps.{returns, fails}
-use Rattle.flow_steps.specs.Going.{Becomes}
-use Rattle.flow_steps.proofs.Performs.{standing, all_perform, by_return, by_fail, by_reserve, by_look_up, by_missing, by_sign, by_notarise, by_verify, by_record}
+use Rattle.net_model.specs.State.{NodeState, nothing}
+use Rattle.net_model.specs.Steps.{goes_on, pushes, returns, fails, opens, sends}
+use Rattle.flow_steps.specs.Going.{takes_or_lapses, Becomes}
+use Rattle.flow_steps.proofs.Performs.{standing, all_perform, by_open, by_send, by_receive, by_receive_until, by_sleep, by_sub, by_return, by_fail, by_reserve, by_look_up, by_missing, by_sign, by_notarise, by_verify, by_record}
 use Rattle.flow_steps.proofs.acts.perform.Goals as goal
 use Rattle.flow_steps.proofs.acts.perform.Goals.{in-Reserve, in-Lookup, in-Missing, in-Sign, in-Notarise, in-Verify, in-Record}
+
+pub returns-in-Open-clause-performs : goal.returns-in-Open-clause-performs
+returns-in-Open-clause-performs g c =
+    let at = c.args.at.now in
+    let id = c.args.identity.now in
+    let me = id.party.0 in
+    let now = c.args.cause.moment.0 in
+    let m = g.F.FlowSet.machine in
+    let r = g.F.Spelt.reading in
+    let list = c.args.sessions.now.list in
+    let tables = c.args.ledger.now in
+    let w = environment (unjudged m r) id in
+    all_perform m r id now g.F.Spelt.within list tables at (goes_on w me now at (opens id.nodes me list at.flow c.in-Open.to c.in-Open.class c.in-Open.first)) c.open_session.result (λ judge. by_open (environment (meaning m r judge) id) me now list tables at c.in-Open.to c.in-Open.class c.in-Open.first c.in-Open.is) c.open_session.ensures.becomes
+
+pub returns-in-Send-clause-performs : goal.returns-in-Send-clause-performs
+returns-in-Send-clause-performs g c =
+    let at = c.args.at.now in
+    let id = c.args.identity.now in
+    let me = id.party.0 in
+    let now = c.args.cause.moment.0 in
+    let m = g.F.FlowSet.machine in
+    let r = g.F.Spelt.reading in
+    let list = c.args.sessions.now.list in
+    let tables = c.args.ledger.now in
+    let w = environment (unjudged m r) id in
+    all_perform m r id now g.F.Spelt.within list tables at (goes_on w me now at (sends me c.in-Send.value (owned at.flow c.in-Send.key list))) c.send_item.result (λ judge. by_send (environment (meaning m r judge) id) me now list tables at c.in-Send.key c.in-Send.value c.in-Send.is) c.send_item.ensures.becomes
+
+pub returns-in-Receive-clause-performs : goal.returns-in-Receive-clause-performs
+returns-in-Receive-clause-performs g c =
+    let at = c.args.at.now in
+    let id = c.args.identity.now in
+    let me = id.party.0 in
+    let now = c.args.cause.moment.0 in
+    let m = g.F.FlowSet.machine in
+    let r = g.F.Spelt.reading in
+    let list = c.args.sessions.now.list in
+    let tables = c.args.ledger.now in
+    let w = environment (unjudged m r) id in
+    all_perform m r id now g.F.Spelt.within list tables at (goes_on w me now at (takes_or_lapses (owned at.flow c.in-Receive.key list))) c.receive_item.result (λ judge. by_receive (environment (meaning m r judge) id) me now list tables at c.in-Receive.key c.in-Receive.is) c.receive_item.ensures.becomes
+
+pub returns-in-ReceiveBy-clause-performs : goal.returns-in-ReceiveBy-clause-performs
+returns-in-ReceiveBy-clause-performs g c =
+    let at = c.args.at.now in
+    let id = c.args.identity.now in
+    let me = id.party.0 in
+    let now = c.args.cause.moment.0 in
+    let m = g.F.FlowSet.machine in
+    let r = g.F.Spelt.reading in
+    let list = c.args.sessions.now.list in
+    let tables = c.args.ledger.now in
+    let w = environment (unjudged m r) id in
+    all_perform m r id now g.F.Spelt.within list tables at (goes_on w me now at (takes_or_lapses (owned at.flow c.in-ReceiveBy.key list))) c.receive_item-in-ReceiveBy.result (λ judge. by_receive_until (environment (meaning m r judge) id) me now list tables at c.in-ReceiveBy.key c.in-ReceiveBy.until c.in-ReceiveBy.is) c.receive_item-in-ReceiveBy.ensures.becomes
+
+pub returns-in-Sleep-clause-performs : goal.returns-in-Sleep-clause-performs
+returns-in-Sleep-clause-performs g c =
+    let at = c.args.at.now in
+    let id = c.args.identity.now in
+    let me = id.party.0 in
+    let now = c.args.cause.moment.0 in
+    let m = g.F.FlowSet.machine in
+    let r = g.F.Spelt.reading in
+    let list = c.args.sessions.now.list in
+    let tables = c.args.ledger.now in
+    let w = environment (unjudged m r) id in
+    all_perform m r id now g.F.Spelt.within list tables at (goes_on w me now at (resumed.Lapsed, nothing)) c.wake.result (λ judge. by_sleep (environment (meaning m r judge) id) me now list tables at c.in-Sleep.until c.in-Sleep.is) c.wake.ensures.becomes
+
+pub returns-in-Sub-clause-performs : goal.returns-in-Sub-clause-performs
+returns-in-Sub-clause-performs g c =
+    let at = c.args.at.now in
+    let id = c.args.identity.now in
+    let me = id.party.0 in
+    let now = c.args.cause.moment.0 in
+    let m = g.F.FlowSet.machine in
+    let r = g.F.Spelt.reading in
+    let list = c.args.sessions.now.list in
+    let tables = c.args.ledger.now in
+    let w = environment (unjudged m r) id in
+    all_perform m r id now g.F.Spelt.within list tables at (pushes w me now at c.in-Sub.frame) c.push.result (λ judge. by_sub (environment (meaning m r judge) id) me now list tables at c.in-Sub.frame c.in-Sub.is) c.push.ensures.becomes
 
 pub returns-in-Return-clause-performs : goal.returns-in-Return-clause-performs
 returns-in-Return-clause-performs g c =

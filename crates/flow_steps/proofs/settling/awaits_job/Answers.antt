@@ -1,4 +1,4 @@
-use Rattle.std.proofs.Common.{◌≡◌, Some, None, is_some, sym, ◌∙◌, ap}
+use Rattle.std.proofs.Common.{◌≡◌, Some, None, is_some, sym, ap}
 use Rattle.ledger_acts.specs.Jobs.{awaited}
 use Rattle.flow_steps.specs.Awaiting.{job_of}
 use Rattle.flow_steps.proofs.Jobs.{job_there, live_within}
