@@ -185,11 +185,8 @@ module _ {F : Type 0} (m : Machine F) (r : Reads F) (j k : Judgement) (id : Iden
   turns_any : (now : ℕ) (pick : Option ℕ) (bodies : List (List ℕ)) (old : NodeSeen) (answer : Result Turned TurnFault) (new : NodeSeen) → TurnsAs here now pick bodies old answer new → TurnsAs there now pick bodies old answer new
   turns_any now pick bodies old answer new = by answer
     where
-      abbrev s : NodeState F
-      s = state_of r bodies
-
-      same : picked there s.sessions now pick s.flows ≡ picked here s.sessions now pick s.flows
-      same = picked_same s.sessions now pick s.flows
+      same : picked there (state_of r bodies).sessions now pick (state_of r bodies).flows ≡ picked here (state_of r bodies).sessions now pick (state_of r bodies).flows
+      same = picked_same (state_of r bodies).sessions now pick (state_of r bodies).flows
 
       by : (answer : Result Turned TurnFault) → TurnsAs here now pick bodies old answer new → TurnsAs there now pick bodies old answer new
       by (Ok turned.Idle) t = (same ∙ t.0, t.1)
