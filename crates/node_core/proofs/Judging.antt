@@ -1,5 +1,5 @@
 -- What a node does with a start, a turn or a frame asks no contract.
-use Rattle.std.proofs.Common.{◌≡◌, inl, inr, ℕ, suc, ◌+◌, List, [], ◌∷◌, ◌++◌, Option, Some, None, IsSome, MatchOption, Result, Ok, Err, Bool, true, false, cond, is_none, slice_get, refl, sym, ◌∙◌, ap, subst, absurd, cc}
+use Rattle.std.proofs.Common.{◌≡◌, inl, inr, ℕ, suc, ◌+◌, List, [], ◌∷◌, ◌++◌, Option, Some, None, IsSome, MatchOption, Result, Ok, Err, Bool, true, false, cond, is_none, slice_get, refl, sym, ◌∙◌, ap, subst}
 use Rattle.std.specs.Option.{option_map, option_or, option_and_then}
 use Rattle.outside.specs.Disk.{DiskView}
 use Rattle.net_base.specs.declared.names.Identity.{Identity}
