@@ -52,6 +52,12 @@ returns-in-Over-clause-drives g c =
     (c.frames.invariant.drives judge)
     (drives_hand (meaning g.F.FlowSet.machine g.F.Spelt.reading judge) p c.frames.self c.hand.new.self c.hand.result (Some o) (omega (arith, c.requires, c.frames.invariant.count)) (hand_serves_any g.F.FlowSet.machine g.F.Spelt.reading judge false p 0 c.frames.self c.hand.new.self c.hand.result c.hand.ensures) (ap said c.in_ok-outcome.was))
 
+pub returns-in-Over-clause-moved : goal.returns-in-Over-clause-moved
+returns-in-Over-clause-moved g c is =
+    let before = c.frames.invariant.fell (c.turning_of.ensures.moved is) in
+    let one = drives_hand (unjudged g.F.FlowSet.machine g.F.Spelt.reading) c.args.place c.frames.self c.hand.new.self c.hand.result (Some c.in_ok-outcome.outcome) (omega (arith, c.requires, c.frames.invariant.count)) c.hand.ensures (ap said c.in_ok-outcome.was) in
+    omega (arith, before, one.left)
+
 pub frames-preserved : goal.frames-preserved
 frames-preserved g c =
     let p = c.args.place in
