@@ -1,5 +1,5 @@
 use Rattle.net_model.specs.Environment.{judge_without_contracts, meaning, unjudged}
-use Rattle.std.proofs.Common.{◌≡◌, ◌+◌, ◌<◌, None, Some, Ok, true, refl, arith, ap, sym, ◌∙◌, length, slice_get, Option}
+use Rattle.std.proofs.Common.{◌≡◌, ◌+◌, ◌<◌, None, Some, Ok, false, true, refl, arith, ap, sym, ◌∙◌, length, slice_get, Option}
 use Rattle.std.specs.contracts.alloc.AllocError.{the_row}
 use Rattle.network_core.specs.declared.steps.Outcome.{Outcome}
 use Rattle.network_core.specs.declared.steps.Outcome.TheVariants as outcome
