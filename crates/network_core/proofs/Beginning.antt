@@ -8,7 +8,6 @@ use Rattle.outside.specs.Disk.{DiskView, IsImage}
 use Rattle.net_base.specs.declared.names.Identity.{Identity}
 use Rattle.net_base.specs.declared.values.Party.{Party}
 use Rattle.net_base.proofs.Lists.{get_below, all_from_get, get_beside, get_map}
-use Rattle.flow_machine.specs.Machine.{Machine}
 use Rattle.disk_journal.specs.Journal.{journal_of}
 use Rattle.net_model.specs.Environment.{Environment, environment, Meaning}
 use Rattle.node_core.specs.declared.faults.BootFault.{BootFault}

@@ -9,7 +9,6 @@ use Rattle.outside.specs.Disk.{DiskView, IsImage}
 use Rattle.outside.specs.Faults.{Rose}
 use Rattle.net_base.specs.declared.names.Identity.{Identity}
 use Rattle.net_base.proofs.Lists.{get_there, all_weaken, get_beside, all_set}
-use Rattle.flow_machine.specs.Machine.{Machine}
 use Rattle.disk_journal.specs.Journal.{journal_of, placed, WasSpelt}
 use Rattle.disk_journal.specs.declared.fault.OpenFault.TheVariants as open_fault
 use Rattle.net_model.specs.Environment.{Environment, environment, party, Meaning}

@@ -8,9 +8,8 @@ use Rattle.net_base.proofs.Lists.{get_below, map_set, set_length, set_own, get_b
 use Rattle.session_table.specs.Tables.{unacked}
 use Rattle.session_frames.specs.Sending.{AreMessages}
 use Rattle.session_frames.specs.declared.sending.Outgoing.{Outgoing}
-use Rattle.flow_machine.specs.Machine.{Machine}
 use Rattle.net_model.specs.Environment.{Environment, environment, party, Meaning}
-use Rattle.node_tables.specs.Journals.{Reads, state_of}
+use Rattle.node_tables.specs.Journals.{state_of}
 use Rattle.node_core.specs.declared.faults.TakeFault.TheVariants as take_fault
 use Rattle.node_core.specs.Seen.{NodeSeen}
 use Rattle.node_core.specs.Takes.{TakeAnswers, unacked_at}

@@ -1,6 +1,6 @@
 -- Turns, posts and deliveries at places, rounds and drains, put together.
 use Rattle.std.proofs.lemmas.Bool.{eqb-true, eqb-false}
-use Rattle.std.proofs.Common.{◌≡◌, ◌==◌, if◌then◌else◌, inl, inr, ℕ, zero, suc, ◌+◌, ◌<◌, Bool, true, false, ◌||◌, Option, Some, None, Result, Ok, Err, IsErr, refl, sym, ◌∙◌, ap, subst, arith}
+use Rattle.std.proofs.Common.{◌≡◌, ◌⊎◌, ◌==◌, if◌then◌else◌, inl, inr, ℕ, zero, suc, ◌+◌, ◌<◌, Bool, true, false, ◌||◌, Option, Some, None, Result, Ok, Err, IsErr, refl, sym, ◌∙◌, ap, subst, arith}
 use Rattle.network_core.specs.declared.net.Turning.{Turning}
 use Rattle.network_core.specs.declared.net.Turning.TheVariants as turning
 use Rattle.network_core.specs.declared.net.Hearing.TheVariants as heard_as
@@ -275,6 +275,12 @@ pub heard_noted : (o : Outcome) → heard o ≡ heard_as.Noted → IsTaken o × 
 heard_noted (outcome.Took g) h = cc
 heard_noted (outcome.Refused code) h = heard_no_note (code == 9) h
 heard_noted _ h = (λ code is. cc, refl)
+
+-- where turns and then deliveries moved, one of the two did
+pub joined_moved : (turns deliveries : Turning) → joined turns deliveries ≡ turning.Moved → (turns ≡ turning.Moved) ⊎ (deliveries ≡ turning.Moved)
+joined_moved turns turning.Quiet is = inl is
+joined_moved turns turning.Moved is = inr refl
+joined_moved turns turning.Full is = cc
 
 -- ---- a whole round, by its answers
 

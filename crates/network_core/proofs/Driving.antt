@@ -1,11 +1,9 @@
 -- What a network does, one thing after another, over any disks and as its worlds show it.
 use Rattle.std.proofs.Common.{◌≡◌, ◌<◌, ◌⊎◌, inl, inr, ⊎_elim, false, ℕ, length, Option, Some, None, Result, Ok, Err, refl, sym, ◌∙◌, ap, subst, arith}
-use Rattle.flow_machine.specs.Machine.{Machine}
 use Rattle.net_base.specs.declared.names.Identity.{Identity}
 use Rattle.network_core.proofs.Mapping.{Maps, round_map, drains_map}
 use Rattle.net_base.proofs.Lists.{set_length}
 use Rattle.net_model.specs.Environment.{Environment, environment, Meaning}
-use Rattle.node_tables.specs.Journals.{Reads}
 use Rattle.node_core.specs.Seen.{NodeSeen}
 use Rattle.node_core.specs.declared.faults.TurnFault.{TurnFault}
 use Rattle.node_core.specs.declared.faults.TurnFault.TheVariants as turn_fault

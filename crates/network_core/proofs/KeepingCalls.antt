@@ -1,9 +1,7 @@
 -- A drain of networks and worlds is one of networks and one of worlds, and a way.
 use Rattle.std.proofs.Common.{inl, inr, ℕ, List, Bool, true, Option, Some, None, false, refl, sym, subst}
 use Rattle.net_base.specs.declared.names.Identity.{Identity}
-use Rattle.flow_machine.specs.Machine.{Machine}
 use Rattle.net_model.specs.Environment.{Environment, environment, Meaning}
-use Rattle.node_tables.specs.Journals.{Reads}
 use Rattle.network_core.specs.declared.steps.Outcome.{Outcome}
 use Rattle.network_core.specs.Answers.{net_steps}
 use Rattle.network_core.specs.Drains.{world_steps}

@@ -14,7 +14,6 @@ use Rattle.session_frames.specs.declared.judged.Judged.{Judged}
 use Rattle.session_frames.specs.declared.judged.Judged.TheVariants as judged
 use Rattle.session_frames.specs.Items.{GoesFurther}
 use Rattle.session_frames.specs.Judging.{IsJudged}
-use Rattle.flow_machine.specs.Machine.{Machine}
 use Rattle.disk_journal.specs.Journal.{IsSound, WasSpelt, journal_of}
 use Rattle.net_model.specs.Environment.{Environment, environment, identity, Meaning}
 use Rattle.net_model.specs.Runs.{accepts}
@@ -31,7 +30,7 @@ use Rattle.node_core.specs.declared.faults.Taken.{Taken}
 use Rattle.node_core.specs.declared.faults.Taken.TheVariants as taken
 use Rattle.node_core.specs.declared.faults.TakeFault.{TakeFault}
 use Rattle.node_core.specs.declared.faults.TakeFault.TheVariants as take_fault
-use Rattle.node_tables.specs.Journals.{Reads, state_of}
+use Rattle.node_tables.specs.Journals.{state_of}
 use Rattle.node_core.specs.Disks.{Moves, KeepsForm, OldOrMore, OneOf}
 use Rattle.node_core.specs.Seen.{NodeSeen, Pends, Commits, Faults, StartsAs, StartAnswers, flow_count, TurnsAs, TurnAnswers, CutsAs, CutAnswers, BootsAs}
 use Rattle.node_core.specs.Takes.{AcceptsAs, Responds, TakesAs, TakeAnswers, accepting}

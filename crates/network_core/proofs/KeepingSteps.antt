@@ -5,9 +5,7 @@ use Rattle.std.specs.Option.{option_map}
 use Rattle.std.proofs.lemmas.Option.{same_Some, slice_get-map}
 use Rattle.net_base.specs.declared.names.Identity.{Identity}
 use Rattle.net_base.proofs.Lists.{get_beside, set_length}
-use Rattle.flow_machine.specs.Machine.{Machine}
 use Rattle.net_model.specs.Environment.{Environment, environment, Meaning}
-use Rattle.node_tables.specs.Journals.{Reads}
 use Rattle.node_core.specs.Seen.{NodeSeen, StartAnswers, TurnAnswers}
 use Rattle.node_core.specs.Takes.{TakeAnswers}
 use Rattle.network_core.specs.declared.steps.Outcome.{Outcome}

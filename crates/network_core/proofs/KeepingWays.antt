@@ -5,10 +5,9 @@ use Rattle.std.proofs.lemmas.Option.{same_Some}
 use Rattle.net_base.specs.declared.names.Identity.{Identity}
 use Rattle.net_base.specs.declared.causes.Cause.{Cause}
 use Rattle.net_base.proofs.Lists.{get_beside, get_map}
-use Rattle.flow_machine.specs.Machine.{Machine}
 use Rattle.disk_journal.specs.Journal.{IsSound, journal_of}
 use Rattle.net_model.specs.Environment.{Environment, environment, Meaning}
-use Rattle.node_tables.specs.Journals.{Reads, causes_of}
+use Rattle.node_tables.specs.Journals.{causes_of}
 use Rattle.node_core.specs.Seen.{NodeSeen}
 use Rattle.network_core.specs.Worlds.{World, NetSeen, Shows, Coherent}
 use Rattle.network_core.specs.Answers.{answer_of}

@@ -35,6 +35,7 @@ pub mod Places
 pub mod Booting
 pub mod Delivering
 pub mod Turning
+pub mod Judging
 pub mod Pairing
 pub mod Beginning
 pub mod Loops

@@ -7,7 +7,6 @@ use Rattle.outside.specs.Disk.{DiskView, IsImage}
 use Rattle.outside.proofs.Moments.{clean_image}
 use Rattle.net_base.specs.declared.values.Party.{Party}
 use Rattle.net_base.proofs.Lists.{all_get, get_beside, map_twice, of_map}
-use Rattle.flow_machine.specs.Machine.{Machine}
 use Rattle.disk_journal.specs.Journal.{found, journal_of}
 use Rattle.net_model.specs.Environment.{Environment, environment, Meaning}
 use Rattle.net_model.specs.State.{Record, fresh, replay}

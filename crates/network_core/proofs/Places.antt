@@ -3,9 +3,7 @@ use Rattle.std.proofs.Common.{◌≡◌, ◌⊎◌, inl, inr, ⊎_elim, ℕ, zer
 use Rattle.std.specs.List.{slice_get}
 use Rattle.net_base.specs.declared.names.Identity.{Identity}
 use Rattle.net_base.proofs.Lists.{map_set, set_length, set_own, get_beside, get_set}
-use Rattle.flow_machine.specs.Machine.{Machine}
 use Rattle.net_model.specs.Environment.{Environment, environment, Meaning}
-use Rattle.node_tables.specs.Journals.{Reads}
 use Rattle.node_core.specs.Seen.{NodeSeen}
 use Rattle.network_core.specs.declared.steps.Outcome.{Outcome}
 use Rattle.network_core.specs.declared.steps.Outcome.TheVariants as outcome

@@ -14,7 +14,6 @@ use Rattle.session_frames.specs.declared.judged.Judged.TheVariants as judged
 use Rattle.session_frames.specs.declared.sending.Outgoing.{Outgoing}
 use Rattle.session_frames.specs.Items.{GoesFurther}
 use Rattle.session_frames.specs.Judging.{IsJudged}
-use Rattle.flow_machine.specs.Machine.{Machine}
 use Rattle.flow_machine.specs.declared.flow_set.MakeFault.TheVariants as make
 use Rattle.disk_journal.specs.Journal.{journal_of}
 use Rattle.net_model.specs.Environment.{Environment, environment, identity, party, Meaning}
@@ -31,7 +30,7 @@ use Rattle.node_core.specs.declared.faults.Taken.{Taken}
 use Rattle.node_core.specs.declared.faults.Taken.TheVariants as taken
 use Rattle.node_core.specs.declared.faults.TakeFault.{TakeFault}
 use Rattle.node_core.specs.declared.faults.TakeFault.TheVariants as take_fault
-use Rattle.node_tables.specs.Journals.{Reads, state_of}
+use Rattle.node_tables.specs.Journals.{state_of}
 use Rattle.node_core.specs.Journals.{is_full}
 use Rattle.node_core.specs.Disks.{OneOf}
 use Rattle.node_core.specs.Seen.{NodeSeen, StartsAs, StartAnswers, TurnsAs, TurnAnswers, CutsAs, CutAnswers, flow_count, picked_at}

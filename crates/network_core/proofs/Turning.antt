@@ -11,7 +11,6 @@ use Rattle.net_base.specs.declared.causes.Event.{Event}
 use Rattle.net_base.specs.declared.names.Key.{Key}
 use Rattle.net_base.specs.declared.values.Party.{Party}
 use Rattle.net_base.proofs.Lists.{set_length}
-use Rattle.flow_machine.specs.Machine.{Machine}
 use Rattle.disk_journal.specs.Journal.{is_full_at}
 use Rattle.net_model.specs.Environment.{environment, Meaning}
 use Rattle.net_model.specs.Steps.{stamp_in}

@@ -1,7 +1,6 @@
 -- What a step of the network answers, and why, over any disks.
 use Rattle.std.specs.Prelude.{◌≡◌, ◌⊎◌, ℕ, zero, suc, ◌+◌, ◌<◌, ◌≤◌, ◌^◌, ⊤, Bool, if◌then◌else◌, List, [], ◌∷◌, length, max, slice_get, slice_set, Option, Some, None, IsSome, option_and_then, true, false, Result, Ok, Err}
 use Rattle.std.specs.Option.{option_to_list}
-use Rattle.flow_machine.specs.Machine.{Machine}
 use Rattle.net_model.specs.Environment.{environment, Meaning}
 use Rattle.node_core.specs.declared.faults.StartFault.{StartFault}
 use Rattle.node_core.specs.declared.faults.StartFault.TheVariants as start_fault

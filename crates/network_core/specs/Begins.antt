@@ -4,7 +4,6 @@ use Rattle.std.specs.List.{AllByRecursion}
 use Rattle.outside.specs.Disk.{DiskView, clean}
 use Rattle.net_base.specs.declared.names.Identity.{Identity}
 use Rattle.net_base.specs.declared.values.Party.{Party}
-use Rattle.flow_machine.specs.Machine.{Machine}
 use Rattle.net_model.specs.Environment.{Environment, environment, party, Meaning}
 use Rattle.node_tables.specs.Journals.{Reads, state_of}
 use Rattle.node_core.specs.declared.faults.BootFault.{BootFault}

@@ -1,8 +1,6 @@
 -- Serve: what each step makes of a world, and what it answers.
 use Rattle.std.specs.Prelude.{◌≡◌, ◌⊎◌, ◌<◌, ◌≤◌, Bool, List, [], ◌∷◌, ◌++◌, Option, Some, None, true, false}
 use Rattle.net_base.specs.declared.names.Identity.{Identity}
-use Rattle.flow_machine.specs.Machine.{Machine}
-use Rattle.node_tables.specs.Journals.{Reads}
 use Rattle.net_model.specs.Environment.{Environment, environment, Meaning}
 use Rattle.network_core.specs.Answers.{Answered, answer_of}
 use Rattle.network_core.specs.declared.steps.Outcome.{Outcome}

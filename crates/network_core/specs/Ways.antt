@@ -4,10 +4,9 @@ use Rattle.outside.specs.Disk.{Durable}
 use Rattle.disk_journal.specs.Journal.{journal_of}
 use Rattle.net_base.specs.declared.causes.Cause.{Cause}
 use Rattle.net_base.specs.declared.names.Identity.{Identity}
-use Rattle.flow_machine.specs.Machine.{Machine}
 use Rattle.net_model.specs.Environment.{environment, Meaning}
 use Rattle.net_model.specs.Runs.{merged}
-use Rattle.node_tables.specs.Journals.{Reads, causes_of}
+use Rattle.node_tables.specs.Journals.{causes_of}
 use Rattle.node_core.specs.Seen.{NodeSeen}
 use Rattle.network_core.specs.declared.steps.Outcome.{Outcome}
 use Rattle.network_core.specs.declared.steps.Step.{Step}

@@ -10,12 +10,11 @@ use Rattle.session_wire.specs.Sessions.{Session, session_of}
 use Rattle.session_wire.specs.declared.frame.Frame.{Frame}
 use Rattle.session_wire.specs.declared.frame.Frame.TheVariants.{Message, Ack}
 use Rattle.session_frames.specs.Sending.{addressee}
-use Rattle.flow_machine.specs.Machine.{Machine}
 use Rattle.disk_journal.specs.Journal.{IsYoung, journal_of}
 use Rattle.net_model.specs.Environment.{Environment, environment, identity, Meaning}
 use Rattle.net_model.specs.State.{NodeState}
 use Rattle.net_model.specs.Runs.{IsLocal, IsMatched, IsFaithful, network_of, item_from}
-use Rattle.node_tables.specs.Journals.{Reads, records_of, state_of, causes_of}
+use Rattle.node_tables.specs.Journals.{records_of, state_of, causes_of}
 use Rattle.node_core.specs.Seen.{NodeSeen}
 
 -- what contracts see of a network

@@ -1,6 +1,6 @@
 //! A network, and its steps.
 
-ghost use Rattle.net_model.specs.Environment.{unjudged};
+ghost use Rattle.net_model.specs.Environment.{Judgement, meaning, unjudged};
 ghost use Rattle.std.specs.Prelude.{◌≡◌, ◌≤◌, ◌<◌, List, ℕ, length, map, slice_get, Some, None, IsSome, IfOk, IfErr, true, false, [], vec_capacity};
 ghost use Rattle.node_core.specs.Disks.{roomless};
 ghost use Rattle.node_core.specs.Seen.{NodeSeen};
@@ -19,6 +19,7 @@ use super::mail::{make_room, no_frames, send_all, settle};
 use super::parts::NetParts;
 use super::serving::{boot_at, cut_at, post_at, start_at, take_at, turn_at, waits_on};
 use super::{Outcome, Step};
+use contract_verify::Judge;
 use flow_machine::FlowSet;
 use net_base::{ByteList, Moment, Party};
 use node_core::{BootFault, Node};
@@ -55,7 +56,7 @@ impl<D: Bay, F: FlowSet> Model for Net<D, F> {
 
 impl<D: Bay, F: FlowSet> Net<D, F> {
     /// Boots the nodes of a network of 1 to 16, one over each disk in the order of their places. The moment is the greatest of their
-    /// last causes', 0 without one, and no frame waits.
+    /// last causes', 0 without one, and no frame waits. A boot asks no contract, so what is said of worlds holds whatever contracts judge.
     ///
     /// # Errors
     ///
@@ -71,10 +72,10 @@ impl<D: Bay, F: FlowSet> Net<D, F> {
         requires notary { notary.0 < nodes }
         requires disks { length disks.items ≡ nodes }
         ensures count { IfOk result (λ net. length net.nodes ≡ nodes) }
-        ensures ok { IfOk result (λ net. BeginsWorld (unjudged F.machine F.reading) nodes notary (map D.seen disks.items) net) }
+        ensures ok { IfOk result (λ net. (judge : Judgement) → BeginsWorld (meaning F.machine F.reading judge) nodes notary (map D.seen disks.items) net) }
         ensures boots { IfOk result (λ net. BootsUpTo F.reading nodes net.now (over_disks nodes notary 0 (map D.seen disks.items)) net.nodes) }
         ensures waiting { IfOk result (λ net. net.waiting ≡ map (λ n. []) net.nodes) }
-        ensures refused { IfErr result (λ r. IsRefused (unjudged F.machine F.reading) nodes notary (map D.seen disks.items) r.node r.why (map D.seen r.disks.items)) }
+        ensures refused { IfErr result (λ r. (judge : Judgement) → IsRefused (meaning F.machine F.reading judge) nodes notary (map D.seen disks.items) r.node r.why (map D.seen r.disks.items)) }
     {
         let node = 0;
         let why = BootFault::Memory;
@@ -163,7 +164,7 @@ impl<D: Bay, F: FlowSet> Net<D, F> {
         }
     }
 
-    /// Makes one step. Each answer has its cause, over any disks; over a coherent world it is also said what becomes of that world, and of
+    /// Makes one step, with these contracts for what has to be judged. Each answer has its cause, over any disks; over a coherent world it is also said what becomes of that world, and of
     /// a drain what becomes of both by each of its turns, posts and deliveries. So the laws of this crate say what power cuts may leave at
     /// every moment of the call (`calls_are_ways`, `kept_on_ways`).
     ///
@@ -171,24 +172,29 @@ impl<D: Bay, F: FlowSet> Net<D, F> {
     ///
     /// `AllocError` for want of memory. Nothing has changed then, but that a drain keeps what it did, and that a node that was to be
     /// booted has its power back.
-    pub fn apply(&mut self, alloc: Global, step: &Step) -> Result<Outcome, AllocError>
-        ensures serves { KeepsWorld (unjudged F.machine F.reading) self.old self.new (λ e w v. Serve e step.now w (said result) v) }
-        ensures pairs { ServesPairs (unjudged F.machine F.reading) step.now (said result) self.old self.new }
+    pub fn apply<J: Judge>(
+        &mut self,
+        alloc: Global,
+        step: &Step,
+        contracts: &J,
+    ) -> Result<Outcome, AllocError>
+        ensures serves { KeepsWorld (meaning F.machine F.reading (J.judges contracts.now)) self.old self.new (λ e w v. Serve e step.now w (said result) v) }
+        ensures pairs { ServesPairs (meaning F.machine F.reading (J.judges contracts.now)) step.now (said result) self.old self.new }
 
         // Over any disks, also such as tell nothing, and whatever their journals hold.
-        ensures answers { Answered (unjudged F.machine F.reading) step.now self.old result self.new }
+        ensures answers { Answered (meaning F.machine F.reading (J.judges contracts.now)) step.now self.old result self.new }
         ensures count { length self.new.nodes ≡ length self.old.nodes }
     {
         match step {
             Step::Clock { to } => Ok(self.clock(*to)),
             Step::Start { node, class, args } => self.start(alloc, *node, *class, args),
-            Step::Turn { node, pick } => self.turn(alloc, *node as usize, *pick),
+            Step::Turn { node, pick } => self.turn(alloc, *node as usize, *pick, contracts),
             Step::Post { node } => self.post(alloc, *node as usize),
             Step::Deliver { node, at } => self.hand(alloc, *node as usize, *at as usize, false),
             Step::Repeat { node, at } => self.hand(alloc, *node as usize, *at as usize, true),
             Step::Lose { node, at } => self.lose(*node as usize, *at as usize),
             Step::Boot { node } => self.boot(alloc, *node),
-            Step::Drain => match self.drain(alloc) {
+            Step::Drain => match self.drain(alloc, contracts) {
                 Ok(full) => Ok(Outcome::Drained { full }),
                 Err(fault) => Err(fault),
             },
@@ -205,22 +211,28 @@ impl<D: Bay, F: FlowSet> Net<D, F> {
         }
     }
 
-    /// Makes these steps, as long as memory lasts, and adds their outcomes to the list, which has room for them. True exactly where
+    /// Makes these steps, with these contracts for what has to be judged, as long as memory lasts, and adds their outcomes to the list, which has room for them. True exactly where
     /// each step has its outcome; else so many were made as the list has outcomes, and memory ran out in the next one. What is said of
     /// the worlds is also said of the networks with them, step by step.
-    pub fn apply_all(&mut self, alloc: Global, steps: &[Step], outcomes: &mut Vec<Outcome>) -> bool
+    pub fn apply_all<J: Judge>(
+        &mut self,
+        alloc: Global,
+        steps: &[Step],
+        outcomes: &mut Vec<Outcome>,
+        contracts: &J,
+    ) -> bool
         requires { (outcomes.old.items ≡ []) × (length steps.now ≤ vec_capacity outcomes.old) }
-        ensures worlds { KeepsWorld (unjudged F.machine F.reading) self.old self.new (λ e w v. Follows e steps.now outcomes.new.items result w v) }
-        ensures pairs { FollowPairs (unjudged F.machine F.reading) steps.now outcomes.new.items result self.old self.new }
+        ensures worlds { KeepsWorld (meaning F.machine F.reading (J.judges contracts.now)) self.old self.new (λ e w v. Follows e steps.now outcomes.new.items result w v) }
+        ensures pairs { FollowPairs (meaning F.machine F.reading (J.judges contracts.now)) steps.now outcomes.new.items result self.old self.new }
 
         // Over any disks, also such as tell nothing, and whatever their journals hold.
-        ensures answers { NetFollows (unjudged F.machine F.reading) steps.now outcomes.new.items result self.old self.new }
+        ensures answers { NetFollows (meaning F.machine F.reading (J.judges contracts.now)) steps.now outcomes.new.items result self.old self.new }
         ensures all { result ≡ true → length outcomes.new.items ≡ length steps.now }
         ensures fewer { result ≡ false → length outcomes.new.items < length steps.now }
         ensures count { length self.new.nodes ≡ length self.old.nodes }
     {
         'steps: for step in steps {
-            let Ok(outcome) = self.apply(alloc, step) else {
+            let Ok(outcome) = self.apply(alloc, step, contracts) else {
                 return false;
             };
             outcomes.push(outcome).unwrap();
@@ -233,16 +245,16 @@ impl<D: Bay, F: FlowSet> Net<D, F> {
     /// none is left of those that waited, or it is down. A turn or a delivery that meets a full journal ends all: the answer is true.
     ///
     /// Over a coherent world, where the answer is false, no flow at a node that is up can go on then, and what nodes that are up sent each
-    /// other has arrived.
+    /// other has arrived. The contracts are for what has to be judged, which only turns come to.
     ///
     /// # Errors
     ///
     /// `AllocError` for want of memory at a turn, a post or a delivery; what was done before it stays.
-    pub fn drain(&mut self, alloc: Global) -> Result<bool, AllocError>
-        ensures { Drains (unjudged F.machine F.reading) self.old (drain_outcome result) self.new }
+    pub fn drain<J: Judge>(&mut self, alloc: Global, contracts: &J) -> Result<bool, AllocError>
+        ensures { Drains (meaning F.machine F.reading (J.judges contracts.now)) self.old (drain_outcome result) self.new }
     {
         'rounds: loop {
-            match self.round(alloc)? {
+            match self.round(alloc, contracts)? {
                 Turning::Quiet => return Ok(false),
                 Turning::Full => return Ok(true),
                 Turning::Moved => {}
@@ -251,11 +263,11 @@ impl<D: Bay, F: FlowSet> Net<D, F> {
     }
 
     /// Makes the turns, then the posts, then the deliveries, until something meets a full journal.
-    fn round(&mut self, alloc: Global) -> Result<Turning, AllocError>
-        ensures drives { Drives (unjudged F.machine F.reading) self.old self.new (λ W s w v. Turns result (Round s) (RoundStops s) w v) }
+    fn round<J: Judge>(&mut self, alloc: Global, contracts: &J) -> Result<Turning, AllocError>
+        ensures drives { Drives (meaning F.machine F.reading (J.judges contracts.now)) self.old self.new (λ W s w v. Turns result (Round s) (RoundStops s) w v) }
         ensures moved { IfOk result (λ t. t ≡ turning.Moved → room self.new < room self.old) }
     {
-        let turns = self.turns(alloc)?;
+        let turns = self.turns(alloc, contracts)?;
         if is_full(turns) {
             return Ok(Turning::Full);
         }
@@ -265,14 +277,14 @@ impl<D: Bay, F: FlowSet> Net<D, F> {
     }
 
     /// Makes the turns at each node in the order of places, until one meets a full journal.
-    fn turns(&mut self, alloc: Global) -> Result<Turning, AllocError>
-        ensures drives { Drives (unjudged F.machine F.reading) self.old self.new (λ W s w v. Turns result (InOrder (TurnsAt s) (s.count w)) (TurnsStop s) w v) }
+    fn turns<J: Judge>(&mut self, alloc: Global, contracts: &J) -> Result<Turning, AllocError>
+        ensures drives { Drives (meaning F.machine F.reading (J.judges contracts.now)) self.old self.new (λ W s w v. Turns result (InOrder (TurnsAt s) (s.count w)) (TurnsStop s) w v) }
         ensures moved { IfOk result (λ t. t ≡ turning.Moved → room self.new < room self.old) }
     {
         let mut any_moved = false;
         let count = self.nodes.len();
         'places: for place in 0..count {
-            match self.turns_at(alloc, place)? {
+            match self.turns_at(alloc, place, contracts)? {
                 Turning::Quiet => {}
                 Turning::Full => return Ok(Turning::Full),
                 Turning::Moved => any_moved = true,
@@ -282,14 +294,19 @@ impl<D: Bay, F: FlowSet> Net<D, F> {
     }
 
     /// Makes turns at one node, until no flow of it can go on, its disk failed, or it is down; or until one meets a full journal.
-    fn turns_at(&mut self, alloc: Global, place: usize) -> Result<Turning, AllocError>
+    fn turns_at<J: Judge>(
+        &mut self,
+        alloc: Global,
+        place: usize,
+        contracts: &J,
+    ) -> Result<Turning, AllocError>
         requires { place < length self.old.nodes }
-        ensures drives { Drives (unjudged F.machine F.reading) self.old self.new (λ W s w v. Turns result (TurnsAt s place) (StopsAt s place) w v) }
+        ensures drives { Drives (meaning F.machine F.reading (J.judges contracts.now)) self.old self.new (λ W s w v. Turns result (TurnsAt s place) (StopsAt s place) w v) }
         ensures moved { IfOk result (λ t. t ≡ turning.Moved → room self.new < room self.old) }
     {
         let mut moved = false;
         'turns: loop {
-            let outcome = self.turn(alloc, place, None)?;
+            let outcome = self.turn(alloc, place, None, contracts)?;
             match turned(outcome) {
                 Turning::Quiet => return Ok(turning_of(moved)),
                 Turning::Full => return Ok(Turning::Full),
@@ -298,9 +315,9 @@ impl<D: Bay, F: FlowSet> Net<D, F> {
         }
     }
 
-    /// Posts each node, in the order of places.
+    /// Posts each node, in the order of places. It asks no contract, so it is the same whatever they judge.
     fn posts(&mut self, alloc: Global) -> Result<(), AllocError>
-        ensures { Drives (unjudged F.machine F.reading) self.old self.new (λ W s w v. Posts s w result v) }
+        ensures { (judge : Judgement) → Drives (meaning F.machine F.reading judge) self.old self.new (λ W s w v. Posts s w result v) }
     {
         let count = self.nodes.len();
         'places: for place in 0..count {
@@ -309,9 +326,9 @@ impl<D: Bay, F: FlowSet> Net<D, F> {
         Ok(())
     }
 
-    /// Makes the deliveries at each node in the order of places, until one meets a full journal.
+    /// Makes the deliveries at each node in the order of places, until one meets a full journal. They ask no contract.
     fn deliveries(&mut self, alloc: Global) -> Result<Turning, AllocError>
-        ensures drives { Drives (unjudged F.machine F.reading) self.old self.new (λ W s w v. Turns result (InOrder (DeliversAt s) (s.count w)) (HandsStop s) w v) }
+        ensures drives { (judge : Judgement) → Drives (meaning F.machine F.reading judge) self.old self.new (λ W s w v. Turns result (InOrder (DeliversAt s) (s.count w)) (HandsStop s) w v) }
         ensures moved { IfOk result (λ t. t ≡ turning.Moved → room self.new < room self.old) }
     {
         let mut any_moved = false;
@@ -327,10 +344,10 @@ impl<D: Bay, F: FlowSet> Net<D, F> {
     }
 
     /// Delivers at one node the frames that wait there, one after another, as long as it is up; or until one meets a full journal. A node
-    /// that takes a frame sends nothing to itself: so in a coherent world none waits in the end.
+    /// that takes a frame sends nothing to itself: so in a coherent world none waits in the end. A delivery asks no contract.
     fn deliveries_at(&mut self, alloc: Global, place: usize) -> Result<Turning, AllocError>
         requires { place < length self.old.nodes }
-        ensures drives { Drives (unjudged F.machine F.reading) self.old self.new (λ W s w v. Turns result (DeliversAt s place) (HandStops s place) w v) }
+        ensures drives { (judge : Judgement) → Drives (meaning F.machine F.reading judge) self.old self.new (λ W s w v. Turns result (DeliversAt s place) (HandStops s place) w v) }
         ensures moved { IfOk result (λ t. t ≡ turning.Moved → room self.new < room self.old) }
     {
         let mut moved = false;
@@ -376,13 +393,14 @@ impl<D: Bay, F: FlowSet> Net<D, F> {
         start_at(alloc, node, now, class, args)
     }
 
-    fn turn(
+    fn turn<J: Judge>(
         &mut self,
         alloc: Global,
         place: usize,
         pick: Option<u32>,
+        contracts: &J,
     ) -> Result<Outcome, AllocError>
-        ensures serves { AtPlace place self.old result self.new (λ n r k. TurnServes (unjudged F.machine F.reading) self.old.now pick n r k) }
+        ensures serves { AtPlace place self.old result self.new (λ n r k. TurnServes (meaning F.machine F.reading (J.judges contracts.now)) self.old.now pick n r k) }
         ensures clock { self.new.now ≡ self.old.now }
     {
         if place >= self.nodes.len() {
@@ -390,7 +408,7 @@ impl<D: Bay, F: FlowSet> Net<D, F> {
         }
         let now = self.now;
         let node = &mut self.nodes[place];
-        turn_at(alloc, node, now, pick)
+        turn_at(alloc, node, now, pick, contracts)
     }
 
     fn post(&mut self, alloc: Global, place: usize) -> Result<Outcome, AllocError>

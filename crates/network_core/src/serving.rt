@@ -1,6 +1,6 @@
 //! One call of one node, and its outcome.
 
-ghost use Rattle.net_model.specs.Environment.{unjudged};
+ghost use Rattle.net_model.specs.Environment.{meaning, unjudged};
 ghost use Rattle.std.specs.Prelude.{◌≡◌, ◌≤◌, ℕ, Some, None, Ok};
 ghost use Rattle.std.specs.Option.{option_to_list};
 ghost use Rattle.node_core.specs.Seen.{IsBy};
@@ -8,6 +8,7 @@ ghost use Rattle.network_core.specs.Answers.{StartServes, TurnServes, SendServes
 ghost use Rattle.network_core.specs.Serves.{waits_on};
 
 use super::Outcome;
+use contract_verify::Judge;
 use flow_machine::FlowSet;
 use net_base::{ByteList, Moment};
 use node_core::{
@@ -40,18 +41,19 @@ pub fn start_at<D: Bay, F: FlowSet>(
     }
 }
 
-/// Makes a turn at a node.
-pub fn turn_at<D: Bay, F: FlowSet>(
+/// Makes a turn at a node, with these contracts for what has to be judged.
+pub fn turn_at<D: Bay, F: FlowSet, J: Judge>(
     alloc: Global,
     node: &mut Node<D, F>,
     now: Moment,
     pick: Option<u32>,
+    contracts: &J,
 ) -> Result<Outcome, AllocError>
     requires { IsBy F.reading node.old.journal now.0 }
-    ensures serves { TurnServes (unjudged F.machine F.reading) now.0 pick node.old result node.new }
+    ensures serves { TurnServes (meaning F.machine F.reading (J.judges contracts.now)) now.0 pick node.old result node.new }
     ensures by { IsBy F.reading node.new.journal now.0 }
 {
-    match node.turn(alloc, now, pick) {
+    match node.turn_whole(alloc, now, pick, contracts) {
         Ok(Turned::Idle) => Ok(Outcome::Idle),
         Ok(Turned::Moved { flow }) => Ok(Outcome::Moved { flow }),
         Err(TurnFault::NodeDown) => Ok(Outcome::Refused { code: 3 }),

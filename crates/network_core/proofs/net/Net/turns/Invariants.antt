@@ -1,4 +1,4 @@
-use Rattle.net_model.specs.Environment.{unjudged}
+use Rattle.net_model.specs.Environment.{meaning}
 use Rattle.std.proofs.Common.{◌≡◌, ◌≤◌, ◌<◌, length, true}
 use Rattle.network_core.specs.Drains.{Drives, room}
 use Rattle.network_core.specs.Rounds.{TurnsAt, InOrder}
@@ -7,7 +7,7 @@ use Rattle.network_core.proofs.net.Net.turns.Given as goal
 
 abbrev pub invariant-places : goal.invariant-places
 invariant-places g l = record {
-  drives : Drives (unjudged g.F.FlowSet.machine g.F.Spelt.reading) l.fn.self l.self (λ W s w v. Counts l.any_moved (InOrder (TurnsAt s) l.place) w v);
+  drives : Drives (meaning g.F.FlowSet.machine g.F.Spelt.reading (g.J.Judge.judges l.contracts)) l.fn.self l.self (λ W s w v. Counts l.any_moved (InOrder (TurnsAt s) l.place) w v);
   fell : l.any_moved ≡ true → room l.self < room l.fn.self;
   count : length l.self.nodes ≡ length l.fn.self.nodes;
   within : l.place ≤ length l.fn.self.nodes;
