@@ -14,7 +14,7 @@ use Rattle.ledger_types.specs.declared.state.StateData.TheVariants.{Cash}
 use Rattle.ledger_types.specs.Names.{party_eq, token_eq}
 use Rattle.ledger_types.specs.States.{IsStateData}
 use Rattle.ledger_types.specs.Vaults.{IsHeld, is_relevant, is_cash_of, is_coin_of, is_free, cash_amount, coins_of, least_prefix}
-use Rattle.cash_flows.specs.Payment.{worth}
+use Rattle.cash_flows.specs.Making.{worth}
 use Rattle.cash_flows.specs.Accepted.{IsOwn}
 use Rattle.cash_flows.specs.Reserved.{ReservedIsAccepted}
 use Rattle.cash_flows.proofs.Accepting.{accepted_by_cash}

@@ -1,6 +1,7 @@
 pub mod Words
 pub mod Options
 pub mod Orders
+pub mod Making
 pub mod Payment
 pub mod Pay
 pub mod PayLaws
@@ -8,3 +9,8 @@ pub mod PayWords
 pub mod Conserved
 pub mod Accepted
 pub mod Reserved
+pub mod Kinds
+pub mod Issue
+pub mod IssueLaws
+pub mod IssueWords
+pub mod IssueAccepted

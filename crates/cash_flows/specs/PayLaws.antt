@@ -5,7 +5,7 @@ use Rattle.std.specs.Int.{w32, w64}
 use Rattle.std.proofs.Common.{arith, subst}
 use Rattle.std.proofs.lemmas.Bool.{ltb-true, and_parts}
 use Rattle.std.proofs.lemmas.List.{length-map}
-use Rattle.std.proofs.lemmas.Nat.{pow_below}
+use Rattle.std.proofs.Math.Nat.{mod-lt}
 use Rattle.sha2.proofs.Facts256.{length-sha256}
 use Rattle.net_base.specs.declared.names.StateRef.{StateRef}
 use Rattle.net_base.specs.declared.names.Token.{Token}
@@ -34,7 +34,8 @@ use Rattle.cash_flows.specs.declared.pay.PayPlace.{PayPlace}
 use Rattle.cash_flows.specs.declared.pay.PayPlace.TheVariants.{Reserving, Paying}
 use Rattle.cash_flows.specs.Words.{IsCurrency}
 use Rattle.cash_flows.specs.Options.{ArePayOptions, window_fits, reference_fits}
-use Rattle.cash_flows.specs.Payment.{cash, worth, left_of, listed, payment}
+use Rattle.cash_flows.specs.Making.{cash, worth, left_of}
+use Rattle.cash_flows.specs.Payment.{listed, payment}
 use Rattle.cash_flows.specs.Pay.{PayArgs, is_in_range, fields_of, begins, reserved, paid, moves, weight, form, IsPay, pay, pay_of, pay_at, place_number, places}
 
 -- its fields' laws
@@ -116,7 +117,7 @@ payment_within p coins here h held place =
         (
           (omega (arith, rest.0), (((h.1.0, (h.1.1.0, h.0)), (place.notary, tt)), rest.1)),
           (
-            (omega arith, ((tt, pow_below here.me.0 16 place.me), tt)),
+            (omega arith, ((tt, mod-lt (2 ^ here.me.0) (omega arith)), tt)),
             ((omega arith, tt), (place.notary, (h.1.1.1.0, listed_is p.reference h.1.1.1.1.0))),
           ),
         ),

@@ -1,4 +1,5 @@
-//! What words come to, and what a payment does to value: laws, each the contract of a function that does nothing.
+//! What words come to, what a payment does to value, and what the contract of cash says: laws, each the contract of a function that does
+//! nothing.
 
 ghost use Rattle.std.specs.Prelude.{codes};
 ghost use Rattle.cash_flows.specs.Pay.{begins};
@@ -8,7 +9,11 @@ ghost use Rattle.cash_flows.specs.Orders.{TakenInOrder};
 ghost use Rattle.cash_flows.specs.Conserved.{PaysInFull};
 ghost use Rattle.cash_flows.specs.Accepted.{AcceptedByCash};
 ghost use Rattle.cash_flows.specs.Reserved.{ReservedIsAccepted};
+ghost use Rattle.cash_flows.specs.IssueWords as issue_words;
+ghost use Rattle.cash_flows.specs.Issue as issue;
+ghost use Rattle.cash_flows.specs.IssueAccepted.{IssueIsAccepted};
 
+use crate::issue::{Issue, IssuePlace};
 use crate::pay::{Pay, PayPlace};
 use flow_forms::begins_by_its_words;
 
@@ -42,4 +47,16 @@ pub fn accepted_by_cash()
 /// states that are relevant to this party.
 pub fn reserved_is_accepted()
     ensures { ReservedIsAccepted }
+{}
+
+/// The bytes that the words of an issue, `issue CODE AMOUNT`, give begin a flow by the arguments of these words, where these are in range.
+pub fn issue_begins_by_its_words()
+    ensures { BeginsByWords (codes "issue") 3 issue_words.args_of issue_words.args issue_words.args_at issue.begins }
+{
+    begins_by_its_words::<IssuePlace, Issue>();
+}
+
+/// No clause of the contract of cash refuses an issue of at least 1.
+pub fn issue_is_accepted()
+    ensures { IssueIsAccepted }
 {}
