@@ -1,5 +1,5 @@
 -- The laws of the issue.
-use Rattle.std.specs.Prelude.{◌≡◌, ℕ, ◌<◌, ◌^◌, ◌++◌, codes, nat_lt, refl}
+use Rattle.std.specs.Prelude.{◌<◌, ◌^◌, ◌++◌, codes, nat_lt, refl}
 use Rattle.std.specs.Int.{w32}
 use Rattle.std.proofs.Math.Nat.{mod-lt}
 use Rattle.sha2.proofs.Facts256.{length-sha256}
