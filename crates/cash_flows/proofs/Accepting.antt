@@ -27,12 +27,12 @@ never test none [] = refl
 never test none (x ∷ xs) = rw (none x, never test none xs) refl
 
 -- the amounts or nothing, by whether a token is the one
-abbrev where_same : Bool → ℕ → ℕ
+abbrev pub where_same : Bool → ℕ → ℕ
 where_same same n = if same then n else 0
 
 -- ---- what goes in
 
-value_of_own : (token other : Token) (me : Party) (same : Bool) → token_eq token other ≡ same → (coins : List Held) → AllByRecursion (IsOwn token me) coins → value_in other (map (λ h. h.state) coins) ≡ where_same same (worth coins)
+pub value_of_own : (token other : Token) (me : Party) (same : Bool) → token_eq token other ≡ same → (coins : List Held) → AllByRecursion (IsOwn token me) coins → value_in other (map (λ h. h.state) coins) ≡ where_same same (worth coins)
 value_of_own token other me true is [] all = refl
 value_of_own token other me false is [] all = refl
 value_of_own token other me true is (h ∷ hs) all =

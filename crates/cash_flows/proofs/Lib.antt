@@ -3,3 +3,4 @@ pub mod Value
 pub mod Accepting
 pub mod Reserving
 pub mod Issuing
+pub mod Exiting

@@ -5,16 +5,14 @@ use Rattle.ledger_types.specs.declared.tx.Tx.{Tx}
 use Rattle.ledger_types.specs.declared.value.Value.TheVariants as value
 use Rattle.flow_machine.specs.declared.acts.Act.TheVariants as act
 use Rattle.flow_machine.specs.declared.acts.Resumed.TheVariants as resumed
-use Rattle.flow_forms.specs.declared.arguments.End.{End}
-use Rattle.flow_forms.specs.declared.arguments.Then.{Then}
 use Rattle.flow_forms.specs.declared.calls.Call.TheVariants as call
 use Rattle.flow_forms.specs.declared.forms.Goes.{Goes}
 use Rattle.flow_forms.specs.declared.forms.Goes.TheVariants.{On, Ends}
 use Rattle.flow_forms.specs.Usual.{Place, Resumed, Form, unnamed, Numbers, Kept, kept_as, before, option_field, u64_field}
-use Rattle.cash_flows.specs.declared.words.Code.{Code}
 use Rattle.cash_flows.specs.declared.issue.Issue.{Issue}
 use Rattle.cash_flows.specs.declared.issue.IssuePlace.{IssuePlace}
 use Rattle.cash_flows.specs.declared.issue.IssuePlace.TheVariants.{Issuing}
+use Rattle.cash_flows.specs.AmountWords.{AmountArgs}
 use Rattle.cash_flows.specs.Kinds.{code_field, hash_field}
 use Rattle.cash_flows.specs.Making.{salt_of, alone, own, cash}
 
@@ -35,12 +33,8 @@ issuance i here = record {
 
 -- ---- how it begins
 
--- The arguments, in the order of their words: the code and the amount.
-abbrev pub IssueArgs : Type 0
-IssueArgs = Then Code (Then ℕ End)
-
 -- the fields that it begins with, where the amount is not 0
-abbrev pub begins : IssueArgs → Place → Option Issue
+abbrev pub begins : AmountArgs → Place → Option Issue
 begins a here = if nat_lt 0 a.rest.first then Some (record { code = a.first; amount = a.rest.first; id = None }) else None
 
 -- ---- how it goes on

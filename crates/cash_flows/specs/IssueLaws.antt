@@ -1,8 +1,6 @@
 -- The laws of the issue.
 use Rattle.std.specs.Prelude.{◌<◌, ◌^◌, ◌++◌, codes, nat_lt, refl}
 use Rattle.std.specs.Int.{w32}
-use Rattle.std.proofs.Math.Nat.{mod-lt}
-use Rattle.sha2.proofs.Facts256.{length-sha256}
 use Rattle.net_base.specs.Reading.{number}
 use Rattle.net_base.specs.Values.{party}
 use Rattle.ledger_types.specs.declared.value.Value.TheVariants as value
@@ -12,6 +10,7 @@ use Rattle.flow_machine.specs.Limits.{IsPlace}
 use Rattle.flow_forms.specs.Usual.{Place, Resumed, Owes, IsForm, unnamed_owes, BeginsWithin, if_some, arith, subst}
 use Rattle.cash_flows.specs.declared.issue.Issue.{Issue}
 use Rattle.cash_flows.specs.Words.{IsCurrency}
+use Rattle.cash_flows.specs.MakingLaws.{salt_is, alone_is}
 use Rattle.cash_flows.specs.Issue.{issuance, begins, issued, form, kept}
 
 -- the arguments give fields within their limits
@@ -21,13 +20,13 @@ begins_within args here i e = let made = if_some (nat_lt 0 args.rest.first) e in
 -- the transaction is within its limits
 issuance_within : (i : Issue) (here : Place) → kept.within i → IsPlace here → IsTx (issuance i here)
 issuance_within i here h place = (
-  length-sha256 (codes "salt" ++ (party here.me ++ (number w32 here.flow ++ number w32 here.step))),
+  salt_is here,
   (
     (omega arith, tt),
     (
       (omega arith, ((((place.me, h.0), (h.1.0, place.me)), (place.notary, tt)), tt)),
       (
-        (omega arith, ((((place.me, h.0), h.1.0), mod-lt (2 ^ here.me.0) (omega arith)), tt)),
+        (omega arith, ((((place.me, h.0), h.1.0), alone_is here.me), tt)),
         ((omega arith, tt), (place.notary, (tt, (omega arith, tt)))),
       ),
     ),

@@ -2,6 +2,7 @@ pub mod Words
 pub mod Options
 pub mod Orders
 pub mod Making
+pub mod MakingLaws
 pub mod Payment
 pub mod Pay
 pub mod PayLaws
@@ -12,5 +13,8 @@ pub mod Reserved
 pub mod Kinds
 pub mod Issue
 pub mod IssueLaws
-pub mod IssueWords
+pub mod AmountWords
 pub mod IssueAccepted
+pub mod Exit
+pub mod ExitLaws
+pub mod ExitAccepted

@@ -5,15 +5,12 @@ ghost use Rattle.cash_flows.specs.Issue.{issuance, begins, issues, issued, form,
 ghost use Rattle.cash_flows.specs.IssueLaws.{is_form, begins_within};
 
 use crate::making::{cash, own, salt_of, signed};
-use crate::words::Code;
-use flow_forms::{ByWords, Call, End, Fields, Frame, Goes, Machine, Numbered, Then, Worded};
+use crate::words::{AmountArgs, Code};
+use flow_forms::{ByWords, Call, Fields, Frame, Goes, Machine, Numbered, Worded};
 use flow_machine::{Act, Place, Resumed};
 use ledger_types::{Deed, HashList, RefList, Tx, Value};
 use net_base::{Boxed, Hash32, ListOf, PartFault, Reader, Spelt, Writer};
 use std::alloc::{AllocError, Global};
-
-/// The arguments of an issue, in the order of their words: the code and the amount. A flow begins where the amount is at least 1.
-pub type IssueArgs = Then<Code, Then<u64, End>>;
 
 /// An issue's frame, as a flow set has it: its flows begin by words.
 pub type IssueFrame = Frame<IssuePlace, Issue, ByWords>;
@@ -151,7 +148,7 @@ impl Worded<IssuePlace> for Issue {
     ghost use Rattle.std.specs.Prelude.{codes};
     ghost use Rattle.std.proofs.Common.{arith};
 
-    type Args = IssueArgs;
+    type Args = AmountArgs;
 
     ghost name = { codes "issue" };
 
@@ -169,7 +166,7 @@ impl Worded<IssuePlace> for Issue {
         word == "issue"
     }
 
-    fn begin(args: IssueArgs, _: &Place) -> Option<Issue> {
+    fn begin(args: AmountArgs, _: &Place) -> Option<Issue> {
         let amount = args.rest.first;
         if amount > 0 {
             Some(Issue {
