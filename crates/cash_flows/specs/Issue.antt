@@ -1,5 +1,5 @@
 -- The issue, class 3: it makes cash of this party's own token by one transaction, and returns its id.
-use Rattle.std.specs.Prelude.{ℕ, nat_lt, [], ◌∷◌, Option, Some, None, if◌then◌else◌, refl}
+use Rattle.std.specs.Prelude.{nat_lt, [], ◌∷◌, Option, Some, None, if◌then◌else◌, refl}
 use Rattle.ledger_types.specs.declared.tx.Deed.TheVariants.{CashIssue}
 use Rattle.ledger_types.specs.declared.tx.Tx.{Tx}
 use Rattle.ledger_types.specs.declared.value.Value.TheVariants as value

@@ -1,8 +1,5 @@
 -- The laws of the issue.
-use Rattle.std.specs.Prelude.{◌<◌, ◌^◌, ◌++◌, codes, nat_lt, refl}
-use Rattle.std.specs.Int.{w32}
-use Rattle.net_base.specs.Reading.{number}
-use Rattle.net_base.specs.Values.{party}
+use Rattle.std.specs.Prelude.{◌<◌, ◌^◌, nat_lt, refl}
 use Rattle.ledger_types.specs.declared.value.Value.TheVariants as value
 use Rattle.ledger_types.specs.Txs.{IsTx}
 use Rattle.flow_machine.specs.declared.acts.Resumed.TheVariants as resumed

@@ -19,7 +19,7 @@ use Rattle.cash_flows.specs.declared.words.Code.{Code}
 abbrev pub salt_of : Place → Hash32
 salt_of here = record { 0 = digest_of (codes "salt" ++ (party here.me ++ (number w32 here.flow ++ number w32 here.step))) }
 
--- the set of one party: of the 16 bits the party's alone is 1
+-- the set of one party: of its 16 bits the party's alone is 1
 abbrev pub alone : Party → PartySet
 alone p = record { 0 = 2 ^ p.0 % 2 ^ 16 }
 

@@ -1,22 +1,20 @@
 -- The laws of the payment.
-use Rattle.std.specs.Prelude.{◌≡◌, ℕ, ◌≤◌, ◌<◌, ◌^◌, ◌&&◌, ◌==◌, not, nat_lt, List, [], ◌∷◌, ◌++◌, codes, length, map, Bool, true, false, refl, Option, Some, None, IfSome, if◌then◌else◌}
+use Rattle.std.specs.Prelude.{◌≡◌, ◌≤◌, ◌<◌, ◌^◌, ◌&&◌, ◌==◌, not, nat_lt, List, [], ◌++◌, length, Bool, true, false, refl, Option, Some, None, IfSome, if◌then◌else◌}
 use Rattle.std.specs.List.{AllByRecursion}
-use Rattle.std.specs.Int.{w32, w64}
+use Rattle.std.specs.Int.{w64}
 use Rattle.std.proofs.Common.{arith, subst}
 use Rattle.std.proofs.lemmas.Bool.{ltb-true, and_parts}
 use Rattle.std.proofs.lemmas.List.{length-map}
 use Rattle.net_base.specs.declared.names.StateRef.{StateRef}
-use Rattle.net_base.specs.declared.names.Token.{Token}
 use Rattle.net_base.specs.Reading.{number}
 use Rattle.net_base.specs.Forms.{option_of, ListWithin}
 use Rattle.net_base.specs.Laws.{Laws}
 use Rattle.net_base.specs.Combining.{pair_laws, iso_laws}
 use Rattle.net_base.specs.Fields.{u64_laws, option_laws}
-use Rattle.net_base.specs.Names.{IsStateRef, state_ref, state_ref_laws, IsToken, token, token_laws}
+use Rattle.net_base.specs.Names.{IsStateRef, state_ref, state_ref_laws, token, token_laws}
 use Rattle.net_base.specs.Values.{IsHash, hash, hash_laws, party, party_laws}
 use Rattle.ledger_types.specs.declared.held.Held.{Held}
 use Rattle.ledger_types.specs.declared.value.Value.TheVariants as value
-use Rattle.ledger_types.specs.States.{IsTxState}
 use Rattle.ledger_types.specs.Txs.{IsWindow, window, window_laws, IsTx}
 use Rattle.ledger_types.specs.Vaults.{IsHeld}
 use Rattle.ledger_types.proofs.Sizes.{joined, code_fits, number64_fits}
@@ -32,7 +30,7 @@ use Rattle.cash_flows.specs.declared.pay.PayPlace.{PayPlace}
 use Rattle.cash_flows.specs.declared.pay.PayPlace.TheVariants.{Reserving, Paying}
 use Rattle.cash_flows.specs.Words.{IsCurrency}
 use Rattle.cash_flows.specs.Options.{ArePayOptions, window_fits, reference_fits}
-use Rattle.cash_flows.specs.Making.{cash, worth, left_of}
+use Rattle.cash_flows.specs.Making.{worth}
 use Rattle.cash_flows.specs.Payment.{listed, payment}
 use Rattle.cash_flows.specs.MakingLaws.{salt_is, alone_is, references_are, rest_is}
 use Rattle.cash_flows.specs.Pay.{PayArgs, is_in_range, fields_of, begins, reserved, paid, moves, weight, form, IsPay, pay, pay_of, pay_at, place_number, places}

@@ -23,7 +23,7 @@ pub(crate) fn salt_of(here: &Place) -> Hash32
     Hash32(digest(text.bytes()))
 }
 
-/// The set of one party.
+/// The set of one party; of a number above 15 the empty one.
 fn alone(party: Party) -> PartySet
     ensures { result ≡ alone party }
 {
