@@ -1,11 +1,11 @@
 -- The contract of cash accepts a payment.
-use Rattle.std.specs.Prelude.{◌≡◌, ℕ, ◌+◌, ◌/◌, ◌<◌, ◌≤◌, ◌^◌, ◌==◌, ◌||◌, not, nat_lt, List, [], ◌∷◌, map, Bool, true, false, None, refl, if◌then◌else◌}
+use Rattle.std.specs.Prelude.{◌≡◌, ℕ, ◌+◌, ◌/◌, ◌%◌, ◌<◌, ◌≤◌, ◌^◌, ◌==◌, ◌||◌, not, nat_lt, List, [], ◌∷◌, map, Bool, true, false, None, refl, if◌then◌else◌}
 use Rattle.std.specs.List.{AllByRecursion, list_any}
 use Rattle.std.proofs.Common.{arith, ap, ◌∙◌}
-use Rattle.std.proofs.Math.Nat.{div_self}
+use Rattle.std.proofs.Math.Nat.{div_self, mod-eq_of_lt}
 use Rattle.std.proofs.lemmas.Bool.{ltb-true, ltb-false, eq-eqb, ne_eqb}
 use Rattle.std.proofs.lemmas.List.Sums.{sum_by-cons}
-use Rattle.std.proofs.lemmas.Nat.{pow_pos}
+use Rattle.std.proofs.lemmas.Nat.{pow_pos, pow_below}
 use Rattle.net_base.specs.declared.names.Token.{Token}
 use Rattle.net_base.specs.declared.values.Party.{Party}
 use Rattle.net_base.specs.Parties.{has_party}
@@ -17,21 +17,22 @@ use Rattle.ledger_types.specs.Vaults.{cash_amount}
 use Rattle.cash_contract.specs.Clauses.{is_worthless, amount_in, value_in, is_conserved, is_taken, signs_spending, loses_value, has_worthless_output, takes_cash, tokens_in, cash_says}
 use Rattle.flow_machine.specs.declared.acts.Place.{Place}
 use Rattle.cash_flows.specs.declared.pay.Pay.{Pay}
-use Rattle.cash_flows.specs.Payment.{alone, cash, left_of, worth, payment}
+use Rattle.cash_flows.specs.Making.{alone, cash, left_of, worth}
+use Rattle.cash_flows.specs.Payment.{payment}
 use Rattle.cash_flows.specs.Accepted.{IsOwn, resolved_of, AcceptedByCash}
 
 -- a test that no item passes
-never : {X : Type 0} (test : X → Bool) → ((x : X) → test x ≡ false) → (xs : List X) → list_any test xs ≡ false
+pub never : {X : Type 0} (test : X → Bool) → ((x : X) → test x ≡ false) → (xs : List X) → list_any test xs ≡ false
 never test none [] = refl
 never test none (x ∷ xs) = rw (none x, never test none xs) refl
 
 -- the amounts or nothing, by whether a token is the one
-abbrev where_same : Bool → ℕ → ℕ
+abbrev pub where_same : Bool → ℕ → ℕ
 where_same same n = if same then n else 0
 
 -- ---- what goes in
 
-value_of_own : (token other : Token) (me : Party) (same : Bool) → token_eq token other ≡ same → (coins : List Held) → AllByRecursion (IsOwn token me) coins → value_in other (map (λ h. h.state) coins) ≡ where_same same (worth coins)
+pub value_of_own : (token other : Token) (me : Party) (same : Bool) → token_eq token other ≡ same → (coins : List Held) → AllByRecursion (IsOwn token me) coins → value_in other (map (λ h. h.state) coins) ≡ where_same same (worth coins)
 value_of_own token other me true is [] all = refl
 value_of_own token other me false is [] all = refl
 value_of_own token other me true is (h ∷ hs) all =
@@ -75,19 +76,22 @@ conserved p coins here references own le lt other =
     ap not (eq-eqb (value_in other (map (λ h. h.state) coins) + 0) (value_in other (outputs here p.token p.amount p.to (worth coins) (nat_lt p.amount (worth coins))) + 0) (omega (arith, ins, outs)))
 
 -- a party alone is in the set of it
-alone_has : (me : Party) → has_party (alone me) me.0 ≡ true
-alone_has me = let one : 2 ^ me.0 / 2 ^ me.0 ≡ 1 = div_self (pow_pos me.0) in rw one refl
+pub alone_has : (me : Party) → me.0 < 16 → has_party (alone me) me.0 ≡ true
+alone_has me is =
+    let small : 2 ^ me.0 % 2 ^ 16 ≡ 2 ^ me.0 = mod-eq_of_lt (pow_below me.0 16 is) in
+    let one : 2 ^ me.0 / 2 ^ me.0 ≡ 1 = div_self (pow_pos me.0) in
+    rw (small, one) refl
 
 -- this party spends its coins
-not_taken : (p : Pay) (all : List Held) (here : Place) (coins : List Held) → AllByRecursion (IsOwn p.token here.me) coins → list_any (λ s. is_taken (payment p all here) s.body) (map (λ h. h.state) coins) ≡ false
-not_taken p all here [] own = refl
-not_taken p all here (h ∷ hs) own =
-    let signs : signs_spending (payment p all here) p.token here.me ≡ true = ap (λ (b : Bool). b || false) (alone_has here.me) in
+not_taken : (p : Pay) (all : List Held) (here : Place) (coins : List Held) → here.me.0 < 16 → AllByRecursion (IsOwn p.token here.me) coins → list_any (λ s. is_taken (payment p all here) s.body) (map (λ h. h.state) coins) ≡ false
+not_taken p all here [] me own = refl
+not_taken p all here (h ∷ hs) me own =
+    let signs : signs_spending (payment p all here) p.token here.me ≡ true = ap (λ (b : Bool). b || false) (alone_has here.me me) in
     let one : is_taken (payment p all here) h.state.body ≡ false = ap (is_taken (payment p all here)) own.0.1 ∙ ap not signs in
-    rw (one, not_taken p all here hs own.1) refl
+    rw (one, not_taken p all here hs me own.1) refl
 
 -- where no clause refuses
-none_refuses : (a b c d e f : Bool) → a ≡ false → b ≡ false → c ≡ false → d ≡ false → e ≡ false → f ≡ false → first_true ((1, a) ∷ (2, b) ∷ (3, c) ∷ (4, d) ∷ (5, e) ∷ (6, f) ∷ []) ≡ None
+pub none_refuses : (a b c d e f : Bool) → a ≡ false → b ≡ false → c ≡ false → d ≡ false → e ≡ false → f ≡ false → first_true ((1, a) ∷ (2, b) ∷ (3, c) ∷ (4, d) ∷ (5, e) ∷ (6, f) ∷ []) ≡ None
 none_refuses a b c d e f ha hb hc hd he hf = rw (ha, hb, hc, hd, he, hf) refl
 
 pub accepted_by_cash : AcceptedByCash
@@ -96,4 +100,4 @@ accepted_by_cash p coins here references me own some le lt =
     let tx = payment p coins here in
     let resolved = resolved_of coins references in
     none_refuses (has_worthless_output tx) false (loses_value tx resolved) false false (takes_cash tx resolved) (worth_some here p.token p.amount p.to (worth coins) (nat_lt p.amount (worth coins)) refl some) refl (never (λ t. not (is_conserved tx resolved t)) (conserved p coins here references own le lt) (tokens_in tx resolved)) refl refl
-    (not_taken p coins here coins own)
+    (not_taken p coins here coins me own)

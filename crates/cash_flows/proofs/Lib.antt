@@ -2,3 +2,5 @@ pub mod Taken
 pub mod Value
 pub mod Accepting
 pub mod Reserving
+pub mod Issuing
+pub mod Exiting

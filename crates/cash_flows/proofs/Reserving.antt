@@ -13,8 +13,8 @@ use Rattle.ledger_types.specs.declared.state.StateData.{StateData}
 use Rattle.ledger_types.specs.declared.state.StateData.TheVariants.{Cash}
 use Rattle.ledger_types.specs.Names.{party_eq, token_eq}
 use Rattle.ledger_types.specs.States.{IsStateData}
-use Rattle.ledger_types.specs.Vaults.{IsHeld, is_relevant, is_cash_of, is_coin_of, is_free, cash_amount, coins_of, least_prefix}
-use Rattle.cash_flows.specs.Payment.{worth}
+use Rattle.ledger_types.specs.Vaults.{IsHeld, is_relevant, is_cash_of, is_coin_of, is_free, cash_amount, coins_of, least_prefix, reserved}
+use Rattle.cash_flows.specs.Making.{worth}
 use Rattle.cash_flows.specs.Accepted.{IsOwn}
 use Rattle.cash_flows.specs.Reserved.{ReservedIsAccepted}
 use Rattle.cash_flows.proofs.Accepting.{accepted_by_cash}
@@ -59,11 +59,11 @@ coins_are token me (h ∷ hs) held own = coins_by token me h (coins_of token hs)
 -- ---- the least prefix
 
 -- What a least prefix is: of own coins, it reaches the amount, exceeds it by an amount, and is empty where that is 0.
-record Reaches (token : Token) (me : Party) (amount : ℕ) (coins : List Held) : Type 0 where
-  own : AllByRecursion (IsOwn token me) coins
-  reaches : amount ≤ worth coins
-  exceeds : worth coins < amount + 2 ^ 64
-  empty : amount ≡ 0 → worth coins ≡ 0
+pub record Reaches (token : Token) (me : Party) (amount : ℕ) (coins : List Held) : Type 0 where
+  pub own : AllByRecursion (IsOwn token me) coins
+  pub reaches : amount ≤ worth coins
+  pub exceeds : worth coins < amount + 2 ^ 64
+  pub empty : amount ≡ 0 → worth coins ≡ 0
 
 nothing_reaches : (token : Token) (me : Party) (amount : ℕ) (coins : List Held) → amount ≡ 0 → Some [] ≡ Some coins → Reaches token me amount coins
 nothing_reaches token me amount coins none e =
@@ -105,7 +105,11 @@ prefix_reaches : (token : Token) (me : Party) (amount : ℕ) (all coins : List H
 prefix_reaches token me amount [] coins are e = ends_by token me amount coins (amount == 0) refl e
 prefix_reaches token me amount (h ∷ hs) coins are e = prefix_by token me amount h hs coins (amount == 0) refl are.0 (λ l f. prefix_reaches token me (amount - cash_amount h.state.body) hs l are.1 f) e
 
+-- what a reservation names
+pub reservation_reaches : (token : Token) (me : Party) (amount : ℕ) (vault coins : List Held) → AllByRecursion IsHeld vault → AllByRecursion (λ h. is_relevant me h.state.body ≡ true) vault → reserved token amount vault ≡ Some coins → Reaches token me amount coins
+reservation_reaches token me amount vault coins held own e = prefix_reaches token me amount (take 64 (coins_of token vault)) coins (all_take (IsCoin token me) 64 (coins_of token vault) (coins_are token me vault held own)) e
+
 pub reserved_is_accepted : ReservedIsAccepted
 reserved_is_accepted p vault coins here references me held own some e =
-    let r = prefix_reaches p.token here.me p.amount (take 64 (coins_of p.token vault)) coins (all_take (IsCoin p.token here.me) 64 (coins_of p.token vault) (coins_are p.token here.me vault held own)) e in
+    let r = reservation_reaches p.token here.me p.amount vault coins held own e in
     accepted_by_cash p coins here references me r.own some r.reaches r.exceeds

@@ -6,7 +6,7 @@ use Rattle.net_base.specs.declared.names.Token.{Token}
 use Rattle.net_base.specs.declared.values.Party.{Party}
 use Rattle.ledger_types.specs.Vaults.{cash_amount}
 use Rattle.flow_machine.specs.declared.acts.Place.{Place}
-use Rattle.cash_flows.specs.Payment.{cash, left_of, worth}
+use Rattle.cash_flows.specs.Making.{cash, left_of, worth}
 use Rattle.cash_flows.specs.Conserved.{PaysInFull}
 
 rest_adds : (here : Place) (t : Token) (to : Party) (amount sum : ℕ) (test : Bool) → nat_lt amount sum ≡ test → amount ≤ sum → sum < amount + 2 ^ 64

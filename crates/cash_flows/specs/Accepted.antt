@@ -10,7 +10,8 @@ use Rattle.ledger_types.specs.declared.tx.Resolved.{Resolved}
 use Rattle.cash_contract.specs.Clauses.{cash_says}
 use Rattle.flow_machine.specs.declared.acts.Place.{Place}
 use Rattle.cash_flows.specs.declared.pay.Pay.{Pay}
-use Rattle.cash_flows.specs.Payment.{worth, payment}
+use Rattle.cash_flows.specs.Making.{worth}
+use Rattle.cash_flows.specs.Payment.{payment}
 
 -- a held state is cash of the token that the party owns
 abbrev pub IsOwn : Token → Party → Held → Type 0

@@ -4,7 +4,8 @@ use Rattle.ledger_types.specs.declared.held.Held.{Held}
 use Rattle.ledger_types.specs.Vaults.{cash_amount}
 use Rattle.flow_machine.specs.declared.acts.Place.{Place}
 use Rattle.cash_flows.specs.declared.pay.Pay.{Pay}
-use Rattle.cash_flows.specs.Payment.{worth, payment}
+use Rattle.cash_flows.specs.Making.{worth}
+use Rattle.cash_flows.specs.Payment.{payment}
 
 -- Coins that reach the amount, and exceed it by an amount, are paid out in full: what comes out is what goes in.
 abbrev pub PaysInFull : Type 0

@@ -1,6 +1,8 @@
 pub mod Words
 pub mod Options
 pub mod Orders
+pub mod Making
+pub mod MakingLaws
 pub mod Payment
 pub mod Pay
 pub mod PayLaws
@@ -8,3 +10,11 @@ pub mod PayWords
 pub mod Conserved
 pub mod Accepted
 pub mod Reserved
+pub mod Kinds
+pub mod Issue
+pub mod IssueLaws
+pub mod AmountWords
+pub mod IssueAccepted
+pub mod Exit
+pub mod ExitLaws
+pub mod ExitAccepted

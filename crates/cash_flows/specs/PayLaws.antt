@@ -1,24 +1,20 @@
 -- The laws of the payment.
-use Rattle.std.specs.Prelude.{◌≡◌, ℕ, ◌≤◌, ◌<◌, ◌^◌, ◌&&◌, ◌==◌, not, nat_lt, List, [], ◌∷◌, ◌++◌, codes, length, map, Bool, true, false, refl, Option, Some, None, IfSome, if◌then◌else◌}
+use Rattle.std.specs.Prelude.{◌≡◌, ◌≤◌, ◌<◌, ◌^◌, ◌&&◌, ◌==◌, not, nat_lt, List, [], ◌++◌, length, Bool, true, false, refl, Option, Some, None, IfSome, if◌then◌else◌}
 use Rattle.std.specs.List.{AllByRecursion}
-use Rattle.std.specs.Int.{w32, w64}
+use Rattle.std.specs.Int.{w64}
 use Rattle.std.proofs.Common.{arith, subst}
 use Rattle.std.proofs.lemmas.Bool.{ltb-true, and_parts}
 use Rattle.std.proofs.lemmas.List.{length-map}
-use Rattle.std.proofs.lemmas.Nat.{pow_below}
-use Rattle.sha2.proofs.Facts256.{length-sha256}
 use Rattle.net_base.specs.declared.names.StateRef.{StateRef}
-use Rattle.net_base.specs.declared.names.Token.{Token}
 use Rattle.net_base.specs.Reading.{number}
 use Rattle.net_base.specs.Forms.{option_of, ListWithin}
 use Rattle.net_base.specs.Laws.{Laws}
 use Rattle.net_base.specs.Combining.{pair_laws, iso_laws}
 use Rattle.net_base.specs.Fields.{u64_laws, option_laws}
-use Rattle.net_base.specs.Names.{IsStateRef, state_ref, state_ref_laws, IsToken, token, token_laws}
+use Rattle.net_base.specs.Names.{IsStateRef, state_ref, state_ref_laws, token, token_laws}
 use Rattle.net_base.specs.Values.{IsHash, hash, hash_laws, party, party_laws}
 use Rattle.ledger_types.specs.declared.held.Held.{Held}
 use Rattle.ledger_types.specs.declared.value.Value.TheVariants as value
-use Rattle.ledger_types.specs.States.{IsTxState}
 use Rattle.ledger_types.specs.Txs.{IsWindow, window, window_laws, IsTx}
 use Rattle.ledger_types.specs.Vaults.{IsHeld}
 use Rattle.ledger_types.proofs.Sizes.{joined, code_fits, number64_fits}
@@ -34,7 +30,9 @@ use Rattle.cash_flows.specs.declared.pay.PayPlace.{PayPlace}
 use Rattle.cash_flows.specs.declared.pay.PayPlace.TheVariants.{Reserving, Paying}
 use Rattle.cash_flows.specs.Words.{IsCurrency}
 use Rattle.cash_flows.specs.Options.{ArePayOptions, window_fits, reference_fits}
-use Rattle.cash_flows.specs.Payment.{cash, worth, left_of, listed, payment}
+use Rattle.cash_flows.specs.Making.{worth}
+use Rattle.cash_flows.specs.Payment.{listed, payment}
+use Rattle.cash_flows.specs.MakingLaws.{salt_is, alone_is, references_are, rest_is}
 use Rattle.cash_flows.specs.Pay.{PayArgs, is_in_range, fields_of, begins, reserved, paid, moves, weight, form, IsPay, pay, pay_of, pay_at, place_number, places}
 
 -- its fields' laws
@@ -92,16 +90,6 @@ begins_within a here p e = begins_by a here p (is_in_range a here) refl e
 
 -- ---- the transaction
 
--- the references of coins
-references_are : (coins : List Held) → AllByRecursion IsHeld coins → AllByRecursion IsStateRef (map (λ h. h.reference) coins)
-references_are [] all = tt
-references_are (h ∷ hs) all = (all.0.0, references_are hs all.1)
-
--- the rest
-rest_is : (here : Place) (t : Token) (amount sum : ℕ) (test : Bool) → IsToken t → IsPlace here → ListWithin 1 IsTxState (if test then cash here t (left_of sum amount) here.me ∷ [] else [])
-rest_is here t amount sum true token place = (omega arith, (((token, (omega arith, place.me)), (place.notary, tt)), tt))
-rest_is here t amount sum false token place = (omega arith, tt)
-
 listed_is : (r : Option StateRef) → IfSome r IsStateRef → ListWithin 16 IsStateRef (listed r)
 listed_is None h = (omega arith, tt)
 listed_is (Some r) h = (omega arith, (h, tt))
@@ -110,13 +98,13 @@ listed_is (Some r) h = (omega arith, (h, tt))
 payment_within : (p : Pay) (coins : List Held) (here : Place) → IsPay p → (length coins ≤ 64) × AllByRecursion IsHeld coins → IsPlace here → IsTx (payment p coins here)
 payment_within p coins here h held place =
     let rest = rest_is here p.token p.amount (worth coins) (nat_lt p.amount (worth coins)) h.1.0 place in (
-      length-sha256 (codes "salt" ++ (party here.me ++ (number w32 here.flow ++ number w32 here.step))),
+      salt_is here,
       (
         (omega (arith, held.0, length-map coins (λ (c : Held). c.reference)), references_are coins held.1),
         (
           (omega (arith, rest.0), (((h.1.0, (h.1.1.0, h.0)), (place.notary, tt)), rest.1)),
           (
-            (omega arith, ((tt, pow_below here.me.0 16 place.me), tt)),
+            (omega arith, ((tt, alone_is here.me), tt)),
             ((omega arith, tt), (place.notary, (h.1.1.1.0, listed_is p.reference h.1.1.1.1.0))),
           ),
         ),

@@ -1,7 +1,6 @@
 //! The payment.
 
 ghost use Rattle.std.specs.Prelude.{◌≡◌, IfOk};
-ghost use Rattle.flow_machine.specs.Limits.{IsPlace};
 ghost use Rattle.cash_flows.specs.Pay.{is_in_range, fields_of, begins, reserves, pays, reserved, paid, moves, weight, form, pay};
 ghost use Rattle.cash_flows.specs.PayLaws.{kept, numbers, is_form, begins_within};
 
@@ -88,7 +87,6 @@ impl Pay {
     }
 
     fn pays(self, alloc: Global, coins: &[Held], here: &Place) -> Moved
-        requires { IsPlace here.now }
         ensures { IfOk result (λ g. g ≡ pays self coins.now here.entry.now) }
     {
         let frame = Call::Finality {
@@ -99,7 +97,6 @@ impl Pay {
     }
 
     fn reserved(self, alloc: Global, with: &Resumed, here: &Place) -> Moved
-        requires { IsPlace here.now }
         ensures { IfOk result (λ g. g ≡ reserved self with.now here.entry.now) }
     {
         match with {

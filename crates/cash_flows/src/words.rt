@@ -1,11 +1,11 @@
-//! What single words of a payment are.
+//! What words of these flows are.
 
 ghost use Rattle.std.specs.Prelude.{◌≡◌};
 ghost use Rattle.hex.specs.Hex.{decode_sized};
 ghost use Rattle.cash_flows.specs.Words.{is_letter, code_of_letters, code_of_word, code_within, IsCurrency, code, code_at, code_laws, moment_in, moment_of, hash_in, id_of, reference_in, reference_of};
 ghost use Rattle.ledger_types.proofs.Sizes.{code_fits};
 
-use flow_forms::Argument;
+use flow_forms::{Argument, End, Then};
 use hex::FromHex;
 use net_base::{Hash32, Moment, PartFault, Reader, Spelt, StateRef, Writer, read_between};
 use std::alloc::{AllocError, Global};
@@ -69,6 +69,10 @@ impl Argument for Code {
         }
     }
 }
+
+/// The arguments of an issue and of an exit, in the order of their words: the code and the amount. A flow begins where the amount is at
+/// least 1.
+pub type AmountArgs = Then<Code, Then<u64, End>>;
 
 /// The moment that the word is, in milliseconds: a number below 2^64.
 pub(crate) fn moment_of(word: &str) -> Option<Moment>
