@@ -1,5 +1,5 @@
-//! Resolving: a transaction's ancestors that are lacking are asked for, from the last to the first, and recorded before it. The receiver,
-//! which has the transaction that it is sent resolved.
+//! Resolving: a transaction's ancestors that are lacking are asked for, from the last to the first, and recorded before it. And the
+//! receiver, which has the transaction that it is sent resolved.
 #![tactic(auto)]
 
 mod ids;
