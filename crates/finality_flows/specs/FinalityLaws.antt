@@ -98,7 +98,7 @@ next_few : (tx : Tx) (here : Place) (n p : ℕ) → slice_get (others tx here) n
 next_few tx here n p is = omega (arith, slice_get_within (others tx here) n p is, others_few tx here)
 
 -- an id is a hash
-id_long : (tx : Tx) → IsTx tx → IsHash (tx_id tx)
+pub id_long : (tx : Tx) → IsTx tx → IsHash (tx_id tx)
 unfolding tear_of
 id_long tx h = (torn_within tx h).0
 

@@ -1,3 +1,5 @@
-pub mod Tagging
+pub mod Agree
+pub mod AgreeLaws
 pub mod Finality
 pub mod FinalityLaws
+pub mod Tagging
