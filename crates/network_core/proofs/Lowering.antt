@@ -93,7 +93,7 @@ or_no_start : (x y : Option Event) → NoStart x → NoStart y → NoStart (opti
 or_no_start None y h k = k
 or_no_start (Some ev) y h k = h
 
-module _ {F : Type 0} (e : Environment F) (sessions : List Session) (now : ℕ) where
+module _ {F : Type 0} (sessions : List Session) (now : ℕ) where
   enabling_no_start : (f : ℕ) (a : Act F) → NoStart (enabling sessions f now a)
   enabling_no_start f (act.Sleep until) = either_no_start (nat_le until now) (Some (event.Lapse f)) None refl tt
   enabling_no_start f (act.Receive key) = either_no_start (waits_for (owned f key sessions)) None (Some (event.Move f)) tt refl
@@ -101,17 +101,17 @@ module _ {F : Type 0} (e : Environment F) (sessions : List Session) (now : ℕ) 
       either_no_start (waits_for (owned f key sessions)) (cond (nat_le until now) (Some (event.Lapse f)) None) (Some (event.Move f)) (either_no_start (nat_le until now) (Some (event.Lapse f)) None refl tt) refl
   enabling_no_start f other = refl
 
-  enabled_no_start : (flow : FlowState F) → NoStart (enabled_event e sessions now flow)
-  enabled_no_start (state.Live at) = either_no_start (e.performs at.waiting) (enabling sessions at.flow now at.waiting) None (enabling_no_start at.flow at.waiting) tt
+  enabled_no_start : (flow : FlowState F) → NoStart (enabled_event sessions now flow)
+  enabled_no_start (state.Live at) = enabling_no_start at.flow at.waiting
   enabled_no_start (state.Ended step class value) = tt
   enabled_no_start (state.Failed step class code) = tt
 
-  first_no_start : (flows : List (FlowState F)) → NoStart (first_event e sessions now flows)
+  first_no_start : (flows : List (FlowState F)) → NoStart (first_event sessions now flows)
   first_no_start [] = tt
-  first_no_start (flow ∷ flows) = or_no_start (enabled_event e sessions now flow) (first_event e sessions now flows) (enabled_no_start flow) (first_no_start flows)
+  first_no_start (flow ∷ flows) = or_no_start (enabled_event sessions now flow) (first_event sessions now flows) (enabled_no_start flow) (first_no_start flows)
 
 turn_no_start : {F : Type 0} (e : Environment F) (now : ℕ) (bodies : List (List ℕ)) (ev : Event) → picked_at e now None bodies ≡ Some ev → is_start ev ≡ false
-turn_no_start e now bodies ev is = subst NoStart is (first_no_start e (state_of e.frame_at bodies).sessions now (state_of e.frame_at bodies).flows)
+turn_no_start e now bodies ev is = subst NoStart is (first_no_start (state_of e.frame_at bodies).sessions now (state_of e.frame_at bodies).flows)
 
 -- ---- worlds
 
