@@ -120,10 +120,11 @@ fn run_network<S: Source, K: Sink, B: Bay, F: FlowSet, J: Judge>(
 /// Runs a script over a network of 1 to 16 nodes, line by line, and writes the answers.
 ///
 /// The words are `--nodes n`, with 1 to 16, and `--notary n`, with 0 to 15 and below the number of nodes, each at most once and in any
-/// order; without them there are two nodes, and node 0 is the notary. Of the 32 disks node `n` has disks `2n` and `2n + 1`, which are made
-/// ready in memory as `node-n.a` and `node-n.b`; its journal is on the first. All disks are made ready in order, and then the nodes are
-/// opened in order. A script has at most 16,777,216 bytes. Each line of it is a command, which has one answer line or, a query, several; a
-/// blank line, one that begins with `#` and `quit` have none. The frames that wait when it ends are not kept.
+/// order; without them there are two nodes, and node 0 is the notary. Of the 32 disks node `n` has disks `2n` and `2n + 1`, which are
+/// made ready in memory as `node-n.a` and `node-n.b`; its journal is on the first. All disks are made ready in order, and then the nodes
+/// are opened in order. The contracts are those by which the nodes verify transactions. A script has at most 16,777,216 bytes. Each line
+/// of it is a command, which has one answer line or, a query, several; a blank line, one that begins with `#` and `quit` have none. The
+/// frames that wait when it ends are not kept.
 ///
 /// Over disks that show a coherent world the script is one way of the network together with that world (`scripts_are_ways`). So at every
 /// moment of it, also within any call of a disk in the middle of a line, whichever image a power loss leaves of each disk, the journals are
