@@ -12,9 +12,13 @@ mod stage;
 mod steps;
 
 use anyhow::Result;
+use cash_contract::Cash;
 use checks::Check;
+use contract_verify::{BoxedContract, ContractBook};
 use sections::Section;
+use small_contracts::{Facts, Ious, Locks};
 use stage::Stage;
+use std::alloc::Global;
 use std::io;
 
 /// Tells what a check found, and whether it passed.
@@ -25,15 +29,12 @@ fn passes(rt: &impl Print, name: &str, check: &Check) -> Result<bool> {
     Ok(check.passes())
 }
 
-fn main(rt: HostRuntime) -> Result<()> {
-    laws::of_the_model();
-    laws::of_the_network();
-    let alloc = rt.alloc();
-    let text = io::read_to_string(alloc, rt.reader())?;
+/// Makes all checks, with these contracts, and tells what differs and how many passed and failed.
+fn check_all(rt: &impl Print, alloc: Global, text: &str, contracts: &ContractBook) -> Result<()> {
     let mut stage = Stage::new(alloc);
     let mut passed = 0u64;
     let mut failed = 0u64;
-    if steps::are_answered_in_order(alloc)? {
+    if steps::are_answered_in_order(alloc, contracts)? {
         passed = 1;
     } else {
         println!(rt; "a row of steps has other outcomes")?;
@@ -41,9 +42,9 @@ fn main(rt: HostRuntime) -> Result<()> {
     }
     for part in text.split_inclusive("\n@") {
         let section = Section::parse(part);
-        match stage.take(alloc, &section) {
+        match stage.take(alloc, &section, contracts) {
             Ok(None) => {}
-            Ok(Some(check)) if passes(&rt, stage.name(), &check)? => {
+            Ok(Some(check)) if passes(rt, stage.name(), &check)? => {
                 passed = passed.saturating_add(1);
             }
             Ok(Some(_)) => failed = failed.saturating_add(1),
@@ -56,4 +57,17 @@ fn main(rt: HostRuntime) -> Result<()> {
     }
     println!(rt; "{passed} passed, {failed} failed")?;
     Ok(())
+}
+
+fn main(rt: HostRuntime) -> Result<()> {
+    laws::of_the_model();
+    laws::of_the_network();
+    let alloc = rt.alloc();
+    let text = io::read_to_string(alloc, rt.reader())?;
+    let mut contracts: Vec<BoxedContract> = Vec::new(alloc);
+    contracts.push(Box::new(alloc, Cash)?)?;
+    contracts.push(Box::new(alloc, Locks)?)?;
+    contracts.push(Box::new(alloc, Facts)?)?;
+    contracts.push(Box::new(alloc, Ious)?)?;
+    check_all(&rt, alloc, text.as_str(), &ContractBook::new(contracts))
 }

@@ -1,6 +1,7 @@
 use super::checks::{Check, Played, first_difference};
 use super::sections::Section;
 use anyhow::{Context, Result, bail, ensure};
+use contract_verify::ContractBook;
 use disk_mem::MemDisk;
 use node_shell::run;
 use outside::{Bay, Disk, MemSink, MemSource};
@@ -126,7 +127,13 @@ impl<'a> Stage<'a> {
     }
 
     /// Plays a script over the disks that stand there.
-    fn run(&mut self, alloc: Global, values: &str, script: &str) -> Result<()> {
+    fn run(
+        &mut self,
+        alloc: Global,
+        values: &str,
+        script: &str,
+        contracts: &ContractBook,
+    ) -> Result<()> {
         let words = words_of(alloc, values)?;
         let reads = mem::replace(&mut self.failing_reads, Vec::new(alloc));
         let writes = mem::replace(&mut self.failing_writes, Vec::new(alloc));
@@ -134,12 +141,13 @@ impl<'a> Stage<'a> {
         let mut answers = MemSink::new(alloc, ROOM, writes)?;
         let disks = mem::replace(&mut self.disks, Vec::new(alloc));
         ensure!(disks.len() == 32, "no case is under way");
-        let ended = run::<_, _, _, ShippedFlow>(
+        let ended = run::<_, _, _, ShippedFlow, _>(
             alloc,
             words.as_slice(),
             &mut source,
             &mut answers,
             disks,
+            contracts,
         );
         self.disks = ended.disks;
         self.played = Some(Played {
@@ -178,7 +186,12 @@ impl<'a> Stage<'a> {
     /// # Errors
     ///
     /// Where there is no such section, or it can't be done, and for want of memory.
-    pub fn take(&mut self, alloc: Global, section: &Section<'a>) -> Result<Option<Check>> {
+    pub fn take(
+        &mut self,
+        alloc: Global,
+        section: &Section<'a>,
+        contracts: &ContractBook,
+    ) -> Result<Option<Check>> {
         let Section {
             word,
             values,
@@ -194,8 +207,11 @@ impl<'a> Stage<'a> {
             "power" => self.disk(values)?.restore_power(),
             "failing-reads" => self.failing_reads = numbers_of(alloc, values)?,
             "failing-writes" => self.failing_writes = numbers_of(alloc, values)?,
-            "run" => self.run(alloc, values, lines)?,
-            "run-unended" => self.run(alloc, values, lines.strip_suffix('\n').unwrap_or(lines))?,
+            "run" => self.run(alloc, values, lines, contracts)?,
+            "run-unended" => {
+                let script = lines.strip_suffix('\n').unwrap_or(lines);
+                self.run(alloc, values, script, contracts)?;
+            }
             "answers" | "differs" => {
                 return Ok(Some(Check {
                     difference: self.compare(alloc, values, lines)?,

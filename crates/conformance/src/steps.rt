@@ -1,6 +1,7 @@
 //! A row of steps that one call makes.
 
 use anyhow::Result;
+use contract_verify::ContractBook;
 use disk_mem::MemDisk;
 use net_base::Party;
 use network_core::{Net, Outcome, Step};
@@ -9,7 +10,7 @@ use std::alloc::Global;
 
 /// Whether a network of one node over an empty disk drains, and then refuses to boot the node, which is up: the outcomes in the order of
 /// the steps.
-pub fn are_answered_in_order(alloc: Global) -> Result<bool> {
+pub fn are_answered_in_order(alloc: Global, contracts: &ContractBook) -> Result<bool> {
     let mut disks = Vec::with_capacity(alloc, 1)?;
     disks.push(MemDisk::new(alloc))?;
     let mut steps = Vec::with_capacity(alloc, 2)?;
@@ -19,7 +20,7 @@ pub fn are_answered_in_order(alloc: Global) -> Result<bool> {
     match Net::<MemDisk, ShippedFlow>::begin(alloc, 1, Party(0), disks) {
         Err(_) => Ok(false),
         Ok(mut net) => {
-            let all = net.apply_all(alloc, steps.as_slice(), &mut outcomes);
+            let all = net.apply_all(alloc, steps.as_slice(), &mut outcomes, contracts);
             let wanted = [
                 Outcome::Drained { full: false },
                 Outcome::Refused { code: 4 },

@@ -3,17 +3,23 @@
 //! The script comes from standard input, and the answers go to standard output.
 #![tactic(auto)]
 
-ghost use Rattle.std.specs.Prelude.{◌≡◌, IfOk, length, All, [], true, None};
+ghost use Rattle.std.specs.Prelude.{◌≡◌, ◌↔◌, IfOk, length, map, string_bytes, All, [], true, None};
 ghost use Rattle.std.specs.IoError.{error_kind};
 ghost use Rattle.std.specs.declared.io.ErrorKind.TheVariants.{OutOfMemory};
 ghost use Rattle.outside.specs.Disk.{clean};
+ghost use Rattle.outside.specs.Faults.{Rose};
 ghost use Rattle.disk_mem.specs.Mem.{MemView};
+ghost use Rattle.shell_words.specs.Script.{network_of_words};
 
 mod streams;
 
+use cash_contract::Cash;
+use contract_verify::{BoxedContract, ContractBook};
 use disk_mem::MemDisk;
 use node_shell::run;
+use outside::{Sink, Source};
 use shipped_flows::ShippedFlow;
+use small_contracts::{Facts, Ious, Locks};
 use std::alloc::{AllocError, Global};
 use std::io::BufReader;
 use std::process::ExitCode;
@@ -49,6 +55,29 @@ fn empty_disks(alloc: Global) -> Result<Vec<MemDisk>, AllocError>
     Ok(disks)
 }
 
+/// Runs a script with the flows and the contracts that the program ships, and gives its status.
+fn run_shipped<S: Source, K: Sink>(
+    alloc: Global,
+    words: &[String],
+    source: &mut S,
+    sink: &mut K,
+    disks: Vec<MemDisk>,
+) -> Result<u8, AllocError>
+    requires { length disks.items ≡ 32 }
+    ensures words { IfOk result (λ status. (status ≡ 2) ↔ (network_of_words (map (λ s. string_bytes s) words.now) ≡ None)) }
+    ensures read_fault { IfOk result (λ status. status ≡ 4 → Rose (S.faults source.old) (S.faults source.new)) }
+    ensures write_fault { IfOk result (λ status. status ≡ 5 → Rose (K.faults sink.old) (K.faults sink.new)) }
+{
+    let mut contracts: Vec<BoxedContract> = Vec::new(alloc);
+    contracts.push(Box::new(alloc, Cash)?)?;
+    contracts.push(Box::new(alloc, Locks)?)?;
+    contracts.push(Box::new(alloc, Facts)?)?;
+    contracts.push(Box::new(alloc, Ious)?)?;
+    let contracts = ContractBook::new(contracts);
+    let ended = run::<_, _, _, ShippedFlow, _>(alloc, words, source, sink, disks, &contracts);
+    Ok(ended.status)
+}
+
 fn main(rt: HostRuntime) -> ExitCode {
     let alloc = rt.alloc();
     let args = match env::args(&rt) {
@@ -69,6 +98,8 @@ fn main(rt: HostRuntime) -> ExitCode {
     };
     let mut source = StdSource::new(reader);
     let mut sink = StdSink::new(io::writer(&rt));
-    let ended = run::<_, _, _, ShippedFlow>(alloc, words.as_slice(), &mut source, &mut sink, disks);
-    ExitCode::from(ended.status)
+    match run_shipped(alloc, words.as_slice(), &mut source, &mut sink, disks) {
+        Ok(status) => ExitCode::from(status),
+        Err(_) => ExitCode::from(NO_MEMORY),
+    }
 }

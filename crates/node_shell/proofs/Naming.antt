@@ -1,9 +1,7 @@
 -- A script leaves each disk attached as it was.
-use Rattle.net_model.specs.Environment.{Meaning}
 use Rattle.std.proofs.Common.{◌≡◌, inl, inr, ⊎_elim, ℕ, List, Bool, true, false, Option, Some, None, refl, sym, ◌∙◌, ap}
 use Rattle.std.specs.Prelude.{MatchBool}
-use Rattle.flow_machine.specs.Machine.{Machine}
-use Rattle.node_tables.specs.Journals.{Reads}
+use Rattle.net_model.specs.Environment.{Meaning}
 use Rattle.network_core.specs.declared.steps.Outcome.TheVariants as outcome
 use Rattle.network_core.specs.declared.steps.Step.{Step}
 use Rattle.network_core.specs.Worlds.{NetSeen}
@@ -40,7 +38,7 @@ module _ {F : Type 0} (m : Meaning F) where
     where
       by : (blank plain : Bool) → MatchBool blank ((reply ≡ Some Silence) × (b ≡ a)) (MatchBool plain (CommandResponds m (command_of (words_of line)) (words_of line) a reply b) ((reply ≡ Some (Told (outcome.Refused 1))) × (b ≡ a))) → Keeps a b
       by true plain h = unmoved a b h.1
-      by false true h = responds (step_of m (command_of (words_of line)) (words_of line)) (command_of (words_of line)) (words_of line) a b reply h
+      by false true h = responds (step_of m.machine (command_of (words_of line)) (words_of line)) (command_of (words_of line)) (words_of line) a b reply h
       by false false h = unmoved a b h.1
 
   link_keeps : (a b : NetSeen) (line text : List ℕ) → NetLink m a line text b → Keeps a b

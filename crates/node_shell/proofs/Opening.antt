@@ -14,7 +14,6 @@ use Rattle.net_base.specs.declared.names.Identity.{Identity}
 use Rattle.net_base.specs.declared.values.Party.{Party}
 use Rattle.net_base.proofs.Lists.{get_beside}
 use Rattle.net_base.proofs.Options.{some_eq}
-use Rattle.flow_machine.specs.Machine.{Machine}
 use Rattle.net_model.specs.Environment.{Environment, environment, Meaning}
 use Rattle.node_tables.specs.Journals.{Reads}
 use Rattle.node_core.specs.Disks.{roomless}

@@ -7,10 +7,9 @@ use Rattle.outside.specs.Disk.{DiskView, IsImage}
 use Rattle.net_base.specs.declared.names.Identity.{Identity}
 use Rattle.net_base.specs.declared.values.Party.{Party}
 use Rattle.net_base.proofs.Lists.{get_beside, map_twice, get_map, of_map}
-use Rattle.flow_machine.specs.Machine.{Machine}
 use Rattle.disk_journal.specs.Journal.{IsYoung, journal_of}
 use Rattle.net_model.specs.Environment.{Environment, environment, Meaning}
-use Rattle.node_tables.specs.Journals.{Reads, state_of}
+use Rattle.node_tables.specs.Journals.{state_of}
 use Rattle.node_core.specs.Disks.{roomless}
 use Rattle.node_core.specs.Seen.{NodeSeen}
 use Rattle.node_core.specs.declared.faults.BootFault.{BootFault}

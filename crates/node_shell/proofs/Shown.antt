@@ -6,11 +6,12 @@ use Rattle.std.specs.List.{slice_get}
 use Rattle.std.proofs.lemmas.Option.{same_Some}
 use Rattle.std.proofs.lemmas.List.{length-map}
 use Rattle.net_base.specs.declared.causes.Cause.{Cause}
+use Rattle.net_base.specs.declared.names.Identity.{Identity}
 use Rattle.net_base.proofs.Lists.{get_beside, get_map, map_both, drop_get}
 use Rattle.flow_machine.specs.declared.flows.FlowState.{FlowState}
 use Rattle.flow_machine.specs.declared.flow_set.WordFault.{WordFault}
 use Rattle.flow_machine.specs.declared.flow_set.WordFault.TheVariants as word
-use Rattle.net_model.specs.Environment.{Environment}
+use Rattle.net_model.specs.Environment.{Environment, environment, Meaning}
 use Rattle.net_model.specs.Runs.{merged, network_of}
 use Rattle.net_model.specs.State.{NodeState}
 use Rattle.net_model.specs.Print.{printed, print_of, of_flows, of_flow, of_history, node_text, flow_text_at, flow_line, flow_text, flows_text, history_text}
@@ -238,11 +239,15 @@ module _ {F : Type 0} (e : Environment F) (net : NetSeen) (w : World) (shows : S
           let up = all_up e.frame_at net.nodes w.nodes lists shows.count (shows_each e net w shows) some in
           inr (up.1, is ∙ ap (λ l. history_text (merged l)) up.0 ∙ sym (history_printed e w coherent))
 
-  pub shown_answers : (asked : Command) (ws : List (List ℕ)) (reply : Reply) → IsShown e.machine e.frame_at net asked ws reply → Answers e w asked ws reply
-  shown_answers (command.Start node) ws reply h = start_answers (place_of node) (started_by e.machine ws) reply h
-  shown_answers (command.Flows node) ws reply h = flows_answer (place_of node) reply h
-  shown_answers (command.Flow node flow) ws reply h = flow_answers (place_of node) (flow_of flow) reply h
-  shown_answers command.History ws reply h = history_answers reply h
+module _ {F : Type 0} (m : Meaning F) (id : Identity) (net : NetSeen) (w : World) (shows : Shows (environment m id) net w) (coherent : Coherent (environment m id) w) where
+  abbrev meant : Environment F
+  meant = environment m id
+
+  pub shown_answers : (asked : Command) (ws : List (List ℕ)) (reply : Reply) → IsShown m net asked ws reply → Answers meant w asked ws reply
+  shown_answers (command.Start node) ws reply h = start_answers meant net w shows coherent (place_of node) (started_by m.machine ws) reply h
+  shown_answers (command.Flows node) ws reply h = flows_answer meant net w shows coherent (place_of node) reply h
+  shown_answers (command.Flow node flow) ws reply h = flow_answers meant net w shows coherent (place_of node) (flow_of flow) reply h
+  shown_answers command.History ws reply h = history_answers meant net w shows coherent reply h
   shown_answers command.Quit ws reply h = h
   shown_answers command.Unknown ws reply h = h
   shown_answers (command.Clock to) ws reply h = h

@@ -3,9 +3,7 @@ use Rattle.std.proofs.Common.{◌≡◌, ◌⊎◌, inl, inr, ℕ, List, [], ◌
 use Rattle.std.specs.Prelude.{◌||◌, not, if◌then◌else◌, MatchBool}
 use Rattle.net_base.specs.declared.names.Identity.{Identity}
 use Rattle.net_base.proofs.Options.{some_eq}
-use Rattle.flow_machine.specs.Machine.{Machine}
 use Rattle.net_model.specs.Environment.{Environment, environment, Meaning}
-use Rattle.node_tables.specs.Journals.{Reads}
 use Rattle.network_core.specs.declared.steps.Outcome.TheVariants as outcome
 use Rattle.network_core.specs.declared.steps.Step.{Step}
 use Rattle.network_core.specs.Drains.{Pair, with_world}
@@ -46,7 +44,7 @@ module _ {F : Type 0} (m : Meaning F) (id : Identity) (old : NetSeen) (w : World
       let b = pairs id w shows coherent in
       record { world = b.0; shows = b.1; coherent = b.2; holds = ((o, b.3.1, told), (o, b.3, told)) }
   responds_in None asked ws reply new (shown, is) =
-      unmoved (λ b. Makes e w None asked ws reply b.world × Goes m id None (Some reply) a b) new is ((shown_answers e old w shows coherent asked ws reply shown, refl), refl)
+      unmoved (λ b. Makes e w None asked ws reply b.world × Goes m id None (Some reply) a b) new is ((shown_answers m id old w shows coherent asked ws reply shown, refl), refl)
 
   pub line_in : (line : List ℕ) (reply : Reply) (new : NetSeen) → LineResponds m line old (Some reply) new → InPair e new (λ b. RepliesTo e w line reply b.world × LineGoes m id line (Some reply) a b)
   line_in line reply new h = by (has_no_answer line) (is_readable line) h
@@ -54,9 +52,9 @@ module _ {F : Type 0} (m : Meaning F) (id : Identity) (old : NetSeen) (w : World
       by : (blank plain : Bool)
           → MatchBool blank ((Some reply ≡ Some Silence) × (new ≡ old)) (MatchBool plain (CommandResponds m (command_of (words_of line)) (words_of line) old (Some reply) new) ((Some reply ≡ Some (Told (outcome.Refused 1))) × (new ≡ old)))
           → InPair e new (λ b. MatchBool blank ((reply ≡ Silence) × (b.world ≡ w)) (MatchBool plain (Serves e w (command_of (words_of line)) (words_of line) reply b.world) (IsRefused 1 reply × (b.world ≡ w)))
-          × Goes m id (step_of m (if blank || not plain then Unknown else command_of (words_of line)) (words_of line)) (Some reply) a b)
+          × Goes m id (step_of m.machine (if blank || not plain then Unknown else command_of (words_of line)) (words_of line)) (Some reply) a b)
       by true plain h = unmoved (λ b. ((reply ≡ Silence) × (b.world ≡ w)) × (b ≡ a)) new h.1 ((some_eq h.0, refl), refl)
-      by false true h = responds_in (step_of m (command_of (words_of line)) (words_of line)) (command_of (words_of line)) (words_of line) reply new h
+      by false true h = responds_in (step_of m.machine (command_of (words_of line)) (words_of line)) (command_of (words_of line)) (words_of line) reply new h
       by false false h = unmoved (λ b. (IsRefused 1 reply × (b.world ≡ w)) × (b ≡ a)) new h.1 ((some_eq h.0, refl), refl)
 
   -- want of memory
@@ -67,7 +65,7 @@ module _ {F : Type 0} (m : Meaning F) (id : Identity) (old : NetSeen) (w : World
       record { world = b.0; shows = b.1; coherent = b.2; holds = (inr b.3.1, inr b.3) }
   leaves_in None asked ws new h = unmoved (λ b. Leaves e None w b.world × Goes m id None None a b) new h.1 (refl, refl)
 
-  pub left_in : (line : List ℕ) (new : NetSeen) → LineResponds m line old None new → InPair e new (λ b. Leaves e (step_of m (asked_by line) (words_of line)) w b.world × LineGoes m id line None a b)
+  pub left_in : (line : List ℕ) (new : NetSeen) → LineResponds m line old None new → InPair e new (λ b. Leaves e (step_of m.machine (asked_by line) (words_of line)) w b.world × LineGoes m id line None a b)
   left_in line new h = by (has_no_answer line) (is_readable line) h
     where
       no_reply : (reply : Reply) → None ≡ Some reply → ⊥
@@ -75,10 +73,10 @@ module _ {F : Type 0} (m : Meaning F) (id : Identity) (old : NetSeen) (w : World
 
       by : (blank plain : Bool)
           → MatchBool blank ((None ≡ Some Silence) × (new ≡ old)) (MatchBool plain (CommandResponds m (command_of (words_of line)) (words_of line) old None new) ((None ≡ Some (Told (outcome.Refused 1))) × (new ≡ old)))
-          → InPair e new (λ b. Leaves e (step_of m (if blank || not plain then Unknown else command_of (words_of line)) (words_of line)) w b.world
-          × Goes m id (step_of m (if blank || not plain then Unknown else command_of (words_of line)) (words_of line)) None a b)
+          → InPair e new (λ b. Leaves e (step_of m.machine (if blank || not plain then Unknown else command_of (words_of line)) (words_of line)) w b.world
+          × Goes m id (step_of m.machine (if blank || not plain then Unknown else command_of (words_of line)) (words_of line)) None a b)
       by true plain h = absurd (no_reply Silence h.0)
-      by false true h = leaves_in (step_of m (command_of (words_of line)) (words_of line)) (command_of (words_of line)) (words_of line) new h
+      by false true h = leaves_in (step_of m.machine (command_of (words_of line)) (words_of line)) (command_of (words_of line)) (words_of line) new h
       by false false h = absurd (no_reply (Told (outcome.Refused 1)) h.0)
 
 -- ---- a story of networks
@@ -266,10 +264,10 @@ module _ {F : Type 0} (m : Meaning F) (id : Identity) where
   goes_way None reply a b is = stay is
 
   link_way : (a : shown) (line text : List ℕ) (b : shown) → PairLink m id a line text b → Way m id a b
-  link_way a line text b l = goes_way (step_of m (asked_by line) (words_of line)) (Some l.net.reply) a b l.goes
+  link_way a line text b l = goes_way (step_of m.machine (asked_by line) (words_of line)) (Some l.net.reply) a b l.goes
 
   short_way : (a : shown) (line : List ℕ) (b : shown) → PairShort m id a line b → Way m id a b
-  short_way a line b (inl l) = goes_way (step_of m (asked_by line) (words_of line)) None a b l.goes
+  short_way a line b (inl l) = goes_way (step_of m.machine (asked_by line) (words_of line)) None a b l.goes
   short_way a line b (inr (text, l)) = link_way a line text b l
 
   pub leads_on : (a b : shown) → Way m id a b → LeadsOn m id a b

@@ -1,7 +1,6 @@
 -- What a line is answered with over any network, whatever its disks tell and its journals hold: each refusal has its cause in what the network shows.
 use Rattle.std.specs.Prelude.{◌≡◌, ◌⊎◌, ℕ, List, [], ◌∷◌, ◌++◌, Option, Some, None, Result, Ok, Err, IfSome, MatchOption, MatchBool, slice_get, option_map, option_and_then}
 use Rattle.net_base.specs.declared.causes.Cause.{Cause}
-use Rattle.flow_machine.specs.Machine.{Machine}
 use Rattle.flow_machine.specs.declared.flow_set.WordFault.{WordFault}
 use Rattle.flow_machine.specs.declared.flow_set.WordFault.TheVariants as word
 use Rattle.net_model.specs.Environment.{Meaning}
@@ -54,7 +53,7 @@ PrintsHistory frame_at net reply = MatchOption (causes_up frame_at net.nodes) (I
 
 -- the reply to a command that makes no step, by what the network shows
 abbrev pub IsShown : {F : Type 0} → Meaning F → NetSeen → Command → List (List ℕ) → Reply → Type 0
-IsShown m net (command.Start node) words reply = StartsNone net (place_of node) (started_by m words) reply
+IsShown m net (command.Start node) words reply = StartsNone net (place_of node) (started_by m.machine words) reply
 IsShown m net (command.Flows node) words reply = AtSeen net (place_of node) reply (PrintsFlows m.frame_at reply)
 IsShown m net (command.Flow node flow) words reply = AtSeen net (place_of node) reply (PrintsFlow m.frame_at (flow_of flow) reply)
 IsShown m net command.History words reply = PrintsHistory m.frame_at net reply
@@ -90,7 +89,7 @@ Responds m None asked words old reply new = IfSome reply (IsShown m old asked wo
 
 -- what a command with its words came to
 abbrev pub CommandResponds : {F : Type 0} → Meaning F → Command → List (List ℕ) → NetSeen → Option Reply → NetSeen → Type 0
-CommandResponds m asked words old reply new = Responds m (step_of m asked words) asked words old reply new
+CommandResponds m asked words old reply new = Responds m (step_of m.machine asked words) asked words old reply new
 
 -- what a line came to
 abbrev pub LineResponds : {F : Type 0} → Meaning F → List ℕ → NetSeen → Option Reply → NetSeen → Type 0

@@ -11,7 +11,6 @@ use Rattle.disk_journal.specs.Journal.{WasSpelt, journal_of, placed, is_unformat
 use Rattle.disk_journal.specs.declared.fault.OpenFault.TheVariants as open_fault
 use Rattle.net_model.specs.Environment.{Environment, environment, party, Meaning}
 use Rattle.net_model.specs.Runs.{IsFaithful, network_of, merged}
-use Rattle.flow_machine.specs.Machine.{Machine}
 use Rattle.node_tables.specs.Fits.{misfit}
 use Rattle.node_tables.specs.Journals.{Reads, records_of, state_of, causes_of}
 use Rattle.node_core.specs.declared.faults.BootFault.{BootFault}

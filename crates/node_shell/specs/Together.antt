@@ -4,10 +4,9 @@ use Rattle.std.specs.Prelude.{◌≡◌, ◌⊎◌, ℕ, List, map, Option, Some
 use Rattle.disk_journal.specs.Journal.{journal_of}
 use Rattle.net_base.specs.declared.causes.Cause.{Cause}
 use Rattle.net_base.specs.declared.names.Identity.{Identity}
-use Rattle.flow_machine.specs.Machine.{Machine}
 use Rattle.net_model.specs.Environment.{Environment, environment, Meaning}
 use Rattle.net_model.specs.Runs.{merged}
-use Rattle.node_tables.specs.Journals.{Reads, causes_of}
+use Rattle.node_tables.specs.Journals.{causes_of}
 use Rattle.network_core.specs.declared.steps.Outcome.{Outcome}
 use Rattle.network_core.specs.declared.steps.Step.{Step}
 use Rattle.network_core.specs.Acknowledged.{Acknowledged, StandsOnce}
@@ -41,7 +40,7 @@ Goes m id None reply a b = b ≡ a
 
 abbrev pub LineGoes : {F : Type 0} (m : Meaning F) (id : Identity)
     → List ℕ → Option Reply → Pair (environment m id) → Pair (environment m id) → Type 0
-LineGoes m id line reply a b = Goes m id (step_of m (asked_by line) (words_of line)) reply a b
+LineGoes m id line reply a b = Goes m id (step_of m.machine (asked_by line) (words_of line)) reply a b
 
 -- one link of a story of networks together with worlds: it is one of the networks and, with the same reply, one of the worlds, and what the line made it
 -- made of both at once
@@ -55,7 +54,7 @@ pub record PairLink {F : Type 0} (m : Meaning F) (id : Identity) (a : Pair (envi
 pub record PairLeft {F : Type 0} (m : Meaning F) (id : Identity) (a : Pair (environment m id))
     (line : List ℕ) (b : Pair (environment m id)) : Type 0 where
   pub net : NetLeft m a.net line b.net
-  pub leaves : Leaves (environment m id) (step_of m (asked_by line) (words_of line)) a.world b.world
+  pub leaves : Leaves (environment m id) (step_of m.machine (asked_by line) (words_of line)) a.world b.world
   pub goes : LineGoes m id line None a b
 
 -- a line was left without an answer for want of memory: it was left off, or it was served and its answer could not be spelt

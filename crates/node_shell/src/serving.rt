@@ -1,6 +1,6 @@
 //! What the words of a line do to the network.
 
-ghost use Rattle.net_model.specs.Environment.{unjudged};
+ghost use Rattle.net_model.specs.Environment.{meaning};
 ghost use Rattle.std.specs.Prelude.{◌≡◌, ◌<◌, IfOk, map, string_bytes, min, ◌-◌, length, drop, slice_index_or, [], Option, Some, None, option_map, false};
 ghost use Rattle.network_core.specs.Worlds.{KeepsWorld};
 ghost use Rattle.shell_words.specs.Script.{command_of, is_quit, has_mark};
@@ -10,6 +10,7 @@ ghost use Rattle.node_shell.specs.Serve.{Comes, LineComes, StepComes, IsRefused,
 ghost use Rattle.node_shell.specs.Responds.{AtSeen, PrintsFlows, PrintsFlow, PrintsHistory, StepResponds, CommandResponds, LineResponds, causes_up, given};
 
 use super::replies::Reply;
+use contract_verify::Judge;
 use flow_machine::{FlowSet, WordFault};
 use net_base::{ByteList, CauseList, Moment};
 use network_core::{Net, Outcome, Step};
@@ -58,17 +59,18 @@ fn refused(code: u8) -> Reply
 }
 
 /// Makes a step, and tells its outcome.
-fn make<B: Bay, F: FlowSet>(
+fn make<B: Bay, F: FlowSet, J: Judge>(
     alloc: Global,
     net: &mut Net<B, F>,
     step: &Step,
+    contracts: &J,
 ) -> Result<Reply, AllocError>
-    ensures serves { KeepsWorld (unjudged F.machine F.reading) net.old net.new (λ e w v. StepComes e w step.now result v) }
-    ensures responds { StepResponds (unjudged F.machine F.reading) step.now net.old (given result) net.new }
+    ensures serves { KeepsWorld (meaning F.machine F.reading (J.judges contracts.now)) net.old net.new (λ e w v. StepComes e w step.now result v) }
+    ensures responds { StepResponds (meaning F.machine F.reading (J.judges contracts.now)) step.now net.old (given result) net.new }
     ensures count { length net.new.nodes ≡ length net.old.nodes }
     ensures goes_on { IfOk result (λ reply. is_end reply ≡ false) }
 {
-    Ok(Reply::Told(net.apply(alloc, step)?))
+    Ok(Reply::Told(net.apply(alloc, step, contracts)?))
 }
 
 /// The class and the arguments that the words of a start ask for.
@@ -96,15 +98,16 @@ fn refuse_at<B: Bay, F: FlowSet>(net: &Net<B, F>, place: u8, code: u8) -> Reply
 }
 
 /// Starts the flow that the words name.
-fn start<B: Bay, F: FlowSet>(
+fn start<B: Bay, F: FlowSet, J: Judge>(
     alloc: Global,
     net: &mut Net<B, F>,
     node: u64,
     words: &[String],
+    contracts: &J,
 ) -> Result<Reply, AllocError>
     requires { 2 < length words.now }
-    ensures serves { KeepsWorld (unjudged F.machine F.reading) net.old net.new (λ e w v. Comes e w (command.Start node) (map (λ s. string_bytes s) words.now) result v) }
-    ensures responds { CommandResponds (unjudged F.machine F.reading) (command.Start node) (map (λ s. string_bytes s) words.now) net.old (given result) net.new }
+    ensures serves { KeepsWorld (meaning F.machine F.reading (J.judges contracts.now)) net.old net.new (λ e w v. Comes e w (command.Start node) (map (λ s. string_bytes s) words.now) result v) }
+    ensures responds { CommandResponds (meaning F.machine F.reading (J.judges contracts.now)) (command.Start node) (map (λ s. string_bytes s) words.now) net.old (given result) net.new }
     ensures count { length net.new.nodes ≡ length net.old.nodes }
     ensures goes_on { IfOk result (λ reply. is_end reply ≡ false) }
 {
@@ -116,7 +119,7 @@ fn start<B: Bay, F: FlowSet>(
                 class,
                 args,
             };
-            make(alloc, net, &step)
+            make(alloc, net, &step, contracts)
         }
         Err(WordFault::Memory) => Err(AllocError),
         Err(WordFault::UnknownClass) => Ok(refuse_at(net, place, 5)),
@@ -193,50 +196,51 @@ fn print_history<B: Bay, F: FlowSet>(alloc: Global, net: &Net<B, F>) -> Result<R
 }
 
 /// Does what the words of a line ask for.
-fn serve<B: Bay, F: FlowSet>(
+fn serve<B: Bay, F: FlowSet, J: Judge>(
     alloc: Global,
     net: &mut Net<B, F>,
     words: &[String],
+    contracts: &J,
 ) -> Result<Reply, AllocError>
-    ensures serves { let ws = map (λ s. string_bytes s) words.now in KeepsWorld (unjudged F.machine F.reading) net.old net.new (λ e w v. Comes e w (command_of ws) ws result v) }
-    ensures responds { let ws = map (λ s. string_bytes s) words.now in CommandResponds (unjudged F.machine F.reading) (command_of ws) ws net.old (given result) net.new }
+    ensures serves { let ws = map (λ s. string_bytes s) words.now in KeepsWorld (meaning F.machine F.reading (J.judges contracts.now)) net.old net.new (λ e w v. Comes e w (command_of ws) ws result v) }
+    ensures responds { let ws = map (λ s. string_bytes s) words.now in CommandResponds (meaning F.machine F.reading (J.judges contracts.now)) (command_of ws) ws net.old (given result) net.new }
     ensures count { length net.new.nodes ≡ length net.old.nodes }
     ensures end { IfOk result (λ reply. is_end reply ≡ is_quit_command (command_of (map (λ s. string_bytes s) words.now))) }
 {
     match command_of(words) {
-        Command::Clock { to } => make(alloc, net, &Step::Clock { to: Moment(to) }),
-        Command::Start { node } => start(alloc, net, node, words),
+        Command::Clock { to } => make(alloc, net, &Step::Clock { to: Moment(to) }, contracts),
+        Command::Start { node } => start(alloc, net, node, words, contracts),
         Command::Turn { node, pick } => {
             let step = Step::Turn {
                 node: place_of(node),
                 pick: pick_of(pick),
             };
-            make(alloc, net, &step)
+            make(alloc, net, &step, contracts)
         }
         Command::Post { node } => {
             let node = place_of(node);
-            make(alloc, net, &Step::Post { node })
+            make(alloc, net, &Step::Post { node }, contracts)
         }
         Command::Deliver { node, place } => {
             let step = Step::Deliver {
                 node: place_of(node),
                 at: frame_of(place),
             };
-            make(alloc, net, &step)
+            make(alloc, net, &step, contracts)
         }
         Command::Repeat { node, place } => {
             let step = Step::Repeat {
                 node: place_of(node),
                 at: frame_of(place),
             };
-            make(alloc, net, &step)
+            make(alloc, net, &step, contracts)
         }
         Command::Lose { node, place } => {
             let step = Step::Lose {
                 node: place_of(node),
                 at: frame_of(place),
             };
-            make(alloc, net, &step)
+            make(alloc, net, &step, contracts)
         }
         Command::Cut {
             node,
@@ -248,7 +252,7 @@ fn serve<B: Bay, F: FlowSet>(
                 calls,
                 outcome,
             };
-            make(alloc, net, &step)
+            make(alloc, net, &step, contracts)
         }
         Command::Boot { node } => make(
             alloc,
@@ -256,8 +260,9 @@ fn serve<B: Bay, F: FlowSet>(
             &Step::Boot {
                 node: place_of(node),
             },
+            contracts,
         ),
-        Command::Drain => make(alloc, net, &Step::Drain),
+        Command::Drain => make(alloc, net, &Step::Drain, contracts),
         Command::Flows { node } => print_flows(alloc, net, place_of(node)),
         Command::Flow { node, flow } => print_flow(alloc, net, place_of(node), flow_of(flow)),
         Command::History => print_history(alloc, net),
@@ -272,13 +277,14 @@ fn serve<B: Bay, F: FlowSet>(
 ///
 /// `AllocError` for want of memory. Nothing has changed then, but that a drain keeps the turns, posts and deliveries that it made, and
 /// that a node which was to be booted has its power back.
-pub fn reply_to<B: Bay, F: FlowSet>(
+pub fn reply_to<B: Bay, F: FlowSet, J: Judge>(
     alloc: Global,
     net: &mut Net<B, F>,
     line: &[u8],
+    contracts: &J,
 ) -> Result<Reply, AllocError>
-    ensures replies { KeepsWorld (unjudged F.machine F.reading) net.old net.new (λ e w v. LineComes e w line.now result v) }
-    ensures responds { LineResponds (unjudged F.machine F.reading) line.now net.old (given result) net.new }
+    ensures replies { KeepsWorld (meaning F.machine F.reading (J.judges contracts.now)) net.old net.new (λ e w v. LineComes e w line.now result v) }
+    ensures responds { LineResponds (meaning F.machine F.reading (J.judges contracts.now)) line.now net.old (given result) net.new }
     ensures count { length net.new.nodes ≡ length net.old.nodes }
     ensures end { IfOk result (λ reply. is_end reply ≡ is_quit line.now) }
 {
@@ -289,5 +295,5 @@ pub fn reply_to<B: Bay, F: FlowSet>(
         return Ok(refused(1));
     }
     let words = words_of(alloc, line)?;
-    serve(alloc, net, words.as_slice())
+    serve(alloc, net, words.as_slice(), contracts)
 }

@@ -3,7 +3,7 @@ ghost use Rattle.outside.specs.Faults.{Rose};
 ghost use Rattle.network_core.specs.Worlds.{World, NetSeen, Shows, Coherent};
 ghost use Rattle.network_core.specs.Drains.{with_world};
 ghost use Rattle.net_base.specs.declared.names.Identity.{Identity};
-ghost use Rattle.net_model.specs.Environment.{environment, unjudged};
+ghost use Rattle.net_model.specs.Environment.{environment, meaning};
 ghost use Rattle.shell_words.specs.Script.{is_quit};
 ghost use Rattle.std.specs.Io.KnownBytes.{Consumes, IsAtEnd};
 ghost use Rattle.node_shell.specs.Responds.{NetLink, NetShort};
@@ -13,6 +13,7 @@ ghost use Rattle.node_shell.specs.Story.{Progress, ScriptRun, AnswerComes, IsLas
 use super::serving::reply_to;
 use super::statuses::Status;
 use super::streams::{next_byte, write_all};
+use contract_verify::Judge;
 use flow_machine::FlowSet;
 use network_core::Net;
 use outside::{Bay, Failed, Sink, Source};
@@ -37,19 +38,20 @@ pub struct End {
 }
 
 /// Answers a line, and says whether it asked to quit.
-fn answer<B: Bay, F: FlowSet, K: Sink>(
+fn answer<B: Bay, F: FlowSet, K: Sink, J: Judge>(
     alloc: Global,
     net: &mut Net<B, F>,
     sink: &mut K,
     line: &[u8],
+    contracts: &J,
 ) -> Result<bool, Stop>
-    ensures comes { AnswerComes (NetLink (unjudged F.machine F.reading)) (NetShort (unjudged F.machine F.reading)) net.old line.now (K.written sink.old) (K.written sink.new) result net.new }
+    ensures comes { AnswerComes (NetLink (meaning F.machine F.reading (J.judges contracts.now))) (NetShort (meaning F.machine F.reading (J.judges contracts.now))) net.old line.now (K.written sink.old) (K.written sink.new) result net.new }
     ensures count { length net.new.nodes ≡ length net.old.nodes }
     ensures quit { IfOk result (λ quit. quit ≡ is_quit line.now) }
     ensures cause { IsErrOf result Stop.Write → Rose (K.faults sink.old) (K.faults sink.new) }
     ensures later { K.faults sink.old ≤ K.faults sink.new }
 {
-    let Ok(reply) = reply_to(alloc, net, line) else {
+    let Ok(reply) = reply_to(alloc, net, line, contracts) else {
         return Err(Stop::Memory);
     };
     let Ok(text) = reply.to_string(alloc) else {
@@ -71,14 +73,15 @@ fn status_of(stop: Stop) -> Status
 }
 
 /// Answers the line that the input ends with, where there is one.
-fn answer_last<B: Bay, F: FlowSet, K: Sink>(
+fn answer_last<B: Bay, F: FlowSet, K: Sink, J: Judge>(
     alloc: Global,
     net: &mut Net<B, F>,
     sink: &mut K,
     line: &[u8],
+    contracts: &J,
 ) -> Status
-    ensures ended { (start : NetSeen) (left0 left1 written0 : Option (List ℕ)) (count : ℕ) → count ≤ 16777216 → IsAtEnd left1 → Progress (NetLink (unjudged F.machine F.reading)) start left0 left1 written0 (K.written sink.old) count net.old line.now
-        → ScriptRun (NetLink (unjudged F.machine F.reading)) (NetShort (unjudged F.machine F.reading)) start left0 left1 written0 (K.written sink.new) count net.new result }
+    ensures ended { (start : NetSeen) (left0 left1 written0 : Option (List ℕ)) (count : ℕ) → count ≤ 16777216 → IsAtEnd left1 → Progress (NetLink (meaning F.machine F.reading (J.judges contracts.now))) start left0 left1 written0 (K.written sink.old) count net.old line.now
+        → ScriptRun (NetLink (meaning F.machine F.reading (J.judges contracts.now))) (NetShort (meaning F.machine F.reading (J.judges contracts.now))) start left0 left1 written0 (K.written sink.new) count net.new result }
     ensures count { length net.new.nodes ≡ length net.old.nodes }
     ensures kinds { IsLastStatus result }
     ensures cause { result ≡ Status.WriteFault → Rose (K.faults sink.old) (K.faults sink.new) }
@@ -87,29 +90,30 @@ fn answer_last<B: Bay, F: FlowSet, K: Sink>(
     if line.is_empty() {
         return Status::Finished;
     }
-    match answer(alloc, net, sink, line) {
+    match answer(alloc, net, sink, line, contracts) {
         Ok(_) => Status::Finished,
         Err(stop) => status_of(stop),
     }
 }
 
 /// Answers a line that came to its end with the byte before; an `Err` ends the script.
-fn answer_line<B: Bay, F: FlowSet, K: Sink>(
+fn answer_line<B: Bay, F: FlowSet, K: Sink, J: Judge>(
     alloc: Global,
     net: &mut Net<B, F>,
     sink: &mut K,
     line: &[u8],
+    contracts: &J,
 ) -> Result<(), Status>
-    ensures ok { OnOk result ((start : NetSeen) (left0 left1 left2 written0 : Option (List ℕ)) (count : ℕ) → count < 16777216 → Consumes left1 left2 (10 ∷ []) → Progress (NetLink (unjudged F.machine F.reading)) start left0 left1 written0 (K.written sink.old) count net.old line.now
-        → Progress (NetLink (unjudged F.machine F.reading)) start left0 left2 written0 (K.written sink.new) (count + 1) net.new []) }
-    ensures err { IfErr result (λ status. (start : NetSeen) (left0 left1 left2 written0 : Option (List ℕ)) (count : ℕ) → count < 16777216 → Consumes left1 left2 (10 ∷ []) → Progress (NetLink (unjudged F.machine F.reading)) start left0 left1 written0 (K.written sink.old) count net.old line.now
-        → ScriptRun (NetLink (unjudged F.machine F.reading)) (NetShort (unjudged F.machine F.reading)) start left0 left2 written0 (K.written sink.new) (count + 1) net.new status) }
+    ensures ok { OnOk result ((start : NetSeen) (left0 left1 left2 written0 : Option (List ℕ)) (count : ℕ) → count < 16777216 → Consumes left1 left2 (10 ∷ []) → Progress (NetLink (meaning F.machine F.reading (J.judges contracts.now))) start left0 left1 written0 (K.written sink.old) count net.old line.now
+        → Progress (NetLink (meaning F.machine F.reading (J.judges contracts.now))) start left0 left2 written0 (K.written sink.new) (count + 1) net.new []) }
+    ensures err { IfErr result (λ status. (start : NetSeen) (left0 left1 left2 written0 : Option (List ℕ)) (count : ℕ) → count < 16777216 → Consumes left1 left2 (10 ∷ []) → Progress (NetLink (meaning F.machine F.reading (J.judges contracts.now))) start left0 left1 written0 (K.written sink.old) count net.old line.now
+        → ScriptRun (NetLink (meaning F.machine F.reading (J.judges contracts.now))) (NetShort (meaning F.machine F.reading (J.judges contracts.now))) start left0 left2 written0 (K.written sink.new) (count + 1) net.new status) }
     ensures count { length net.new.nodes ≡ length net.old.nodes }
     ensures kinds { IfErr result IsLastStatus }
     ensures cause { IsErrOf result Status.WriteFault → Rose (K.faults sink.old) (K.faults sink.new) }
     ensures later { K.faults sink.old ≤ K.faults sink.new }
 {
-    match answer(alloc, net, sink, without_cr(line)) {
+    match answer(alloc, net, sink, without_cr(line), contracts) {
         Ok(false) => Ok(()),
         Ok(true) => Err(Status::Finished),
         Err(stop) => Err(status_of(stop)),
@@ -117,20 +121,21 @@ fn answer_line<B: Bay, F: FlowSet, K: Sink>(
 }
 
 /// Takes the next byte, and answers the line that it ends; an `Err` ends the script.
-fn take_byte<B: Bay, F: FlowSet, S: Source, K: Sink>(
+fn take_byte<B: Bay, F: FlowSet, S: Source, K: Sink, J: Judge>(
     alloc: Global,
     net: &mut Net<B, F>,
     line: &mut Vec<u8>,
     source: &mut S,
     sink: &mut K,
     count: u64,
+    contracts: &J,
 ) -> Result<(), End>
     requires within { count ≤ 16777216 }
-    ensures ok { OnOk result ((start : NetSeen) (left0 written0 : Option (List ℕ)) → Progress (NetLink (unjudged F.machine F.reading)) start left0 (S.left source.old) written0 (K.written sink.old) count net.old line.old.items
-        → Progress (NetLink (unjudged F.machine F.reading)) start left0 (S.left source.new) written0 (K.written sink.new) (count + 1) net.new line.new.items) }
+    ensures ok { OnOk result ((start : NetSeen) (left0 written0 : Option (List ℕ)) → Progress (NetLink (meaning F.machine F.reading (J.judges contracts.now))) start left0 (S.left source.old) written0 (K.written sink.old) count net.old line.old.items
+        → Progress (NetLink (meaning F.machine F.reading (J.judges contracts.now))) start left0 (S.left source.new) written0 (K.written sink.new) (count + 1) net.new line.new.items) }
     ensures within { OnOk result (count < 16777216) }
-    ensures err { IfErr result (λ e. (start : NetSeen) (left0 written0 : Option (List ℕ)) → Progress (NetLink (unjudged F.machine F.reading)) start left0 (S.left source.old) written0 (K.written sink.old) count net.old line.old.items
-        → ScriptRun (NetLink (unjudged F.machine F.reading)) (NetShort (unjudged F.machine F.reading)) start left0 (S.left source.new) written0 (K.written sink.new) e.bytes_read net.new e.status) }
+    ensures err { IfErr result (λ e. (start : NetSeen) (left0 written0 : Option (List ℕ)) → Progress (NetLink (meaning F.machine F.reading (J.judges contracts.now))) start left0 (S.left source.old) written0 (K.written sink.old) count net.old line.old.items
+        → ScriptRun (NetLink (meaning F.machine F.reading (J.judges contracts.now))) (NetShort (meaning F.machine F.reading (J.judges contracts.now))) start left0 (S.left source.new) written0 (K.written sink.new) e.bytes_read net.new e.status) }
     ensures too_long { IfErr result (λ e. e.status ≡ Status.TooLong ↔ (e.bytes_read ≡ 16777217)) }
     ensures few { IfErr result (λ e. e.bytes_read ≤ 16777217) }
     ensures count { length net.new.nodes ≡ length net.old.nodes }
@@ -142,7 +147,7 @@ fn take_byte<B: Bay, F: FlowSet, S: Source, K: Sink>(
     let byte = match next_byte(source) {
         Ok(Some(byte)) => byte,
         Ok(None) => {
-            let status = answer_last(alloc, net, sink, line.as_slice());
+            let status = answer_last(alloc, net, sink, line.as_slice(), contracts);
             return Err(End {
                 status,
                 bytes_read: count,
@@ -171,7 +176,7 @@ fn take_byte<B: Bay, F: FlowSet, S: Source, K: Sink>(
         }
         return Ok(());
     }
-    if let Err(status) = answer_line(alloc, net, sink, line.as_slice()) {
+    if let Err(status) = answer_line(alloc, net, sink, line.as_slice(), contracts) {
         return Err(End { status, bytes_read });
     }
     line.clear();
@@ -179,19 +184,20 @@ fn take_byte<B: Bay, F: FlowSet, S: Source, K: Sink>(
 }
 
 /// Answers the lines of a source, until it ends, a line asks to quit, or something fails.
-pub fn session<B: Bay, F: FlowSet, S: Source, K: Sink>(
+pub fn session<B: Bay, F: FlowSet, S: Source, K: Sink, J: Judge>(
     alloc: Global,
     net: &mut Net<B, F>,
     source: &mut S,
     sink: &mut K,
+    contracts: &J,
 ) -> End
     ensures count { length net.new.nodes ≡ length net.old.nodes }
-    ensures went { ScriptRun (NetLink (unjudged F.machine F.reading)) (NetShort (unjudged F.machine F.reading)) net.old (S.left source.old) (S.left source.new) (K.written sink.old) (K.written sink.new) result.bytes_read net.new result.status }
+    ensures went { ScriptRun (NetLink (meaning F.machine F.reading (J.judges contracts.now))) (NetShort (meaning F.machine F.reading (J.judges contracts.now))) net.old (S.left source.old) (S.left source.new) (K.written sink.old) (K.written sink.new) result.bytes_read net.new result.status }
     ensures ran { (id : Identity) (start : World)
-        (shows : Shows (environment (unjudged F.machine F.reading) id) net.old start)
-        (coherent : Coherent (environment (unjudged F.machine F.reading) id) start)
-        → InPair (environment (unjudged F.machine F.reading) id) net.new
-        (λ last. ScriptRun (PairLink (unjudged F.machine F.reading) id) (PairShort (unjudged F.machine F.reading) id)
+        (shows : Shows (environment (meaning F.machine F.reading (J.judges contracts.now)) id) net.old start)
+        (coherent : Coherent (environment (meaning F.machine F.reading (J.judges contracts.now)) id) start)
+        → InPair (environment (meaning F.machine F.reading (J.judges contracts.now)) id) net.new
+        (λ last. ScriptRun (PairLink (meaning F.machine F.reading (J.judges contracts.now)) id) (PairShort (meaning F.machine F.reading (J.judges contracts.now)) id)
         (with_world net.old start shows coherent) (S.left source.old) (S.left source.new)
         (K.written sink.old) (K.written sink.new) result.bytes_read last result.status) }
     ensures too_long { result.status ≡ Status.TooLong ↔ (result.bytes_read ≡ 16777217) }
@@ -203,7 +209,7 @@ pub fn session<B: Bay, F: FlowSet, S: Source, K: Sink>(
 {
     let mut line = Vec::new(alloc);
     'bytes: for count in 0..MOST_BYTES + 1 {
-        if let Err(end) = take_byte(alloc, net, &mut line, source, sink, count) {
+        if let Err(end) = take_byte(alloc, net, &mut line, source, sink, count, contracts) {
             return end;
         }
     }

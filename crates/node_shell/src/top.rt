@@ -1,7 +1,7 @@
 ghost use Rattle.std.specs.Prelude.{◌≡◌, ◌≤◌, ◌<◌, ◌↔◌, ◌+◌, ◌*◌, ℕ, length, map, drop, slice_get, string_bytes, Some, None};
 ghost use Rattle.outside.specs.Disk.{DiskView};
 ghost use Rattle.outside.specs.Faults.{Rose};
-ghost use Rattle.net_model.specs.Environment.{party, unjudged};
+ghost use Rattle.net_model.specs.Environment.{party, meaning};
 ghost use Rattle.node_core.specs.Disks.{attached_as};
 ghost use Rattle.network_core.specs.Worlds.{World, Shows, Coherent};
 ghost use Rattle.shell_words.specs.Script.{network_of_words, IsNetwork};
@@ -13,6 +13,7 @@ use super::disks::{put_back, take_first};
 use super::openings::{attach_all, refuse};
 use super::session::session;
 use super::statuses::Status;
+use contract_verify::Judge;
 use flow_machine::FlowSet;
 use net_base::Party;
 use network_core::Net;
@@ -34,20 +35,21 @@ pub struct Ended<B: Bay> {
 }
 
 /// Plays the script over the nodes on their first disks, and gives the disks back.
-fn play<S: Source, K: Sink, B: Bay, F: FlowSet>(
+fn play<S: Source, K: Sink, B: Bay, F: FlowSet, J: Judge>(
     alloc: Global,
     source: &mut S,
     sink: &mut K,
     network: NetworkWords,
     own: Vec<B>,
+    contracts: &J,
 ) -> (Status, u64, Vec<B>)
     requires within { IsNetwork network }
     requires disks { length own.items ≡ network.nodes }
     ensures count { length result.2.items ≡ length own.items }
     ensures attached { attached_as (map B.seen result.2.items) ≡ attached_as (map B.seen own.items) }
-    ensures runs { let e = environment_for (unjudged F.machine F.reading) network in (w : World) → Shows e (over e w.now (map B.seen own.items)) w → Coherent e w
-        → PlaysOrRefuses (unjudged F.machine F.reading) network.nodes (party network.notary) w (map B.seen own.items) (map B.seen result.2.items) (S.left source.old) (S.left source.new) (K.written sink.old) (K.written sink.new) result.1 result.0 }
-    ensures went { GoesOrHalts (unjudged F.machine F.reading) network.nodes (party network.notary) (map B.seen own.items) (map B.seen result.2.items) (S.left source.old) (S.left source.new) (K.written sink.old) (K.written sink.new) result.1 result.0 }
+    ensures runs { let e = environment_for (meaning F.machine F.reading (J.judges contracts.now)) network in (w : World) → Shows e (over e w.now (map B.seen own.items)) w → Coherent e w
+        → PlaysOrRefuses (meaning F.machine F.reading (J.judges contracts.now)) network.nodes (party network.notary) w (map B.seen own.items) (map B.seen result.2.items) (S.left source.old) (S.left source.new) (K.written sink.old) (K.written sink.new) result.1 result.0 }
+    ensures went { GoesOrHalts (meaning F.machine F.reading (J.judges contracts.now)) network.nodes (party network.notary) (map B.seen own.items) (map B.seen result.2.items) (S.left source.old) (S.left source.new) (K.written sink.old) (K.written sink.new) result.1 result.0 }
     ensures too_long { result.0 ≡ Status.TooLong ↔ (result.1 ≡ 16777217) }
     ensures few { result.1 ≤ 16777217 }
     ensures own { IsPlayedStatus result.0 → KeepOwn F.reading network.nodes (party network.notary) (map B.seen own.items) }
@@ -61,7 +63,7 @@ fn play<S: Source, K: Sink, B: Bay, F: FlowSet>(
     match Net::<B, F>::begin(alloc, network.nodes, Party(network.notary), own) {
         Ok(net) => {
             let mut net = net;
-            let end = session(alloc, &mut net, source, sink);
+            let end = session(alloc, &mut net, source, sink, contracts);
             (end.status, end.bytes_read, net.into_disks())
         }
         Err(refused) => {
@@ -72,18 +74,19 @@ fn play<S: Source, K: Sink, B: Bay, F: FlowSet>(
 }
 
 /// Runs a script over this network: makes the disks of its nodes ready, opens the nodes, and plays.
-fn run_network<S: Source, K: Sink, B: Bay, F: FlowSet>(
+fn run_network<S: Source, K: Sink, B: Bay, F: FlowSet, J: Judge>(
     alloc: Global,
     network: NetworkWords,
     source: &mut S,
     sink: &mut K,
     disks: Vec<B>,
+    contracts: &J,
 ) -> Ended<B>
     requires within { IsNetwork network }
     requires disks { length disks.items ≡ 32 }
-    ensures story { let e = environment_for (unjudged F.machine F.reading) network in let old = first_disks network.nodes (map B.seen disks.items) in let new = first_disks network.nodes (map B.seen result.disks.items) in (w : World) → Shows e (over e w.now old) w → Coherent e w
-        → RunsAs (unjudged F.machine F.reading) network.nodes (party network.notary) w old new (S.left source.old) (S.left source.new) (K.written sink.old) (K.written sink.new) result.bytes_read result.status }
-    ensures went { RunsAnyhow (unjudged F.machine F.reading) network.nodes (party network.notary) (first_disks network.nodes (map B.seen disks.items)) (first_disks network.nodes (map B.seen result.disks.items)) (S.left source.old) (S.left source.new) (K.written sink.old) (K.written sink.new) result.bytes_read result.status }
+    ensures story { let e = environment_for (meaning F.machine F.reading (J.judges contracts.now)) network in let old = first_disks network.nodes (map B.seen disks.items) in let new = first_disks network.nodes (map B.seen result.disks.items) in (w : World) → Shows e (over e w.now old) w → Coherent e w
+        → RunsAs (meaning F.machine F.reading (J.judges contracts.now)) network.nodes (party network.notary) w old new (S.left source.old) (S.left source.new) (K.written sink.old) (K.written sink.new) result.bytes_read result.status }
+    ensures went { RunsAnyhow (meaning F.machine F.reading (J.judges contracts.now)) network.nodes (party network.notary) (first_disks network.nodes (map B.seen disks.items)) (first_disks network.nodes (map B.seen result.disks.items)) (S.left source.old) (S.left source.new) (K.written sink.old) (K.written sink.new) result.bytes_read result.status }
     ensures words { result.status ≡ 2 → ⊥ }
     ensures count { length result.disks.items ≡ 32 }
     ensures rest { drop (2 * network.nodes) result.disks.items ≡ drop (2 * network.nodes) disks.items }
@@ -107,7 +110,9 @@ fn run_network<S: Source, K: Sink, B: Bay, F: FlowSet>(
         return end_with(status, disks, 0);
     }
     take_first(&mut disks, &mut own, nodes);
-    let (status, bytes_read, own) = play::<S, K, B, F>(alloc, source, sink, network, own);
+    let (status, bytes_read, own) = play::<S, K, B, F, J>(
+        alloc, source, sink, network, own, contracts,
+    );
     put_back(&mut disks, own);
     end_with(status, disks, bytes_read)
 }
@@ -115,25 +120,27 @@ fn run_network<S: Source, K: Sink, B: Bay, F: FlowSet>(
 /// Runs a script over a network of 1 to 16 nodes, line by line, and writes the answers.
 ///
 /// The words are `--nodes n`, with 1 to 16, and `--notary n`, with 0 to 15 and below the number of nodes, each at most once and in any
-/// order; without them there are two nodes, and node 0 is the notary. Of the 32 disks node `n` has disks `2n` and `2n + 1`, which are made
-/// ready in memory as `node-n.a` and `node-n.b`; its journal is on the first. All disks are made ready in order, and then the nodes are
-/// opened in order. A script has at most 16,777,216 bytes. Each line of it is a command, which has one answer line or, a query, several; a
-/// blank line, one that begins with `#` and `quit` have none. The frames that wait when it ends are not kept.
+/// order; without them there are two nodes, and node 0 is the notary. Of the 32 disks node `n` has disks `2n` and `2n + 1`, which are
+/// made ready in memory as `node-n.a` and `node-n.b`; its journal is on the first. All disks are made ready in order, and then the nodes
+/// are opened in order. The contracts are those by which the nodes verify transactions. A script has at most 16,777,216 bytes. Each line
+/// of it is a command, which has one answer line or, a query, several; a blank line, one that begins with `#` and `quit` have none. The
+/// frames that wait when it ends are not kept.
 ///
 /// Over disks that show a coherent world the script is one way of the network together with that world (`scripts_are_ways`). So at every
 /// moment of it, also within any call of a disk in the middle of a line, whichever image a power loss leaves of each disk, the journals are
 /// those of one run, and what was acknowledged before stands there once. Of the openings before it this is not said.
-pub fn run<S: Source, K: Sink, B: Bay, F: FlowSet>(
+pub fn run<S: Source, K: Sink, B: Bay, F: FlowSet, J: Judge>(
     alloc: Global,
     words: &[String],
     source: &mut S,
     sink: &mut K,
     disks: Vec<B>,
+    contracts: &J,
 ) -> Ended<B>
     requires { length disks.items ≡ 32 }
-    ensures story { (n : NetworkWords) → network_of_words (map (λ s. string_bytes s) words.now) ≡ Some n → let e = environment_for (unjudged F.machine F.reading) n in let old = first_disks n.nodes (map B.seen disks.items) in let new = first_disks n.nodes (map B.seen result.disks.items) in (w : World) → Shows e (over e w.now old) w → Coherent e w
-        → RunsAs (unjudged F.machine F.reading) n.nodes (party n.notary) w old new (S.left source.old) (S.left source.new) (K.written sink.old) (K.written sink.new) result.bytes_read result.status }
-    ensures went { (n : NetworkWords) → network_of_words (map (λ s. string_bytes s) words.now) ≡ Some n → RunsAnyhow (unjudged F.machine F.reading) n.nodes (party n.notary) (first_disks n.nodes (map B.seen disks.items)) (first_disks n.nodes (map B.seen result.disks.items)) (S.left source.old) (S.left source.new) (K.written sink.old) (K.written sink.new) result.bytes_read result.status }
+    ensures story { (n : NetworkWords) → network_of_words (map (λ s. string_bytes s) words.now) ≡ Some n → let e = environment_for (meaning F.machine F.reading (J.judges contracts.now)) n in let old = first_disks n.nodes (map B.seen disks.items) in let new = first_disks n.nodes (map B.seen result.disks.items) in (w : World) → Shows e (over e w.now old) w → Coherent e w
+        → RunsAs (meaning F.machine F.reading (J.judges contracts.now)) n.nodes (party n.notary) w old new (S.left source.old) (S.left source.new) (K.written sink.old) (K.written sink.new) result.bytes_read result.status }
+    ensures went { (n : NetworkWords) → network_of_words (map (λ s. string_bytes s) words.now) ≡ Some n → RunsAnyhow (meaning F.machine F.reading (J.judges contracts.now)) n.nodes (party n.notary) (first_disks n.nodes (map B.seen disks.items)) (first_disks n.nodes (map B.seen result.disks.items)) (S.left source.old) (S.left source.new) (K.written sink.old) (K.written sink.new) result.bytes_read result.status }
     ensures words { (result.status ≡ 2) ↔ (network_of_words (map (λ s. string_bytes s) words.now) ≡ None) }
     ensures untouched { network_of_words (map (λ s. string_bytes s) words.now) ≡ None → (result.bytes_read ≡ 0) × (result.disks.items ≡ disks.items) × (S.left source.new ≡ S.left source.old) × (K.written sink.new ≡ K.written sink.old) }
     ensures disks { (length result.disks.items ≡ 32) × ((n : NetworkWords) → network_of_words (map (λ s. string_bytes s) words.now) ≡ Some n → drop (2 * n.nodes) result.disks.items ≡ drop (2 * n.nodes) disks.items) }
@@ -150,7 +157,9 @@ pub fn run<S: Source, K: Sink, B: Bay, F: FlowSet>(
 {
     match network_of_words(words) {
         None => end_with(Status::BadWords, disks, 0),
-        Some(network) => run_network::<S, K, B, F>(alloc, network, source, sink, disks),
+        Some(network) => run_network::<S, K, B, F, J>(
+            alloc, network, source, sink, disks, contracts,
+        ),
     }
 }
 

@@ -1,4 +1,4 @@
-use Rattle.net_model.specs.Environment.{unjudged}
+use Rattle.net_model.specs.Environment.{meaning}
 use Rattle.std.proofs.Common.{refl, map, string_bytes, option_map}
 use Rattle.network_core.specs.declared.steps.Step.TheVariants as step
 use Rattle.shell_words.specs.declared.commands.Command.TheVariants as command
@@ -9,8 +9,7 @@ use Rattle.node_shell.proofs.serving.serve.Goals as goal
 
 pub returns-in-Clock-clause-serves : goal.returns-in-Clock-clause-serves
 returns-in-Clock-clause-serves g c =
-    let m = unjudged g.F.FlowSet.machine g.F.Spelt.reading in
-    let f = g.F.Spelt.reading in
+    let m = meaning g.F.FlowSet.machine g.F.Spelt.reading (g.J.Judge.judges c.args.contracts.now) in
     let ws = map (λ s. string_bytes s) c.args.words.now in
     let asked = command.Clock c.in-Clock.to in
     asked_as m c.args.net.now c.make.new.net asked ws c.make.result c.in-Clock.ensures
@@ -18,8 +17,7 @@ returns-in-Clock-clause-serves g c =
 
 pub returns-in-Clock-clause-responds : goal.returns-in-Clock-clause-responds
 returns-in-Clock-clause-responds g c =
-    let m = unjudged g.F.FlowSet.machine g.F.Spelt.reading in
-    let f = g.F.Spelt.reading in
+    let m = meaning g.F.FlowSet.machine g.F.Spelt.reading (g.J.Judge.judges c.args.contracts.now) in
     let ws = map (λ s. string_bytes s) c.args.words.now in
     let asked = command.Clock c.in-Clock.to in
     asked_responds m c.args.net.now c.make.new.net asked ws (given c.make.result) c.in-Clock.ensures c.make.ensures.responds
@@ -27,17 +25,16 @@ returns-in-Clock-clause-responds g c =
 pub returns-in-Start-clause-serves : goal.returns-in-Start-clause-serves
 returns-in-Start-clause-serves g c =
     let ws = map (λ s. string_bytes s) c.args.words.now in
-    asked_as (unjudged g.F.FlowSet.machine g.F.Spelt.reading) c.args.net.now c.start.new.net (command.Start c.in-Start.node) ws c.start.result c.in-Start.ensures c.start.ensures.serves
+    asked_as (meaning g.F.FlowSet.machine g.F.Spelt.reading (g.J.Judge.judges c.args.contracts.now)) c.args.net.now c.start.new.net (command.Start c.in-Start.node) ws c.start.result c.in-Start.ensures c.start.ensures.serves
 
 pub returns-in-Start-clause-responds : goal.returns-in-Start-clause-responds
 returns-in-Start-clause-responds g c =
     let ws = map (λ s. string_bytes s) c.args.words.now in
-    asked_responds (unjudged g.F.FlowSet.machine g.F.Spelt.reading) c.args.net.now c.start.new.net (command.Start c.in-Start.node) ws (given c.start.result) c.in-Start.ensures c.start.ensures.responds
+    asked_responds (meaning g.F.FlowSet.machine g.F.Spelt.reading (g.J.Judge.judges c.args.contracts.now)) c.args.net.now c.start.new.net (command.Start c.in-Start.node) ws (given c.start.result) c.in-Start.ensures c.start.ensures.responds
 
 pub returns-in-Turn-clause-serves : goal.returns-in-Turn-clause-serves
 returns-in-Turn-clause-serves g c =
-    let m = unjudged g.F.FlowSet.machine g.F.Spelt.reading in
-    let f = g.F.Spelt.reading in
+    let m = meaning g.F.FlowSet.machine g.F.Spelt.reading (g.J.Judge.judges c.args.contracts.now) in
     let ws = map (λ s. string_bytes s) c.args.words.now in
     let asked = command.Turn c.in-Turn.node c.in-Turn.pick in
     asked_as m c.args.net.now c.make-in-Turn.new.net asked ws c.make-in-Turn.result c.in-Turn.ensures
@@ -46,16 +43,14 @@ returns-in-Turn-clause-serves g c =
 
 pub returns-in-Turn-clause-responds : goal.returns-in-Turn-clause-responds
 returns-in-Turn-clause-responds g c =
-    let m = unjudged g.F.FlowSet.machine g.F.Spelt.reading in
-    let f = g.F.Spelt.reading in
+    let m = meaning g.F.FlowSet.machine g.F.Spelt.reading (g.J.Judge.judges c.args.contracts.now) in
     let ws = map (λ s. string_bytes s) c.args.words.now in
     let asked = command.Turn c.in-Turn.node c.in-Turn.pick in
     asked_responds m c.args.net.now c.make-in-Turn.new.net asked ws (given c.make-in-Turn.result) c.in-Turn.ensures (rw (c.place_of.ensures, c.pick_of.ensures) at c.make-in-Turn.ensures.responds)
 
 pub returns-in-Post-clause-serves : goal.returns-in-Post-clause-serves
 returns-in-Post-clause-serves g c =
-    let m = unjudged g.F.FlowSet.machine g.F.Spelt.reading in
-    let f = g.F.Spelt.reading in
+    let m = meaning g.F.FlowSet.machine g.F.Spelt.reading (g.J.Judge.judges c.args.contracts.now) in
     let ws = map (λ s. string_bytes s) c.args.words.now in
     let asked = command.Post c.in-Post.node in
     asked_as m c.args.net.now c.make-in-Post.new.net asked ws c.make-in-Post.result c.in-Post.ensures
@@ -64,16 +59,14 @@ returns-in-Post-clause-serves g c =
 
 pub returns-in-Post-clause-responds : goal.returns-in-Post-clause-responds
 returns-in-Post-clause-responds g c =
-    let m = unjudged g.F.FlowSet.machine g.F.Spelt.reading in
-    let f = g.F.Spelt.reading in
+    let m = meaning g.F.FlowSet.machine g.F.Spelt.reading (g.J.Judge.judges c.args.contracts.now) in
     let ws = map (λ s. string_bytes s) c.args.words.now in
     let asked = command.Post c.in-Post.node in
     asked_responds m c.args.net.now c.make-in-Post.new.net asked ws (given c.make-in-Post.result) c.in-Post.ensures (rw c.place_of-node.ensures at c.make-in-Post.ensures.responds)
 
 pub returns-in-Deliver-clause-serves : goal.returns-in-Deliver-clause-serves
 returns-in-Deliver-clause-serves g c =
-    let m = unjudged g.F.FlowSet.machine g.F.Spelt.reading in
-    let f = g.F.Spelt.reading in
+    let m = meaning g.F.FlowSet.machine g.F.Spelt.reading (g.J.Judge.judges c.args.contracts.now) in
     let ws = map (λ s. string_bytes s) c.args.words.now in
     let asked = command.Deliver c.in-Deliver.node c.in-Deliver.place in
     asked_as m c.args.net.now c.make-in-Deliver.new.net asked ws c.make-in-Deliver.result c.in-Deliver.ensures
@@ -82,16 +75,14 @@ returns-in-Deliver-clause-serves g c =
 
 pub returns-in-Deliver-clause-responds : goal.returns-in-Deliver-clause-responds
 returns-in-Deliver-clause-responds g c =
-    let m = unjudged g.F.FlowSet.machine g.F.Spelt.reading in
-    let f = g.F.Spelt.reading in
+    let m = meaning g.F.FlowSet.machine g.F.Spelt.reading (g.J.Judge.judges c.args.contracts.now) in
     let ws = map (λ s. string_bytes s) c.args.words.now in
     let asked = command.Deliver c.in-Deliver.node c.in-Deliver.place in
     asked_responds m c.args.net.now c.make-in-Deliver.new.net asked ws (given c.make-in-Deliver.result) c.in-Deliver.ensures (rw (c.place_of-in-Deliver.ensures, c.frame_of.ensures) at c.make-in-Deliver.ensures.responds)
 
 pub returns-in-Repeat-clause-serves : goal.returns-in-Repeat-clause-serves
 returns-in-Repeat-clause-serves g c =
-    let m = unjudged g.F.FlowSet.machine g.F.Spelt.reading in
-    let f = g.F.Spelt.reading in
+    let m = meaning g.F.FlowSet.machine g.F.Spelt.reading (g.J.Judge.judges c.args.contracts.now) in
     let ws = map (λ s. string_bytes s) c.args.words.now in
     let asked = command.Repeat c.in-Repeat.node c.in-Repeat.place in
     asked_as m c.args.net.now c.make-in-Repeat.new.net asked ws c.make-in-Repeat.result c.in-Repeat.ensures
@@ -100,16 +91,14 @@ returns-in-Repeat-clause-serves g c =
 
 pub returns-in-Repeat-clause-responds : goal.returns-in-Repeat-clause-responds
 returns-in-Repeat-clause-responds g c =
-    let m = unjudged g.F.FlowSet.machine g.F.Spelt.reading in
-    let f = g.F.Spelt.reading in
+    let m = meaning g.F.FlowSet.machine g.F.Spelt.reading (g.J.Judge.judges c.args.contracts.now) in
     let ws = map (λ s. string_bytes s) c.args.words.now in
     let asked = command.Repeat c.in-Repeat.node c.in-Repeat.place in
     asked_responds m c.args.net.now c.make-in-Repeat.new.net asked ws (given c.make-in-Repeat.result) c.in-Repeat.ensures (rw (c.place_of-in-Repeat.ensures, c.frame_of-in-Repeat.ensures) at c.make-in-Repeat.ensures.responds)
 
 pub returns-in-Lose-clause-serves : goal.returns-in-Lose-clause-serves
 returns-in-Lose-clause-serves g c =
-    let m = unjudged g.F.FlowSet.machine g.F.Spelt.reading in
-    let f = g.F.Spelt.reading in
+    let m = meaning g.F.FlowSet.machine g.F.Spelt.reading (g.J.Judge.judges c.args.contracts.now) in
     let ws = map (λ s. string_bytes s) c.args.words.now in
     let asked = command.Lose c.in-Lose.node c.in-Lose.place in
     asked_as m c.args.net.now c.make-in-Lose.new.net asked ws c.make-in-Lose.result c.in-Lose.ensures
@@ -118,16 +107,14 @@ returns-in-Lose-clause-serves g c =
 
 pub returns-in-Lose-clause-responds : goal.returns-in-Lose-clause-responds
 returns-in-Lose-clause-responds g c =
-    let m = unjudged g.F.FlowSet.machine g.F.Spelt.reading in
-    let f = g.F.Spelt.reading in
+    let m = meaning g.F.FlowSet.machine g.F.Spelt.reading (g.J.Judge.judges c.args.contracts.now) in
     let ws = map (λ s. string_bytes s) c.args.words.now in
     let asked = command.Lose c.in-Lose.node c.in-Lose.place in
     asked_responds m c.args.net.now c.make-in-Lose.new.net asked ws (given c.make-in-Lose.result) c.in-Lose.ensures (rw (c.place_of-in-Lose.ensures, c.frame_of-in-Lose.ensures) at c.make-in-Lose.ensures.responds)
 
 pub returns-in-Cut-clause-serves : goal.returns-in-Cut-clause-serves
 returns-in-Cut-clause-serves g c =
-    let m = unjudged g.F.FlowSet.machine g.F.Spelt.reading in
-    let f = g.F.Spelt.reading in
+    let m = meaning g.F.FlowSet.machine g.F.Spelt.reading (g.J.Judge.judges c.args.contracts.now) in
     let ws = map (λ s. string_bytes s) c.args.words.now in
     let asked = command.Cut c.in-Cut.node c.in-Cut.calls c.in-Cut.outcome in
     asked_as m c.args.net.now c.make-in-Cut.new.net asked ws c.make-in-Cut.result c.in-Cut.ensures
@@ -136,16 +123,14 @@ returns-in-Cut-clause-serves g c =
 
 pub returns-in-Cut-clause-responds : goal.returns-in-Cut-clause-responds
 returns-in-Cut-clause-responds g c =
-    let m = unjudged g.F.FlowSet.machine g.F.Spelt.reading in
-    let f = g.F.Spelt.reading in
+    let m = meaning g.F.FlowSet.machine g.F.Spelt.reading (g.J.Judge.judges c.args.contracts.now) in
     let ws = map (λ s. string_bytes s) c.args.words.now in
     let asked = command.Cut c.in-Cut.node c.in-Cut.calls c.in-Cut.outcome in
     asked_responds m c.args.net.now c.make-in-Cut.new.net asked ws (given c.make-in-Cut.result) c.in-Cut.ensures (rw c.place_of-in-Cut.ensures at c.make-in-Cut.ensures.responds)
 
 pub returns-in-Boot-clause-serves : goal.returns-in-Boot-clause-serves
 returns-in-Boot-clause-serves g c =
-    let m = unjudged g.F.FlowSet.machine g.F.Spelt.reading in
-    let f = g.F.Spelt.reading in
+    let m = meaning g.F.FlowSet.machine g.F.Spelt.reading (g.J.Judge.judges c.args.contracts.now) in
     let ws = map (λ s. string_bytes s) c.args.words.now in
     let asked = command.Boot c.in-Boot.node in
     asked_as m c.args.net.now c.make-in-Boot.new.net asked ws c.make-in-Boot.result c.in-Boot.ensures
@@ -154,31 +139,27 @@ returns-in-Boot-clause-serves g c =
 
 pub returns-in-Boot-clause-responds : goal.returns-in-Boot-clause-responds
 returns-in-Boot-clause-responds g c =
-    let m = unjudged g.F.FlowSet.machine g.F.Spelt.reading in
-    let f = g.F.Spelt.reading in
+    let m = meaning g.F.FlowSet.machine g.F.Spelt.reading (g.J.Judge.judges c.args.contracts.now) in
     let ws = map (λ s. string_bytes s) c.args.words.now in
     let asked = command.Boot c.in-Boot.node in
     asked_responds m c.args.net.now c.make-in-Boot.new.net asked ws (given c.make-in-Boot.result) c.in-Boot.ensures (rw c.place_of-in-Boot.ensures at c.make-in-Boot.ensures.responds)
 
 pub returns-in-Drain-clause-serves : goal.returns-in-Drain-clause-serves
 returns-in-Drain-clause-serves g c =
-    let m = unjudged g.F.FlowSet.machine g.F.Spelt.reading in
-    let f = g.F.Spelt.reading in
+    let m = meaning g.F.FlowSet.machine g.F.Spelt.reading (g.J.Judge.judges c.args.contracts.now) in
     let ws = map (λ s. string_bytes s) c.args.words.now in
     asked_as m c.args.net.now c.make-in-Drain.new.net command.Drain ws c.make-in-Drain.result c.in-Drain.ensures
     (made m c.args.net.now c.make-in-Drain.new.net command.Drain ws step.Drain c.make-in-Drain.result refl c.make-in-Drain.ensures.serves)
 
 pub returns-in-Drain-clause-responds : goal.returns-in-Drain-clause-responds
 returns-in-Drain-clause-responds g c =
-    let m = unjudged g.F.FlowSet.machine g.F.Spelt.reading in
-    let f = g.F.Spelt.reading in
+    let m = meaning g.F.FlowSet.machine g.F.Spelt.reading (g.J.Judge.judges c.args.contracts.now) in
     let ws = map (λ s. string_bytes s) c.args.words.now in
     asked_responds m c.args.net.now c.make-in-Drain.new.net command.Drain ws (given c.make-in-Drain.result) c.in-Drain.ensures c.make-in-Drain.ensures.responds
 
 pub returns-in-Flows-clause-serves : goal.returns-in-Flows-clause-serves
 returns-in-Flows-clause-serves g c =
-    let m = unjudged g.F.FlowSet.machine g.F.Spelt.reading in
-    let f = g.F.Spelt.reading in
+    let m = meaning g.F.FlowSet.machine g.F.Spelt.reading (g.J.Judge.judges c.args.contracts.now) in
     let ws = map (λ s. string_bytes s) c.args.words.now in
     let asked = command.Flows c.in-Flows.node in
     asked_as m c.args.net.now c.args.net.now asked ws c.print_flows.result c.in-Flows.ensures
@@ -186,8 +167,7 @@ returns-in-Flows-clause-serves g c =
 
 pub returns-in-Flows-clause-responds : goal.returns-in-Flows-clause-responds
 returns-in-Flows-clause-responds g c =
-    let m = unjudged g.F.FlowSet.machine g.F.Spelt.reading in
-    let f = g.F.Spelt.reading in
+    let m = meaning g.F.FlowSet.machine g.F.Spelt.reading (g.J.Judge.judges c.args.contracts.now) in
     let ws = map (λ s. string_bytes s) c.args.words.now in
     let asked = command.Flows c.in-Flows.node in
     let shown = rw c.place_of-in-Flows.ensures at c.print_flows.ensures.asks in
@@ -195,8 +175,7 @@ returns-in-Flows-clause-responds g c =
 
 pub returns-in-Flow-clause-serves : goal.returns-in-Flow-clause-serves
 returns-in-Flow-clause-serves g c =
-    let m = unjudged g.F.FlowSet.machine g.F.Spelt.reading in
-    let f = g.F.Spelt.reading in
+    let m = meaning g.F.FlowSet.machine g.F.Spelt.reading (g.J.Judge.judges c.args.contracts.now) in
     let ws = map (λ s. string_bytes s) c.args.words.now in
     let asked = command.Flow c.in-Flow.node c.in-Flow.flow in
     asked_as m c.args.net.now c.args.net.now asked ws c.print_flow.result c.in-Flow.ensures
@@ -204,8 +183,7 @@ returns-in-Flow-clause-serves g c =
 
 pub returns-in-Flow-clause-responds : goal.returns-in-Flow-clause-responds
 returns-in-Flow-clause-responds g c =
-    let m = unjudged g.F.FlowSet.machine g.F.Spelt.reading in
-    let f = g.F.Spelt.reading in
+    let m = meaning g.F.FlowSet.machine g.F.Spelt.reading (g.J.Judge.judges c.args.contracts.now) in
     let ws = map (λ s. string_bytes s) c.args.words.now in
     let asked = command.Flow c.in-Flow.node c.in-Flow.flow in
     let shown = rw (c.place_of-in-Flow.ensures, c.flow_of.ensures) at c.print_flow.ensures.asks in
@@ -213,15 +191,13 @@ returns-in-Flow-clause-responds g c =
 
 pub returns-in-History-clause-serves : goal.returns-in-History-clause-serves
 returns-in-History-clause-serves g c =
-    let m = unjudged g.F.FlowSet.machine g.F.Spelt.reading in
-    let f = g.F.Spelt.reading in
+    let m = meaning g.F.FlowSet.machine g.F.Spelt.reading (g.J.Judge.judges c.args.contracts.now) in
     let ws = map (λ s. string_bytes s) c.args.words.now in
     asked_as m c.args.net.now c.args.net.now command.History ws c.print_history.result c.in-History.ensures
     (answered m c.args.net.now command.History ws c.print_history.result refl c.print_history.ensures.asks)
 
 pub returns-in-History-clause-responds : goal.returns-in-History-clause-responds
 returns-in-History-clause-responds g c =
-    let m = unjudged g.F.FlowSet.machine g.F.Spelt.reading in
-    let f = g.F.Spelt.reading in
+    let m = meaning g.F.FlowSet.machine g.F.Spelt.reading (g.J.Judge.judges c.args.contracts.now) in
     let ws = map (λ s. string_bytes s) c.args.words.now in
     asked_responds m c.args.net.now c.args.net.now command.History ws (given c.print_history.result) c.in-History.ensures (shown_responds m c.args.net.now command.History ws c.print_history.result refl c.print_history.ensures.asks)

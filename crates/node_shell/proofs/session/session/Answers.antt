@@ -1,4 +1,4 @@
-use Rattle.net_model.specs.Environment.{unjudged}
+use Rattle.net_model.specs.Environment.{meaning}
 use Rattle.std.proofs.Common.{arith, refl, ◌∙◌}
 use Rattle.node_shell.proofs.Stories.{progress_start}
 use Rattle.node_shell.proofs.Together.{run_in}
@@ -18,7 +18,7 @@ returns-in-Err-clause-went g c = c.in-Err.ensures.err c.args.net.now _ _ c.bytes
 
 pub returns-in-Err-clause-ran : goal.returns-in-Err-clause-ran
 returns-in-Err-clause-ran g c id start shows coherent =
-    run_in (unjudged g.F.FlowSet.machine g.F.Spelt.reading) id c.args.net.now start shows coherent _ _ _ _ _ _ _ (c.in-Err.ensures.err c.args.net.now _ _ c.bytes.invariant.progress)
+    run_in (meaning g.F.FlowSet.machine g.F.Spelt.reading (g.J.Judge.judges c.args.contracts.now)) id c.args.net.now start shows coherent _ _ _ _ _ _ _ (c.in-Err.ensures.err c.args.net.now _ _ c.bytes.invariant.progress)
 
 pub bytes-preserved : goal.bytes-preserved
 bytes-preserved g c = record {

@@ -1,7 +1,7 @@
 use Rattle.std.proofs.Common.{◌≡◌, inl, inr, map, length, refl, sym, ◌∙◌, ap, subst}
 use Rattle.std.proofs.lemmas.List.{length-map}
 use Rattle.net_base.proofs.Lists.{map_both}
-use Rattle.net_model.specs.Environment.{party, unjudged}
+use Rattle.net_model.specs.Environment.{meaning, party}
 use Rattle.outside.specs.Disk.{DiskView}
 use Rattle.node_core.specs.Disks.{roomless, attached_as}
 use Rattle.node_core.specs.Seen.{NodeSeen}
@@ -18,23 +18,23 @@ returns-in-Ok-clause-count g c =
 
 pub returns-in-Ok-clause-runs : goal.returns-in-Ok-clause-runs
 returns-in-Ok-clause-runs g c w shows coherent =
-    let m = unjudged g.F.FlowSet.machine g.F.Spelt.reading in
+    let m = meaning g.F.FlowSet.machine g.F.Spelt.reading (g.J.Judge.judges c.args.contracts.now) in
     let f = g.F.Spelt.reading in
     let n = c.args.network.nodes in
     let notary = party c.args.network.notary in
     let own = map g.B.Disk.seen c.args.own.items in
     let count : length own ≡ n = length-map c.args.own.items g.B.Disk.seen ∙ c.requires.disks in
     let disks = sym c.into_disks.ensures ∙ sym (map_both roomless g.B.Disk.seen c.into_disks.result.items) in
-    played m n notary own (map g.B.Disk.seen c.into_disks.result.items) w c.in-Ok.net c.session-end.new.net _ _ _ _ _ _ c.session-end.ensures.kinds (boots_own f n notary own c.in-Ok.net.now c.in-Ok.net.nodes count c.in-Ok.ensures.boots) c.in-Ok.ensures.ok c.in-Ok.ensures.boots c.in-Ok.ensures.waiting c.session-end.ensures.went c.session-end.ensures.ran disks shows coherent
+    played m n notary own (map g.B.Disk.seen c.into_disks.result.items) w c.in-Ok.net c.session-end.new.net _ _ _ _ _ _ c.session-end.ensures.kinds (boots_own f n notary own c.in-Ok.net.now c.in-Ok.net.nodes count c.in-Ok.ensures.boots) (c.in-Ok.ensures.ok (g.J.Judge.judges c.args.contracts.now)) c.in-Ok.ensures.boots c.in-Ok.ensures.waiting c.session-end.ensures.went c.session-end.ensures.ran disks shows coherent
 
 pub returns-in-Err-clause-runs : goal.returns-in-Err-clause-runs
 returns-in-Err-clause-runs g c w shows coherent =
     let own = map g.B.Disk.seen c.args.own.items in
-    refused (unjudged g.F.FlowSet.machine g.F.Spelt.reading) c.args.network.nodes (party c.args.network.notary) own _ w c.in-Err.refused.node c.in-Err.refused.why _ _ _ _ c.requires.within.some (length-map c.args.own.items g.B.Disk.seen ∙ c.requires.disks) c.in-Err.ensures.refused c.refuse-status.ensures.refused shows coherent
+    refused (meaning g.F.FlowSet.machine g.F.Spelt.reading (g.J.Judge.judges c.args.contracts.now)) c.args.network.nodes (party c.args.network.notary) own _ w c.in-Err.refused.node c.in-Err.refused.why _ _ _ _ c.requires.within.some (length-map c.args.own.items g.B.Disk.seen ∙ c.requires.disks) (c.in-Err.ensures.refused (g.J.Judge.judges c.args.contracts.now)) c.refuse-status.ensures.refused shows coherent
 
 pub returns-in-Err-clause-disk_fault : goal.returns-in-Err-clause-disk_fault
 returns-in-Err-clause-disk_fault g c is =
-    fault_why (unjudged g.F.FlowSet.machine g.F.Spelt.reading) c.args.network.nodes (party c.args.network.notary) (map g.B.Disk.seen c.args.own.items) _ c.in-Err.refused.node c.in-Err.refused.why _ _ _ (length-map c.args.own.items g.B.Disk.seen ∙ c.requires.disks) c.in-Err.ensures.refused c.refuse-status.ensures.refused is
+    fault_why (meaning g.F.FlowSet.machine g.F.Spelt.reading (g.J.Judge.judges c.args.contracts.now)) c.args.network.nodes (party c.args.network.notary) (map g.B.Disk.seen c.args.own.items) _ c.in-Err.refused.node c.in-Err.refused.why _ _ _ (length-map c.args.own.items g.B.Disk.seen ∙ c.requires.disks) (c.in-Err.ensures.refused (g.J.Judge.judges c.args.contracts.now)) c.refuse-status.ensures.refused is
 
 pub returns-in-Err-clause-bad_journal : goal.returns-in-Err-clause-bad_journal
 returns-in-Err-clause-bad_journal g c is =
@@ -42,7 +42,7 @@ returns-in-Err-clause-bad_journal g c is =
     let n = c.args.network.nodes in
     let notary = party c.args.network.notary in
     let own = map g.B.Disk.seen c.args.own.items in
-    subst (IsToldWhy f n notary own _ _ _) is (told_why (unjudged g.F.FlowSet.machine f) n notary own _ c.in-Err.refused.node c.in-Err.refused.why _ _ _ c.requires.within.some (length-map c.args.own.items g.B.Disk.seen ∙ c.requires.disks) c.in-Err.ensures.refused c.refuse-status.ensures.refused)
+    subst (IsToldWhy f n notary own _ _ _) is (told_why (meaning g.F.FlowSet.machine f (g.J.Judge.judges c.args.contracts.now)) n notary own _ c.in-Err.refused.node c.in-Err.refused.why _ _ _ c.requires.within.some (length-map c.args.own.items g.B.Disk.seen ∙ c.requires.disks) (c.in-Err.ensures.refused (g.J.Judge.judges c.args.contracts.now)) c.refuse-status.ensures.refused)
 
 pub returns-in-Ok-clause-own : goal.returns-in-Ok-clause-own
 returns-in-Ok-clause-own g c is =
@@ -68,12 +68,12 @@ returns-in-Err-clause-went g c =
     inr (record {
       unread = refl;
       none = refl;
-      why = inr (told_why (unjudged g.F.FlowSet.machine g.F.Spelt.reading) c.args.network.nodes (party c.args.network.notary) own _ c.in-Err.refused.node c.in-Err.refused.why _ _ _ c.requires.within.some (length-map c.args.own.items g.B.Disk.seen ∙ c.requires.disks) c.in-Err.ensures.refused c.refuse-status.ensures.refused);
+      why = inr (told_why (meaning g.F.FlowSet.machine g.F.Spelt.reading (g.J.Judge.judges c.args.contracts.now)) c.args.network.nodes (party c.args.network.notary) own _ c.in-Err.refused.node c.in-Err.refused.why _ _ _ c.requires.within.some (length-map c.args.own.items g.B.Disk.seen ∙ c.requires.disks) (c.in-Err.ensures.refused (g.J.Judge.judges c.args.contracts.now)) c.refuse-status.ensures.refused);
     })
 
 pub returns-in-Ok-clause-attached : goal.returns-in-Ok-clause-attached
 returns-in-Ok-clause-attached g c =
-    let m = unjudged g.F.FlowSet.machine g.F.Spelt.reading in
+    let m = meaning g.F.FlowSet.machine g.F.Spelt.reading (g.J.Judge.judges c.args.contracts.now) in
     let f = g.F.Spelt.reading in
     let own = map g.B.Disk.seen c.args.own.items in
     let back = c.into_disks.result.items in
@@ -85,4 +85,4 @@ returns-in-Ok-clause-attached g c =
 
 pub returns-in-Err-clause-attached : goal.returns-in-Err-clause-attached
 returns-in-Err-clause-attached g c =
-    refused_names (unjudged g.F.FlowSet.machine g.F.Spelt.reading) c.args.network.nodes (party c.args.network.notary) (map g.B.Disk.seen c.args.own.items) c.in-Err.refused.node c.in-Err.refused.why _ c.in-Err.ensures.refused
+    refused_names (meaning g.F.FlowSet.machine g.F.Spelt.reading (g.J.Judge.judges c.args.contracts.now)) c.args.network.nodes (party c.args.network.notary) (map g.B.Disk.seen c.args.own.items) c.in-Err.refused.node c.in-Err.refused.why _ (c.in-Err.ensures.refused (g.J.Judge.judges c.args.contracts.now))

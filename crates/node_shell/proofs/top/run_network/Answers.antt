@@ -1,5 +1,5 @@
 use Rattle.std.proofs.Common.{◌≡◌, inl, inr, ◌+◌, ◌*◌, length, map, refl, sym, ◌∙◌, ap, subst, arith}
-use Rattle.net_model.specs.Environment.{party, unjudged}
+use Rattle.net_model.specs.Environment.{meaning, party}
 use Rattle.node_shell.specs.declared.statuses.Status.TheVariants as status
 use Rattle.node_shell.specs.Pairs.{first_disks, woven}
 use Rattle.node_shell.specs.Runs.{AllStay, AreNamed, NamesDisks, IsPlayedNumber, number_of_status}
@@ -11,8 +11,7 @@ use Rattle.node_shell.proofs.top.run_network.Goals as goal
 
 pub returns-in_default-clause-story : goal.returns-in_default-clause-story
 returns-in_default-clause-story g c w shows coherent =
-    let m = unjudged g.F.FlowSet.machine g.F.Spelt.reading in
-    let f = g.F.Spelt.reading in
+    let m = meaning g.F.FlowSet.machine g.F.Spelt.reading (g.J.Judge.judges c.args.contracts.now) in
     let n = c.args.network.nodes in
     let notary = party c.args.network.notary in
     let end = c.end_with.ensures in
@@ -22,8 +21,7 @@ returns-in_default-clause-story g c w shows coherent =
 
 pub returns-in-Err-clause-story : goal.returns-in-Err-clause-story
 returns-in-Err-clause-story g c w shows coherent =
-    let m = unjudged g.F.FlowSet.machine g.F.Spelt.reading in
-    let f = g.F.Spelt.reading in
+    let m = meaning g.F.FlowSet.machine g.F.Spelt.reading (g.J.Judge.judges c.args.contracts.now) in
     let n = c.args.network.nodes in
     let notary = party c.args.network.notary in
     let end = c.end_with-in-Err.ensures in
@@ -61,8 +59,7 @@ returns-clause-story g c w shows coherent =
     let back = c.play-status.result.2.items in
     let ends = c.end_with-2.result.disks.items in
     let h : Handed g.B.Disk.seen n olds ready own rest back ends = record { few = c.requires.within.few; all = c.requires.disks; stay = c.attach_all.ensures.stay; taken = c.take_first.ensures.woven; count = c.take_first.ensures.count; same = c.play-status.ensures.count; put = ap (λ v. v.items) c.end_with-2.ensures.1 ∙ c.put_back.ensures } in
-    let m = unjudged g.F.FlowSet.machine g.F.Spelt.reading in
-    let f = g.F.Spelt.reading in
+    let m = meaning g.F.FlowSet.machine g.F.Spelt.reading (g.J.Judge.judges c.args.contracts.now) in
     let notary = party c.args.network.notary in
     let end = c.end_with-2.ensures in
     let stay = own_stay g.B.Disk.seen n olds ready own rest back ends h in
@@ -155,7 +152,7 @@ returns-in_default-clause-went g c =
     let end = c.end_with.ensures in
     let olds = first_disks n (map g.B.Disk.seen c.args.disks.items) in
     let stay : AllStay olds (first_disks n (map g.B.Disk.seen c.end_with.result.disks.items)) = subst (λ l. AllStay olds (first_disks n (map g.B.Disk.seen l))) (sym (ap (λ v. v.items) end.1)) (stay_same olds) in
-    went_unready (unjudged g.F.FlowSet.machine g.F.Spelt.reading) n (party c.args.network.notary) _ _ _ _ _ _ status.NoMemory tt stay end.0 end.2
+    went_unready (meaning g.F.FlowSet.machine g.F.Spelt.reading (g.J.Judge.judges c.args.contracts.now)) n (party c.args.network.notary) _ _ _ _ _ _ status.NoMemory tt stay end.0 end.2
 
 pub returns-in-Err-clause-went : goal.returns-in-Err-clause-went
 returns-in-Err-clause-went g c =
@@ -164,7 +161,7 @@ returns-in-Err-clause-went g c =
     let olds = map g.B.Disk.seen c.args.disks.items in
     let stay : AllStay (first_disks n olds) (first_disks n (map g.B.Disk.seen c.end_with-in-Err.result.disks.items)) =
     first_stay n olds _ (subst (λ l. AllStay olds (map g.B.Disk.seen l)) (sym (ap (λ v. v.items) end.1)) c.attach_all.ensures.stay) in
-    went_unready (unjudged g.F.FlowSet.machine g.F.Spelt.reading) n (party c.args.network.notary) _ _ _ _ _ _ c.in-Err.status c.in-Err.ensures.kinds stay end.0 end.2
+    went_unready (meaning g.F.FlowSet.machine g.F.Spelt.reading (g.J.Judge.judges c.args.contracts.now)) n (party c.args.network.notary) _ _ _ _ _ _ c.in-Err.status c.in-Err.ensures.kinds stay end.0 end.2
 
 pub returns-clause-went : goal.returns-clause-went
 returns-clause-went g c =
@@ -179,7 +176,7 @@ returns-clause-went g c =
     let end = c.end_with-2.ensures in
     let stay = own_stay g.B.Disk.seen n olds ready own rest back ends h in
     let there = last g.B.Disk.seen n olds ready own rest back ends h in
-    went_at (unjudged g.F.FlowSet.machine g.F.Spelt.reading) n (party c.args.network.notary) (first_disks n (map g.B.Disk.seen olds)) (map g.B.Disk.seen own) (map g.B.Disk.seen back) _ _ _ _ _ _ _ _ c.play-status.result.0 there stay end.0 end.2 c.play-status.ensures.went
+    went_at (meaning g.F.FlowSet.machine g.F.Spelt.reading (g.J.Judge.judges c.args.contracts.now)) n (party c.args.network.notary) (first_disks n (map g.B.Disk.seen olds)) (map g.B.Disk.seen own) (map g.B.Disk.seen back) _ _ _ _ _ _ _ _ c.play-status.result.0 there stay end.0 end.2 c.play-status.ensures.went
 
 pub returns-clause-too_long : goal.returns-clause-too_long
 returns-clause-too_long g c =
