@@ -205,7 +205,7 @@ module _ {F : Type 0} (w : Environment F) (me now : ℕ) (sessions : List Sessio
   lapse_as s a is = ap (λ (x : Act F). lapsed w me now at (lapses s now at.flow x)) is
 
   -- an act that is always enabled
-  pub by_move : (a : Act F) → at.waiting ≡ a → enabling sessions at.flow now a ≡ Some (event.Move at.flow) → (s : NodeState F) (ev : Event) → enabled_event sessions now (state.Live at) ≡ Some ev → effect_on w me s now (state.Live at) ev ≡ performed w me s now at a
+  by_move : (a : Act F) → at.waiting ≡ a → enabling sessions at.flow now a ≡ Some (event.Move at.flow) → (s : NodeState F) (ev : Event) → enabled_event sessions now (state.Live at) ≡ Some ev → effect_on w me s now (state.Live at) ev ≡ performed w me s now at a
   by_move a is en s ev h =
       let one : Some (event.Move at.flow) ≡ Some ev = sym en ∙ sym (event_as a is) ∙ h in
       let move : event.Move at.flow ≡ ev = cc in
@@ -320,7 +320,7 @@ module _ {F : Type 0} (m : Machine F) (r : List ℕ → Result (F × List ℕ) �
   IsMeant a meant = (judge : Judgement) (s : NodeState F) → HoldsLedger id.party (ledger_in s) tables → performed (judged judge) id.party.0 s now at a ≡ Some (goes_on (judged judge) id.party.0 now at (meant id.party (ledger_in s)))
 
   -- so it is where the flow goes on with what its act on the ledger is meant to do
-  pub ledger_performs : {E : Type 0} (a : Act F) (meant : Party → LedgerState → Done) (outcome : Result LedgerOutcome E) (res : Result (Step F) E) → at.waiting ≡ a → enabling sessions at.flow now a ≡ Some (event.Move at.flow) → IsMeant a meant → IfOk outcome (Does tables meant) → GoesBy outcome res → AllPerform res
+  ledger_performs : {E : Type 0} (a : Act F) (meant : Party → LedgerState → Done) (outcome : Result LedgerOutcome E) (res : Result (Step F) E) → at.waiting ≡ a → enabling sessions at.flow now a ≡ Some (event.Move at.flow) → IsMeant a meant → IfOk outcome (Does tables meant) → GoesBy outcome res → AllPerform res
   ledger_performs a meant outcome (Err fault) is en means does goes = tt
   ledger_performs a meant outcome (Ok step) is en means does goes = λ judge. record {
     limits = by_bounded outcome step goes;

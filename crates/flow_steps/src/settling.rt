@@ -62,8 +62,8 @@ pub fn take_job<F: FlowSet>(
     }
 }
 
-/// The step by which a flow goes on whose job was run, by this cause, whose event moves that flow. It waits for just this job over what
-/// was recorded at some time; where it does so in a state, the step is the one of that state. The only error is want of memory.
+/// The step by which a flow goes on whose job was run, by this cause, which moves that flow. It is the machine's step in each state in
+/// which the flow waits for just this job, at each judgement that gave the verdict. The only error is want of memory.
 pub fn settle<F: FlowSet>(
     alloc: Global,
     identity: &Identity,
