@@ -86,3 +86,8 @@ returns-in-Ok-clause-attached g c =
 pub returns-in-Err-clause-attached : goal.returns-in-Err-clause-attached
 returns-in-Err-clause-attached g c =
     refused_names (meaning g.F.FlowSet.machine g.F.Spelt.reading (g.J.Judge.judges c.args.contracts.now)) c.args.network.nodes (party c.args.network.notary) (map g.B.Disk.seen c.args.own.items) c.in-Err.refused.node c.in-Err.refused.why _ (c.in-Err.ensures.refused (g.J.Judge.judges c.args.contracts.now))
+
+pub returns-in-Err-clause-count : goal.returns-in-Err-clause-count
+returns-in-Err-clause-count g c =
+    let refusal = c.in-Err.ensures.refused (g.J.Judge.judges c.args.contracts.now) in
+    sym (length-map c.in-Err.refused.disks.items g.B.Disk.seen) ∙ refusal.count ∙ length-map c.args.own.items g.B.Disk.seen
