@@ -10,10 +10,10 @@ use Rattle.net_model.specs.State.{with_ids}
 use Rattle.node_ledger.specs.Ledgered.{HoldsLedger, ledger_in}
 use Rattle.ledger_acts.specs.declared.job.Job.{Job}
 use Rattle.flow_steps.specs.Awaiting.{job_of}
+use Rattle.flow_steps.proofs.Jobs.{job_moves}
 use Rattle.node_tables.specs.Journals.{state_of}
 use Rattle.node_core.specs.Seen.{Tied}
 use Rattle.node_core.proofs.Kept.{all_below, kept_of}
-use Rattle.node_core.proofs.Turns.{job_moves}
 use Rattle.node_core.proofs.up.Up.advance.Goals as goal
 
 pub advance-requires-clause-kept : goal.advance-requires-clause-kept
