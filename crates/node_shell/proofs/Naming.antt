@@ -1,5 +1,5 @@
 -- A script leaves each disk attached as it was.
-use Rattle.std.proofs.Common.{◌≡◌, inl, inr, ⊎_elim, ℕ, List, Bool, true, false, Option, Some, None, refl, sym, ◌∙◌, ap}
+use Rattle.std.proofs.Common.{◌≡◌, inl, inr, ⊎_elim, ℕ, List, Bool, true, false, Option, Some, None, refl, ◌∙◌, ap}
 use Rattle.std.specs.Prelude.{MatchBool}
 use Rattle.net_model.specs.Environment.{Meaning}
 use Rattle.network_core.specs.declared.steps.Outcome.TheVariants as outcome

@@ -1,5 +1,5 @@
 -- A story of networks is one of them together with the worlds that they show, that is one of each alone, and it is one way.
-use Rattle.std.proofs.Common.{◌≡◌, ◌⊎◌, inl, inr, ℕ, List, [], ◌++◌, Bool, true, false, Option, Some, None, refl, sym, subst}
+use Rattle.std.proofs.Common.{◌≡◌, ◌⊎◌, inl, inr, ℕ, List, ◌++◌, Bool, true, false, Option, Some, None, refl, sym, subst}
 use Rattle.std.specs.Prelude.{◌||◌, not, if◌then◌else◌, MatchBool}
 use Rattle.net_base.specs.declared.names.Identity.{Identity}
 use Rattle.net_base.proofs.Options.{some_eq}

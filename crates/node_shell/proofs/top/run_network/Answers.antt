@@ -2,7 +2,7 @@ use Rattle.std.proofs.Common.{◌≡◌, inl, inr, ◌+◌, ◌*◌, length, map
 use Rattle.net_model.specs.Environment.{meaning, party}
 use Rattle.node_shell.specs.declared.statuses.Status.TheVariants as status
 use Rattle.node_shell.specs.Pairs.{first_disks, woven}
-use Rattle.node_shell.specs.Runs.{AllStay, AreNamed, NamesDisks, IsPlayedNumber, number_of_status}
+use Rattle.node_shell.specs.Runs.{AllStay, NamesDisks, IsPlayedNumber, number_of_status}
 use Rattle.node_shell.proofs.Weaving.{woven_count}
 use Rattle.node_shell.proofs.Readying.{stay_same, first_stay, named_none}
 use Rattle.node_shell.proofs.Running.{Handed, back_enough, last, last_count, last_behind, last_second, last_named, own_stay, one_failed}
