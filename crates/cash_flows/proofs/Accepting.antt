@@ -1,23 +1,21 @@
 -- The contract of cash accepts a payment.
-use Rattle.std.specs.Prelude.{◌≡◌, ℕ, ◌+◌, ◌/◌, ◌%◌, ◌<◌, ◌≤◌, ◌^◌, ◌==◌, ◌||◌, not, nat_lt, List, [], ◌∷◌, map, Bool, true, false, None, refl, if◌then◌else◌}
+use Rattle.std.specs.Prelude.{◌≡◌, ℕ, ◌+◌, ◌<◌, ◌≤◌, ◌^◌, ◌==◌, ◌||◌, not, nat_lt, List, [], ◌∷◌, map, Bool, true, false, None, refl, if◌then◌else◌}
 use Rattle.std.specs.List.{AllByRecursion, list_any}
 use Rattle.std.proofs.Common.{arith, ap, ◌∙◌}
-use Rattle.std.proofs.Math.Nat.{div_self, mod-eq_of_lt}
 use Rattle.std.proofs.lemmas.Bool.{ltb-true, ltb-false, eq-eqb, ne_eqb}
 use Rattle.std.proofs.lemmas.List.Sums.{sum_by-cons}
-use Rattle.std.proofs.lemmas.Nat.{pow_pos, pow_below}
 use Rattle.net_base.specs.declared.names.Token.{Token}
 use Rattle.net_base.specs.declared.values.Party.{Party}
-use Rattle.net_base.specs.Parties.{has_party}
 use Rattle.ledger_types.specs.declared.held.Held.{Held}
 use Rattle.ledger_types.specs.declared.state.TxState.{TxState}
 use Rattle.ledger_types.specs.Names.{token_eq}
 use Rattle.ledger_types.specs.Rules.{first_true}
 use Rattle.ledger_types.specs.Vaults.{cash_amount}
 use Rattle.cash_contract.specs.Clauses.{is_worthless, amount_in, value_in, is_conserved, is_taken, signs_spending, loses_value, has_worthless_output, takes_cash, tokens_in, cash_says}
+use Rattle.flow_txs.proofs.Signers.{alone_has}
 use Rattle.flow_machine.specs.declared.acts.Place.{Place}
 use Rattle.cash_flows.specs.declared.pay.Pay.{Pay}
-use Rattle.cash_flows.specs.Making.{alone, cash, left_of, worth}
+use Rattle.cash_flows.specs.Making.{cash, left_of, worth}
 use Rattle.cash_flows.specs.Payment.{payment}
 use Rattle.cash_flows.specs.Accepted.{IsOwn, resolved_of, AcceptedByCash}
 
@@ -74,13 +72,6 @@ conserved p coins here references own le lt other =
     let ins = value_of_own p.token other here.me (token_eq p.token other) refl coins own in
     let outs = value_out here p.token other p.amount p.to (worth coins) (nat_lt p.amount (worth coins)) (token_eq p.token other) refl refl le lt in
     ap not (eq-eqb (value_in other (map (λ h. h.state) coins) + 0) (value_in other (outputs here p.token p.amount p.to (worth coins) (nat_lt p.amount (worth coins))) + 0) (omega (arith, ins, outs)))
-
--- a party alone is in the set of it
-pub alone_has : (me : Party) → me.0 < 16 → has_party (alone me) me.0 ≡ true
-alone_has me is =
-    let small : 2 ^ me.0 % 2 ^ 16 ≡ 2 ^ me.0 = mod-eq_of_lt (pow_below me.0 16 is) in
-    let one : 2 ^ me.0 / 2 ^ me.0 ≡ 1 = div_self (pow_pos me.0) in
-    rw (small, one) refl
 
 -- this party spends its coins
 not_taken : (p : Pay) (all : List Held) (here : Place) (coins : List Held) → here.me.0 < 16 → AllByRecursion (IsOwn p.token here.me) coins → list_any (λ s. is_taken (payment p all here) s.body) (map (λ h. h.state) coins) ≡ false

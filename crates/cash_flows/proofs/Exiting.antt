@@ -10,13 +10,15 @@ use Rattle.ledger_types.specs.declared.held.Held.{Held}
 use Rattle.ledger_types.specs.Names.{party_eq, token_eq}
 use Rattle.ledger_types.specs.Vaults.{cash_amount}
 use Rattle.cash_contract.specs.Clauses.{is_worthless, value_in, value_exited, is_conserved, is_taken, is_unsigned_cash, signs_spending, loses_value, has_worthless_output, has_void_deed, has_unsigned_exit, takes_cash, tokens_in, cash_says}
+use Rattle.flow_txs.proofs.Signers.{alone_has}
 use Rattle.flow_machine.specs.declared.acts.Place.{Place}
 use Rattle.cash_flows.specs.declared.exit.Exit.{Exit}
-use Rattle.cash_flows.specs.Making.{alone, own, cash, left_of, worth}
+use Rattle.flow_txs.specs.Making.{alone}
+use Rattle.cash_flows.specs.Making.{own, cash, left_of, worth}
 use Rattle.cash_flows.specs.Exit.{redemption}
 use Rattle.cash_flows.specs.Accepted.{IsOwn, resolved_of}
 use Rattle.cash_flows.specs.ExitAccepted.{ExitsExactly, ExitIsAccepted, ReservedExitIsAccepted}
-use Rattle.cash_flows.proofs.Accepting.{never, where_same, value_of_own, alone_has, none_refuses}
+use Rattle.cash_flows.proofs.Accepting.{never, where_same, value_of_own, none_refuses}
 use Rattle.cash_flows.proofs.Reserving.{reservation_reaches}
 
 -- ---- value

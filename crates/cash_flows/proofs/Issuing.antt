@@ -5,11 +5,12 @@ use Rattle.std.proofs.lemmas.Bool.{eq-eqb, ne_eqb}
 use Rattle.net_base.specs.declared.names.Token.{Token}
 use Rattle.ledger_types.specs.declared.tx.Resolved.{Resolved}
 use Rattle.cash_contract.specs.Clauses.{is_conserved, loses_value, has_worthless_output, has_void_deed, has_unbacked_issue, tokens_in, value_in, value_issued, value_exited, cash_says}
+use Rattle.flow_txs.proofs.Signers.{alone_has}
 use Rattle.flow_machine.specs.declared.acts.Place.{Place}
 use Rattle.cash_flows.specs.declared.issue.Issue.{Issue}
 use Rattle.cash_flows.specs.Issue.{issuance}
 use Rattle.cash_flows.specs.IssueAccepted.{IssueIsAccepted}
-use Rattle.cash_flows.proofs.Accepting.{never, alone_has, none_refuses}
+use Rattle.cash_flows.proofs.Accepting.{never, none_refuses}
 
 -- what is consumed and referred to
 abbrev nothing : Resolved

@@ -4,3 +4,4 @@ pub mod Accepting
 pub mod Reserving
 pub mod Issuing
 pub mod Exiting
+pub mod Spending

@@ -14,15 +14,13 @@ use Rattle.ledger_types.specs.declared.state.StateData.TheVariants.{Cash}
 use Rattle.ledger_types.specs.Names.{party_eq, token_eq}
 use Rattle.ledger_types.specs.States.{IsStateData}
 use Rattle.ledger_types.specs.Vaults.{IsHeld, is_relevant, is_cash_of, is_coin_of, is_free, cash_amount, coins_of, least_prefix, reserved}
+use Rattle.flow_txs.proofs.Signers.{same_party}
 use Rattle.cash_flows.specs.Making.{worth}
 use Rattle.cash_flows.specs.Accepted.{IsOwn}
 use Rattle.cash_flows.specs.Reserved.{ReservedIsAccepted}
 use Rattle.cash_flows.proofs.Accepting.{accepted_by_cash}
 
 -- ---- coins are own cash
-
-same_party : (p q : Party) → party_eq p q ≡ true → p ≡ q
-same_party p q h = let e = eqb-true p.0 q.0 h in (λ i. record { 0 = e i })
 
 same_token : (a b : Token) → token_eq a b ≡ true → a ≡ b
 same_token a b h =

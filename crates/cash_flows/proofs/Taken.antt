@@ -6,7 +6,8 @@ use Rattle.std.proofs.lemmas.Slice.Eq.{bytes_eq-Decides}
 use Rattle.net_base.specs.declared.values.Moment.{Moment}
 use Rattle.net_base.specs.declared.names.StateRef.{StateRef}
 use Rattle.cash_flows.specs.declared.options.PayOptions.{PayOptions}
-use Rattle.cash_flows.specs.Words.{moment_of, reference_of}
+use Rattle.flow_txs.specs.Words.{reference_of}
+use Rattle.cash_flows.specs.Words.{moment_of}
 use Rattle.cash_flows.specs.Options.{window_between, options_with, named, using_of, ends_at, until_of, starts_at, options_of}
 use Rattle.cash_flows.specs.Orders.{timed, referred, value_of, Stand, TakenInOrder}
 

@@ -7,8 +7,8 @@ use Rattle.net_base.specs.Combining.{mapped_at, pair_at}
 use Rattle.flow_forms.specs.declared.arguments.End.{End}
 use Rattle.flow_forms.specs.declared.arguments.Then.{Then}
 use Rattle.flow_forms.specs.Arguments.{then_of, then_words, word_below, no_words, end_at}
-use Rattle.cash_flows.specs.declared.words.Code.{Code}
-use Rattle.cash_flows.specs.Words.{code_of_word, code, code_at}
+use Rattle.flow_txs.specs.declared.words.Code.{Code}
+use Rattle.flow_txs.specs.Words.{code_of_word, code, code_at}
 
 -- The arguments, in the order of their words: the code and the amount.
 abbrev pub AmountArgs : Type 0

@@ -1,36 +1,29 @@
 -- The exit, class 5: it reserves coins of this party's own token, takes the amount out of circulation by one transaction, and returns its id.
 use Rattle.std.specs.Prelude.{ℕ, nat_lt, List, [], ◌∷◌, map, Option, Some, None, if◌then◌else◌, refl}
+use Rattle.net_base.specs.declared.values.Hash32.{Hash32}
 use Rattle.ledger_types.specs.declared.held.Held.{Held}
 use Rattle.ledger_types.specs.declared.tx.Deed.TheVariants.{CashExit}
 use Rattle.ledger_types.specs.declared.tx.Tx.{Tx}
-use Rattle.ledger_types.specs.declared.value.Value.TheVariants as value
 use Rattle.flow_machine.specs.declared.acts.Act.TheVariants as act
 use Rattle.flow_machine.specs.declared.acts.Resumed.TheVariants as resumed
 use Rattle.flow_forms.specs.declared.calls.Call.TheVariants as call
 use Rattle.flow_forms.specs.declared.forms.Goes.{Goes}
-use Rattle.flow_forms.specs.declared.forms.Goes.TheVariants.{On, Ends, Stops}
+use Rattle.flow_forms.specs.declared.forms.Goes.TheVariants.{On, Stops}
 use Rattle.flow_forms.specs.Usual.{Place, Resumed, Form, unnamed, Numbers, Kept, kept_as, before, option_field, u64_field}
 use Rattle.cash_flows.specs.declared.exit.Exit.{Exit}
 use Rattle.cash_flows.specs.declared.exit.ExitPlace.{ExitPlace}
 use Rattle.cash_flows.specs.declared.exit.ExitPlace.TheVariants.{Reserving, Exiting}
+use Rattle.flow_txs.specs.Concluding.{concluded}
 use Rattle.cash_flows.specs.AmountWords.{AmountArgs}
-use Rattle.cash_flows.specs.Kinds.{code_field, hash_field}
-use Rattle.cash_flows.specs.Making.{salt_of, alone, own, worth, rest_of}
+use Rattle.flow_txs.specs.Kinds.{code_field, hash_field}
+use Rattle.flow_txs.specs.Making.{alone, made}
+use Rattle.cash_flows.specs.Making.{own, worth, rest_of}
 
 -- ---- its transaction
 
 -- The exit by coins: they are the inputs, in their order; the rest alone comes out, for this party, who signs the exit of the amount.
 abbrev pub redemption : Exit → List Held → Place → Tx
-redemption e coins here = record {
-  salt = salt_of here;
-  inputs = map (λ h. h.reference) coins;
-  outputs = rest_of here (own here e.code) e.amount (worth coins);
-  commands = record { deed = CashExit (own here e.code) e.amount; signers = alone here.me } ∷ [];
-  attachments = [];
-  notary = Some here.notary;
-  window = None;
-  references = [];
-}
+redemption e coins here = made (map (λ h. h.reference) coins) (rest_of here (own here e.code) e.amount (worth coins)) (CashExit (own here e.code) e.amount) (alone here.me) here
 
 -- ---- how it begins
 
@@ -54,15 +47,14 @@ reserved e (resumed.Coins coins) here = exits e coins here
 reserved e (resumed.Short sum) here = Stops e 47
 reserved e other here = unnamed e other
 
--- the id of the exit is returned
-abbrev pub exited : Exit → Resumed → Goes ExitPlace Exit
-exited e (resumed.Returned (value.Id x)) = Ends (record e { id = Some x }) (value.Id x)
-exited e other = unnamed e other
+-- its fields with the id of the exit
+abbrev pub with_id : Exit → Hash32 → Exit
+with_id e x = record e { id = Some x }
 
--- how it goes on by where it waits
+-- how it goes on by where it waits; the id of the exit is returned
 abbrev pub moves : ExitPlace → Exit → Resumed → Place → Goes ExitPlace Exit
 moves Reserving e with here = reserved e with here
-moves Exiting e with here = exited e with
+moves Exiting e with here = concluded with_id e with
 
 -- the weight of a frame: finality without a peer, and what comes after it
 abbrev pub weight : ExitPlace → Exit → ℕ

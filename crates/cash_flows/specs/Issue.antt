@@ -1,35 +1,27 @@
 -- The issue, class 3: it makes cash of this party's own token by one transaction, and returns its id.
 use Rattle.std.specs.Prelude.{nat_lt, [], ◌∷◌, Option, Some, None, if◌then◌else◌, refl}
+use Rattle.net_base.specs.declared.values.Hash32.{Hash32}
 use Rattle.ledger_types.specs.declared.tx.Deed.TheVariants.{CashIssue}
 use Rattle.ledger_types.specs.declared.tx.Tx.{Tx}
-use Rattle.ledger_types.specs.declared.value.Value.TheVariants as value
 use Rattle.flow_machine.specs.declared.acts.Act.TheVariants as act
-use Rattle.flow_machine.specs.declared.acts.Resumed.TheVariants as resumed
 use Rattle.flow_forms.specs.declared.calls.Call.TheVariants as call
 use Rattle.flow_forms.specs.declared.forms.Goes.{Goes}
-use Rattle.flow_forms.specs.declared.forms.Goes.TheVariants.{On, Ends}
-use Rattle.flow_forms.specs.Usual.{Place, Resumed, Form, unnamed, Numbers, Kept, kept_as, before, option_field, u64_field}
+use Rattle.flow_forms.specs.declared.forms.Goes.TheVariants.{On}
+use Rattle.flow_forms.specs.Usual.{Place, Form, Numbers, Kept, kept_as, before, option_field, u64_field}
 use Rattle.cash_flows.specs.declared.issue.Issue.{Issue}
 use Rattle.cash_flows.specs.declared.issue.IssuePlace.{IssuePlace}
 use Rattle.cash_flows.specs.declared.issue.IssuePlace.TheVariants.{Issuing}
+use Rattle.flow_txs.specs.Concluding.{concluded}
 use Rattle.cash_flows.specs.AmountWords.{AmountArgs}
-use Rattle.cash_flows.specs.Kinds.{code_field, hash_field}
-use Rattle.cash_flows.specs.Making.{salt_of, alone, own, cash}
+use Rattle.flow_txs.specs.Kinds.{code_field, hash_field}
+use Rattle.flow_txs.specs.Making.{alone, made}
+use Rattle.cash_flows.specs.Making.{own, cash}
 
 -- ---- its transaction
 
 -- The issue: without inputs, cash of the amount of this party's own token, owned by this party, who signs the issue of that amount.
 abbrev pub issuance : Issue → Place → Tx
-issuance i here = record {
-  salt = salt_of here;
-  inputs = [];
-  outputs = cash here (own here i.code) i.amount here.me ∷ [];
-  commands = record { deed = CashIssue (own here i.code) i.amount; signers = alone here.me } ∷ [];
-  attachments = [];
-  notary = Some here.notary;
-  window = None;
-  references = [];
-}
+issuance i here = made [] (cash here (own here i.code) i.amount here.me ∷ []) (CashIssue (own here i.code) i.amount) (alone here.me) here
 
 -- ---- how it begins
 
@@ -43,14 +35,13 @@ begins a here = if nat_lt 0 a.rest.first then Some (record { code = a.first; amo
 abbrev pub issues : Issue → Place → Goes IssuePlace Issue
 issues i here = On Issuing i (act.Sub (call.Finality (issuance i here) []))
 
--- the id of the issue is returned
-abbrev pub issued : Issue → Resumed → Goes IssuePlace Issue
-issued i (resumed.Returned (value.Id x)) = Ends (record i { id = Some x }) (value.Id x)
-issued i other = unnamed i other
+-- its fields with the id of the issue
+abbrev pub with_id : Issue → Hash32 → Issue
+with_id i x = record i { id = Some x }
 
 -- What the machine is. It costs finality without a peer, and what comes after it; its fields have no tag.
 abbrev pub form : Form IssuePlace Issue
-form = record { starts = issues; moves = λ place i with here. issued i with; weight = λ place i. 1; called = λ i. 2300; tags = λ i. [] }
+form = record { starts = issues; moves = λ place i with here. concluded with_id i with; weight = λ place i. 1; called = λ i. 2300; tags = λ i. [] }
 
 -- ---- its bytes
 

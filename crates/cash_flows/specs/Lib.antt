@@ -10,7 +10,6 @@ pub mod PayWords
 pub mod Conserved
 pub mod Accepted
 pub mod Reserved
-pub mod Kinds
 pub mod Issue
 pub mod IssueLaws
 pub mod AmountWords
@@ -18,3 +17,7 @@ pub mod IssueAccepted
 pub mod Exit
 pub mod ExitLaws
 pub mod ExitAccepted
+pub mod Spend
+pub mod SpendLaws
+pub mod SpendWords
+pub mod SpendAccepted

@@ -1,27 +1,14 @@
 -- What the transactions of these flows are made of.
-use Rattle.std.specs.Prelude.{ℕ, ◌-◌, ◌%◌, ◌^◌, List, [], ◌∷◌, ◌++◌, codes, min, nat_lt, sum_by, None, if◌then◌else◌}
-use Rattle.std.specs.Int.{w32}
-use Rattle.component_merkle.specs.Merkle.{digest_of}
-use Rattle.net_base.specs.declared.values.Hash32.{Hash32}
+use Rattle.std.specs.Prelude.{ℕ, ◌-◌, ◌^◌, List, [], ◌∷◌, min, nat_lt, sum_by, if◌then◌else◌}
 use Rattle.net_base.specs.declared.values.Party.{Party}
-use Rattle.net_base.specs.declared.parties.PartySet.{PartySet}
 use Rattle.net_base.specs.declared.names.Token.{Token}
-use Rattle.net_base.specs.Reading.{number}
-use Rattle.net_base.specs.Values.{party}
 use Rattle.ledger_types.specs.declared.state.StateData.TheVariants.{Cash}
 use Rattle.ledger_types.specs.declared.state.TxState.{TxState}
 use Rattle.ledger_types.specs.declared.held.Held.{Held}
 use Rattle.ledger_types.specs.Vaults.{cash_amount}
 use Rattle.flow_machine.specs.declared.acts.Place.{Place}
-use Rattle.cash_flows.specs.declared.words.Code.{Code}
-
--- the salt of a transaction that a flow makes: the digest of "salt", the node, the flow's number, and how often it was resumed before
-abbrev pub salt_of : Place → Hash32
-salt_of here = record { 0 = digest_of (codes "salt" ++ (party here.me ++ (number w32 here.flow ++ number w32 here.step))) }
-
--- the set of one party: of its 16 bits the party's alone is 1
-abbrev pub alone : Party → PartySet
-alone p = record { 0 = 2 ^ p.0 % 2 ^ 16 }
+use Rattle.flow_txs.specs.declared.words.Code.{Code}
+use Rattle.flow_txs.specs.Making.{plain}
 
 -- this party's own token of a code
 abbrev pub own : Place → Code → Token
@@ -29,7 +16,7 @@ own here code = record { issuer = here.me; code = code.0 }
 
 -- cash under the network's notary, without an encumbrance
 abbrev pub cash : Place → Token → ℕ → Party → TxState
-cash here token amount owner = record { body = Cash token amount owner; notary = here.notary; encumbrance = None }
+cash here token amount owner = plain here (Cash token amount owner)
 
 -- the sum of coins
 abbrev pub worth : List Held → ℕ

@@ -1,31 +1,16 @@
 -- The limits of what the transactions of these flows are made of.
-use Rattle.std.specs.Prelude.{ℕ, ◌++◌, List, [], ◌∷◌, ◌^◌, codes, map, Bool, true, false, if◌then◌else◌}
+use Rattle.std.specs.Prelude.{ℕ, List, [], ◌∷◌, map, Bool, true, false, if◌then◌else◌}
 use Rattle.std.specs.List.{AllByRecursion}
-use Rattle.std.specs.Int.{w32}
 use Rattle.std.proofs.Common.{arith}
-use Rattle.std.proofs.Math.Nat.{mod-lt}
-use Rattle.sha2.proofs.Facts256.{length-sha256}
 use Rattle.net_base.specs.declared.names.Token.{Token}
-use Rattle.net_base.specs.declared.values.Party.{Party}
-use Rattle.net_base.specs.Reading.{number}
 use Rattle.net_base.specs.Forms.{ListWithin}
 use Rattle.net_base.specs.Names.{IsStateRef, IsToken}
-use Rattle.net_base.specs.Parties.{IsPartySet}
-use Rattle.net_base.specs.Values.{IsHash, party}
 use Rattle.ledger_types.specs.declared.held.Held.{Held}
 use Rattle.ledger_types.specs.States.{IsTxState}
 use Rattle.ledger_types.specs.Vaults.{IsHeld}
 use Rattle.flow_machine.specs.declared.acts.Place.{Place}
 use Rattle.flow_machine.specs.Limits.{IsPlace}
-use Rattle.cash_flows.specs.Making.{salt_of, alone, cash, left_of}
-
--- a salt has 32 bytes
-pub salt_is : (here : Place) → IsHash (salt_of here)
-salt_is here = length-sha256 (codes "salt" ++ (party here.me ++ (number w32 here.flow ++ number w32 here.step)))
-
--- a set of one party has 16 bits
-pub alone_is : (p : Party) → IsPartySet (alone p)
-alone_is p = mod-lt (2 ^ p.0) (omega arith)
+use Rattle.cash_flows.specs.Making.{cash, left_of}
 
 -- the references of coins
 pub references_are : (coins : List Held) → AllByRecursion IsHeld coins → AllByRecursion IsStateRef (map (λ h. h.reference) coins)

@@ -1,7 +1,7 @@
 -- What may follow the amount of a payment: `from T`, `until T` and `using ID INDEX`, in this order, each at most once.
 use Rattle.std.specs.Prelude.{◌≡◌, ℕ, ◌≤◌, List, [], ◌∷◌, ◌++◌, length, codes, Option, Some, None, IfSome, Result, Bool, true, false, refl, if◌then◌else◌}
 use Rattle.std.specs.Str.{bytes_eq}
-use Rattle.std.proofs.Common.{arith, subst}
+use Rattle.std.proofs.Common.{subst}
 use Rattle.net_base.specs.declared.values.Moment.{Moment}
 use Rattle.net_base.specs.declared.names.StateRef.{StateRef}
 use Rattle.net_base.specs.Forms.{option_of, option_at}
@@ -12,11 +12,11 @@ use Rattle.net_base.specs.Names.{IsStateRef, state_ref, state_ref_at, state_ref_
 use Rattle.net_base.specs.Values.{IsMoment, moment}
 use Rattle.ledger_types.specs.declared.tx.Window.{Window}
 use Rattle.ledger_types.specs.Txs.{IsWindow, window, window_at, window_laws}
-use Rattle.ledger_types.proofs.Sizes.{joined, number32_fits, number64_fits}
-use Rattle.net_base.specs.Reading.{number}
-use Rattle.std.specs.Int.{w32}
+use Rattle.ledger_types.proofs.Sizes.{joined, number64_fits}
 use Rattle.flow_forms.specs.Sizes.{option_fits}
-use Rattle.cash_flows.specs.Words.{moment_of, moment_within, reference_of, reference_within}
+use Rattle.flow_txs.specs.Kinds.{reference_fits}
+use Rattle.flow_txs.specs.Words.{reference_of, reference_within}
+use Rattle.cash_flows.specs.Words.{moment_of, moment_within}
 use Rattle.cash_flows.specs.declared.options.PayOptions.{PayOptions}
 
 -- ---- words
@@ -88,9 +88,6 @@ pay_options_laws = iso_laws pay_options_of (λ o. (o.window, o.reference)) (λ _
 
 pub window_fits : (w : Window) → IsWindow w → length (window w) ≤ 18
 window_fits w h = joined (option_of moment w.from) (option_of moment w.until) 9 9 (option_fits IsMoment moment 8 (λ m is. number64_fits m.0) w.from h.0) (option_fits IsMoment moment 8 (λ m is. number64_fits m.0) w.until h.1)
-
-pub reference_fits : (r : StateRef) → IsStateRef r → length (state_ref r) ≤ 36
-reference_fits r h = joined r.id.0 (number w32 r.index) 32 4 (omega (arith, h.0)) (number32_fits r.index)
 
 -- they have at most 56 bytes
 pub options_few : (o : PayOptions) → ArePayOptions o → length (pay_options o) ≤ 56

@@ -3,7 +3,8 @@ use Rattle.std.specs.Prelude.{◌≡◌, ◌↔◌, ℕ, List, [], ◌∷◌, �
 use Rattle.net_base.specs.declared.values.Moment.{Moment}
 use Rattle.net_base.specs.declared.names.StateRef.{StateRef}
 use Rattle.cash_flows.specs.declared.options.PayOptions.{PayOptions}
-use Rattle.cash_flows.specs.Words.{moment_of, reference_of}
+use Rattle.flow_txs.specs.Words.{reference_of}
+use Rattle.cash_flows.specs.Words.{moment_of}
 use Rattle.cash_flows.specs.Options.{window_between, options_of}
 
 -- the words of a moment that may lack, behind their name

@@ -12,16 +12,16 @@ use Rattle.net_base.specs.Names.{IsStateRef, state_ref, state_ref_at, IsToken, t
 use Rattle.net_base.specs.Values.{IsHash, hash, hash_at, IsParty, party, party_at}
 use Rattle.ledger_types.specs.declared.held.Held.{Held}
 use Rattle.ledger_types.specs.declared.tx.Window.{Window}
-use Rattle.ledger_types.specs.declared.value.Value.TheVariants as value
 use Rattle.ledger_types.specs.Txs.{IsWindow, window, window_at}
 use Rattle.flow_machine.specs.declared.acts.Act.TheVariants as act
 use Rattle.flow_machine.specs.declared.acts.Resumed.TheVariants as resumed
 use Rattle.flow_forms.specs.declared.arguments.Then.{Then}
 use Rattle.flow_forms.specs.declared.calls.Call.TheVariants as call
 use Rattle.flow_forms.specs.declared.forms.Goes.{Goes}
-use Rattle.flow_forms.specs.declared.forms.Goes.TheVariants.{On, Ends, Stops}
+use Rattle.flow_forms.specs.declared.forms.Goes.TheVariants.{On, Stops}
 use Rattle.flow_forms.specs.Usual.{Place, Resumed, Form, unnamed, is_peer}
-use Rattle.cash_flows.specs.declared.words.Code.{Code}
+use Rattle.flow_txs.specs.declared.words.Code.{Code}
+use Rattle.flow_txs.specs.Concluding.{concluded}
 use Rattle.cash_flows.specs.declared.options.PayOptions.{PayOptions}
 use Rattle.cash_flows.specs.declared.pay.Pay.{Pay}
 use Rattle.cash_flows.specs.declared.pay.PayPlace.{PayPlace}
@@ -69,15 +69,14 @@ reserved p (resumed.Coins coins) here = pays p coins here
 reserved p (resumed.Short sum) here = Stops p 47
 reserved p other here = unnamed p other
 
--- the id of the payment is returned
-abbrev pub paid : Pay → Resumed → Goes PayPlace Pay
-paid p (resumed.Returned (value.Id x)) = Ends (record p { id = Some x }) (value.Id x)
-paid p other = unnamed p other
+-- its fields with the id of the payment
+abbrev pub with_id : Pay → Hash32 → Pay
+with_id p x = record p { id = Some x }
 
--- how it goes on by where it waits
+-- how it goes on by where it waits; the id of the payment is returned
 abbrev pub moves : PayPlace → Pay → Resumed → Place → Goes PayPlace Pay
 moves Reserving p with here = reserved p with here
-moves Paying p with here = paid p with
+moves Paying p with here = concluded with_id p with
 
 -- the weight of a frame: finality with one peer, and what comes after it
 abbrev pub weight : PayPlace → Pay → ℕ

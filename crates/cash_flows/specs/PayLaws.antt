@@ -14,7 +14,6 @@ use Rattle.net_base.specs.Fields.{u64_laws, option_laws}
 use Rattle.net_base.specs.Names.{IsStateRef, state_ref, state_ref_laws, token, token_laws}
 use Rattle.net_base.specs.Values.{IsHash, hash, hash_laws, party, party_laws}
 use Rattle.ledger_types.specs.declared.held.Held.{Held}
-use Rattle.ledger_types.specs.declared.value.Value.TheVariants as value
 use Rattle.ledger_types.specs.Txs.{IsWindow, window, window_laws, IsTx}
 use Rattle.ledger_types.specs.Vaults.{IsHeld}
 use Rattle.ledger_types.proofs.Sizes.{joined, code_fits, number64_fits}
@@ -28,12 +27,15 @@ use Rattle.flow_forms.specs.Ways.{BeginsWithin}
 use Rattle.cash_flows.specs.declared.pay.Pay.{Pay}
 use Rattle.cash_flows.specs.declared.pay.PayPlace.{PayPlace}
 use Rattle.cash_flows.specs.declared.pay.PayPlace.TheVariants.{Reserving, Paying}
-use Rattle.cash_flows.specs.Words.{IsCurrency}
-use Rattle.cash_flows.specs.Options.{ArePayOptions, window_fits, reference_fits}
+use Rattle.flow_txs.specs.Words.{IsCurrency}
+use Rattle.flow_txs.specs.Kinds.{reference_fits}
+use Rattle.cash_flows.specs.Options.{ArePayOptions, window_fits}
 use Rattle.cash_flows.specs.Making.{worth}
 use Rattle.cash_flows.specs.Payment.{listed, payment}
-use Rattle.cash_flows.specs.MakingLaws.{salt_is, alone_is, references_are, rest_is}
-use Rattle.cash_flows.specs.Pay.{PayArgs, is_in_range, fields_of, begins, reserved, paid, moves, weight, form, IsPay, pay, pay_of, pay_at, place_number, places}
+use Rattle.flow_txs.specs.MakingLaws.{salt_is, alone_is}
+use Rattle.flow_txs.specs.ConcludingLaws.{concluded_owes}
+use Rattle.cash_flows.specs.MakingLaws.{references_are, rest_is}
+use Rattle.cash_flows.specs.Pay.{PayArgs, is_in_range, fields_of, begins, reserved, with_id, moves, weight, form, IsPay, pay, pay_of, pay_at, place_number, places}
 
 -- its fields' laws
 pub pay_laws : Laws IsPay pay pay_at
@@ -123,18 +125,9 @@ reserved_owes p (resumed.Coins coins) here = record {
 reserved_owes p (resumed.Short sum) here = stops_owes form IsPay 4873 p p (resumed.Short sum) here 47 (omega arith) (omega arith) (λ h small. h) (λ test old. old)
 reserved_owes p other here = unnamed_owes form IsPay 4873 p other here (omega arith)
 
-paid_owes : (p : Pay) (with : Resumed) (here : Place) → Owes form IsPay 1 p with here (paid p with)
-paid_owes p (resumed.Returned (value.Id x)) here = record {
-  limits = λ h small place. ((h.0, (h.1.0, (h.1.1.0, (h.1.1.1.0, (h.1.1.1.1.0, small))))), small);
-  tags = λ test old given. (refl, refl);
-  falls = omega arith;
-  asks = refl;
-}
-paid_owes p other here = unnamed_owes form IsPay 1 p other here (omega arith)
-
 moves_owe : (place : PayPlace) (p : Pay) (with : Resumed) (here : Place) → Owes form IsPay (weight place p) p with here (moves place p with here)
 moves_owe Reserving p with here = reserved_owes p with here
-moves_owe Paying p with here = paid_owes p with here
+moves_owe Paying p with here = concluded_owes form IsPay with_id p with here (λ x h small. (h.0, (h.1.0, (h.1.1.0, (h.1.1.1.0, (h.1.1.1.1.0, small)))))) (λ _. refl)
 
 -- the machine owes nothing more
 pub is_form : IsForm IsPay form

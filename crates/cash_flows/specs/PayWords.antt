@@ -5,7 +5,7 @@ use Rattle.net_base.specs.Reading.{number}
 use Rattle.net_base.specs.Forms.{byte_at, number_at}
 use Rattle.net_base.specs.Combining.{mapped_at, pair_at}
 use Rattle.flow_forms.specs.Arguments.{then_of, then_words, word_below}
-use Rattle.cash_flows.specs.Words.{code_of_word, code, code_at}
+use Rattle.flow_txs.specs.Words.{code_of_word, code, code_at}
 use Rattle.cash_flows.specs.Options.{options_of, pay_options, pay_options_at}
 use Rattle.cash_flows.specs.Pay.{PayArgs}
 

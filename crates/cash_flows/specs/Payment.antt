@@ -7,7 +7,8 @@ use Rattle.ledger_types.specs.declared.tx.Tx.{Tx}
 use Rattle.ledger_types.specs.declared.held.Held.{Held}
 use Rattle.flow_machine.specs.declared.acts.Place.{Place}
 use Rattle.cash_flows.specs.declared.pay.Pay.{Pay}
-use Rattle.cash_flows.specs.Making.{salt_of, alone, cash, worth, rest_of}
+use Rattle.flow_txs.specs.Making.{alone, made}
+use Rattle.cash_flows.specs.Making.{cash, worth, rest_of}
 
 -- the amount for the payee, and the rest
 abbrev pub outputs_of : Pay → ℕ → Place → List TxState
@@ -20,13 +21,4 @@ listed (Some r) = r ∷ []
 
 -- The payment of coins: they are the inputs, in their order; the amount is for the payee and the rest for this party, who signs the move.
 abbrev pub payment : Pay → List Held → Place → Tx
-payment p coins here = record {
-  salt = salt_of here;
-  inputs = map (λ h. h.reference) coins;
-  outputs = outputs_of p (worth coins) here;
-  commands = record { deed = CashMove; signers = alone here.me } ∷ [];
-  attachments = [];
-  notary = Some here.notary;
-  window = p.window;
-  references = listed p.reference;
-}
+payment p coins here = record (made (map (λ h. h.reference) coins) (outputs_of p (worth coins) here) CashMove (alone here.me) here) { window = p.window; references = listed p.reference }

@@ -1,14 +1,15 @@
 //! The exit.
 
 ghost use Rattle.std.specs.Prelude.{◌≡◌, IfOk};
-ghost use Rattle.cash_flows.specs.Exit.{redemption, begins, reserves, exits, reserved, exited, moves, weight, form, kept, numbers};
+ghost use Rattle.cash_flows.specs.Exit.{redemption, begins, reserves, exits, reserved, with_id, moves, weight, form, kept, numbers};
 ghost use Rattle.cash_flows.specs.ExitLaws.{is_form, begins_within};
 
-use crate::making::{own, references, salt_of, signed, with_rest, worth};
-use crate::words::{AmountArgs, Code};
+use crate::making::{own, references, with_rest, worth};
+use crate::words::AmountArgs;
 use flow_forms::{ByWords, Call, Fields, Frame, Goes, Machine, Numbered, Worded};
 use flow_machine::{Act, Place, Resumed};
-use ledger_types::{Deed, HashList, Held, RefList, Tx, Value};
+use flow_txs::{Code, Concludes, alone, concluded, made};
+use ledger_types::{Deed, Held, Tx};
 use net_base::{Boxed, Hash32, ListOf, PartFault, Reader, Spelt, Writer};
 use std::alloc::{AllocError, Global};
 
@@ -45,16 +46,16 @@ fn redemption(alloc: Global, exit: &Exit, coins: &[Held], here: &Place) -> Resul
     ensures { IfOk result (λ t. t ≡ redemption exit.now coins.now here.entry.now) }
 {
     let (token, amount) = (own(here, exit.code), exit.amount);
-    Ok(Tx {
-        salt: salt_of(here),
-        inputs: references(alloc, coins)?,
-        outputs: with_rest(alloc, &[], token, amount, worth(coins), here)?,
-        commands: signed(alloc, Deed::CashExit { token, amount }, here.me)?,
-        attachments: HashList::new(alloc),
-        notary: Some(here.notary),
-        window: None,
-        references: RefList::new(alloc),
-    })
+    let inputs = references(alloc, coins)?;
+    let outputs = with_rest(alloc, &[], token, amount, worth(coins), here)?;
+    made(
+        alloc,
+        inputs,
+        outputs,
+        Deed::CashExit { token, amount },
+        alone(here.me),
+        here,
+    )
 }
 
 impl Exit {
@@ -87,21 +88,15 @@ impl Exit {
             _ => Ok(Goes::unnamed(self, with)),
         }
     }
+}
 
-    fn exited(self, with: &Resumed) -> Gone
-        ensures { result ≡ exited self with.now }
-    {
-        match with {
-            Resumed::Returned {
-                value: Value::Id(id),
-            } => Goes::ends(
-                Exit {
-                    id: Some(*id),
-                    ..self
-                },
-                Value::Id(*id),
-            ),
-            _ => Goes::unnamed(self, with),
+impl Concludes for Exit {
+    ghost with_id = { with_id };
+
+    fn with_id(self, id: Hash32) -> Exit {
+        Exit {
+            id: Some(id),
+            ..self
         }
     }
 }
@@ -159,7 +154,7 @@ impl Machine<ExitPlace> for Exit {
     fn resume(self, alloc: Global, place: ExitPlace, with: &Resumed, here: &Place) -> Moved {
         match place {
             ExitPlace::Reserving => self.reserved(alloc, with, here),
-            ExitPlace::Exiting => Ok(self.exited(with)),
+            ExitPlace::Exiting => Ok(concluded(self, with)),
         }
     }
 

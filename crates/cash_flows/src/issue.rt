@@ -1,14 +1,15 @@
 //! The issue.
 
 ghost use Rattle.std.specs.Prelude.{◌≡◌, IfOk};
-ghost use Rattle.cash_flows.specs.Issue.{issuance, begins, issues, issued, form, kept, numbers};
+ghost use Rattle.cash_flows.specs.Issue.{issuance, begins, issues, with_id, form, kept, numbers};
 ghost use Rattle.cash_flows.specs.IssueLaws.{is_form, begins_within};
 
-use crate::making::{cash, own, salt_of, signed};
-use crate::words::{AmountArgs, Code};
+use crate::making::{cash, own};
+use crate::words::AmountArgs;
 use flow_forms::{ByWords, Call, Fields, Frame, Goes, Machine, Numbered, Worded};
 use flow_machine::{Act, Place, Resumed};
-use ledger_types::{Deed, HashList, RefList, Tx, Value};
+use flow_txs::{Code, Concludes, alone, concluded, made};
+use ledger_types::{Deed, RefList, Tx};
 use net_base::{Boxed, Hash32, ListOf, PartFault, Reader, Spelt, Writer};
 use std::alloc::{AllocError, Global};
 
@@ -43,16 +44,16 @@ fn issuance(alloc: Global, issue: &Issue, here: &Place) -> Result<Tx, AllocError
     ensures { IfOk result (λ t. t ≡ issuance issue.now here.entry.now) }
 {
     let (token, amount) = (own(here, issue.code), issue.amount);
-    Ok(Tx {
-        salt: salt_of(here),
-        inputs: RefList::new(alloc),
-        outputs: ListOf::from_slice(alloc, &[cash(here, token, amount, here.me)])?,
-        commands: signed(alloc, Deed::CashIssue { token, amount }, here.me)?,
-        attachments: HashList::new(alloc),
-        notary: Some(here.notary),
-        window: None,
-        references: RefList::new(alloc),
-    })
+    let outputs = ListOf::from_slice(alloc, &[cash(here, token, amount, here.me)])?;
+    let deed = Deed::CashIssue { token, amount };
+    made(
+        alloc,
+        RefList::new(alloc),
+        outputs,
+        deed,
+        alone(here.me),
+        here,
+    )
 }
 
 impl Issue {
@@ -65,21 +66,15 @@ impl Issue {
         };
         Ok(Goes::on(IssuePlace::Issuing, self, Act::Sub { frame }))
     }
+}
 
-    fn issued(self, with: &Resumed) -> Gone
-        ensures { result ≡ issued self with.now }
-    {
-        match with {
-            Resumed::Returned {
-                value: Value::Id(id),
-            } => Goes::ends(
-                Issue {
-                    id: Some(*id),
-                    ..self
-                },
-                Value::Id(*id),
-            ),
-            _ => Goes::unnamed(self, with),
+impl Concludes for Issue {
+    ghost with_id = { with_id };
+
+    fn with_id(self, id: Hash32) -> Issue {
+        Issue {
+            id: Some(id),
+            ..self
         }
     }
 }
@@ -132,7 +127,7 @@ impl Machine<IssuePlace> for Issue {
     }
 
     fn resume(self, _: Global, _: IssuePlace, with: &Resumed, _: &Place) -> Moved {
-        Ok(self.issued(with))
+        Ok(concluded(self, with))
     }
 
     fn weight(&self, _: IssuePlace) -> u64 {

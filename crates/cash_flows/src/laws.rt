@@ -14,10 +14,14 @@ ghost use Rattle.cash_flows.specs.Issue as issue;
 ghost use Rattle.cash_flows.specs.IssueAccepted.{IssueIsAccepted};
 ghost use Rattle.cash_flows.specs.Exit as exit;
 ghost use Rattle.cash_flows.specs.ExitAccepted.{ExitsExactly, ExitIsAccepted, ReservedExitIsAccepted};
+ghost use Rattle.cash_flows.specs.Spend as spend;
+ghost use Rattle.cash_flows.specs.SpendWords as spend_words;
+ghost use Rattle.cash_flows.specs.SpendAccepted.{SpendIsAccepted};
 
 use crate::exit::{Exit, ExitPlace};
 use crate::issue::{Issue, IssuePlace};
 use crate::pay::{Pay, PayPlace};
+use crate::spend::{Spend, SpendPlace};
 use flow_forms::begins_by_its_words;
 
 /// Words behind the amount are taken exactly where they are `from T`, `until T` and `using ID INDEX`, each there or not, in this order,
@@ -87,4 +91,16 @@ pub fn exit_is_accepted()
 /// that are relevant to this party.
 pub fn reserved_exit_is_accepted()
     ensures { ReservedExitIsAccepted }
+{}
+
+/// The bytes that the words of a spend, `spend ID INDEX P`, give begin a flow by the arguments of these words, where these are in range.
+pub fn spend_begins_by_its_words()
+    ensures { BeginsByWords (codes "spend") 8 spend_words.args_of spend_words.args spend_words.args_at spend.begins }
+{
+    begins_by_its_words::<SpendPlace, Spend>();
+}
+
+/// No clause of the contract of cash refuses a spend of what is cash of this party, at least 1, and has no encumbrance.
+pub fn spend_is_accepted()
+    ensures { SpendIsAccepted }
 {}

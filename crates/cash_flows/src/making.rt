@@ -1,34 +1,14 @@
 //! What the transactions of these flows are made of.
 
-ghost use Rattle.std.specs.Prelude.{◌≡◌, ◌∷◌, ◌++◌, [], IfOk, map};
+ghost use Rattle.std.specs.Prelude.{◌≡◌, ◌++◌, IfOk, map};
 ghost use Rattle.ledger_types.specs.Vaults.{cash_amount};
-ghost use Rattle.cash_flows.specs.Making.{salt_of, alone, own, cash, worth, left_of, rest_of};
+ghost use Rattle.cash_flows.specs.Making.{own, cash, worth, left_of, rest_of};
 
-use crate::words::Code;
-use component_merkle::digest;
 use flow_machine::Place;
-use ledger_types::{Command, CommandList, Deed, Held, RefList, StateData, StateList, TxState};
-use net_base::{Block, Hash32, ListOf, Party, PartySet, Token};
+use flow_txs::{Code, plain};
+use ledger_types::{Held, RefList, StateData, StateList, TxState};
+use net_base::{ListOf, Party, Token};
 use std::alloc::{AllocError, Global};
-
-/// The salt of the transaction that the flow makes at this step.
-pub(crate) fn salt_of(here: &Place) -> Hash32
-    ensures { result ≡ salt_of here.entry.now }
-{
-    let mut text = Block::new();
-    text.put_bytes(b"salt");
-    text.put_u8(here.me.0);
-    text.put_u32(here.flow);
-    text.put_u32(here.step);
-    Hash32(digest(text.bytes()))
-}
-
-/// The set of one party; of a number above 15 the empty one.
-fn alone(party: Party) -> PartySet
-    ensures { result ≡ alone party }
-{
-    PartySet(2u16.wrapping_pow(party.0 as u32))
-}
 
 /// The token of this party and the code.
 pub(crate) fn own(here: &Place, code: Code) -> Token
@@ -45,15 +25,14 @@ pub(crate) fn own(here: &Place, code: Code) -> Token
 pub(crate) fn cash(here: &Place, token: Token, amount: u64, owner: Party) -> TxState
     ensures { result ≡ cash here.entry.now token amount owner }
 {
-    TxState {
-        body: StateData::Cash {
+    plain(
+        here,
+        StateData::Cash {
             token,
             amount,
             owner,
         },
-        notary: here.notary,
-        encumbrance: None,
-    }
+    )
 }
 
 fn cash_amount(state: &StateData) -> u64
@@ -116,15 +95,4 @@ pub(crate) fn with_rest(
         list.push(cash(here, token, left_of(sum, amount), here.me))?;
     }
     Ok(list)
-}
-
-/// The one command of the transaction, signed by the party alone.
-pub(crate) fn signed(alloc: Global, deed: Deed, me: Party) -> Result<CommandList, AllocError>
-    ensures { IfOk result (λ l. l ≡ record { deed = deed; signers = alone me } ∷ []) }
-{
-    let command = Command {
-        deed,
-        signers: alone(me),
-    };
-    ListOf::from_slice(alloc, &[command])
 }

@@ -3,8 +3,9 @@
 ghost use Rattle.std.specs.Prelude.{◌≡◌, map, string_bytes};
 ghost use Rattle.cash_flows.specs.Options.{window_between, options_with, named, using_of, ends_at, until_of, starts_at, options_of, options_within, ArePayOptions, pay_options, pay_options_at, pay_options_laws, options_few};
 
-use crate::words::{moment_of, reference_of};
+use crate::words::moment_of;
 use flow_forms::Arguments;
+use flow_txs::reference_of;
 use ledger_types::Window;
 use net_base::{Moment, PartFault, Reader, Spelt, StateRef, Writer};
 use std::alloc::{AllocError, Global};

@@ -1,15 +1,15 @@
 //! The payment.
 
 ghost use Rattle.std.specs.Prelude.{◌≡◌, IfOk};
-ghost use Rattle.cash_flows.specs.Pay.{is_in_range, fields_of, begins, reserves, pays, reserved, paid, moves, weight, form, pay};
+ghost use Rattle.cash_flows.specs.Pay.{is_in_range, fields_of, begins, reserves, pays, reserved, with_id, moves, weight, form, pay};
 ghost use Rattle.cash_flows.specs.PayLaws.{kept, numbers, is_form, begins_within};
 
 use crate::options::PayOptions;
 use crate::payment::payment;
-use crate::words::Code;
 use flow_forms::{ByWords, Call, Fields, Frame, Goes, Machine, Numbered, Then, Worded, is_peer};
 use flow_machine::{Act, Place, Resumed};
-use ledger_types::{Held, Value, Window};
+use flow_txs::{Code, Concludes, concluded};
+use ledger_types::{Held, Window};
 use net_base::{Boxed, Hash32, ListOf, PartFault, Party, Reader, Spelt, StateRef, Token, Writer};
 use std::alloc::{AllocError, Global};
 
@@ -105,21 +105,15 @@ impl Pay {
             _ => Ok(Goes::unnamed(self, with)),
         }
     }
+}
 
-    fn paid(self, with: &Resumed) -> Gone
-        ensures { result ≡ paid self with.now }
-    {
-        match with {
-            Resumed::Returned {
-                value: Value::Id(id),
-            } => Goes::ends(
-                Pay {
-                    id: Some(*id),
-                    ..self
-                },
-                Value::Id(*id),
-            ),
-            _ => Goes::unnamed(self, with),
+impl Concludes for Pay {
+    ghost with_id = { with_id };
+
+    fn with_id(self, id: Hash32) -> Pay {
+        Pay {
+            id: Some(id),
+            ..self
         }
     }
 }
@@ -185,7 +179,7 @@ impl Machine<PayPlace> for Pay {
     fn resume(self, alloc: Global, place: PayPlace, with: &Resumed, here: &Place) -> Moved {
         match place {
             PayPlace::Reserving => self.reserved(alloc, with, here),
-            PayPlace::Paying => Ok(self.paid(with)),
+            PayPlace::Paying => Ok(concluded(self, with)),
         }
     }
 

@@ -3,10 +3,11 @@
 ghost use Rattle.std.specs.Prelude.{◌≡◌, IfOk};
 ghost use Rattle.cash_flows.specs.Payment.{outputs_of, listed, payment};
 
-use crate::making::{cash, references, salt_of, signed, with_rest, worth};
+use crate::making::{cash, references, with_rest, worth};
 use crate::pay::Pay;
 use flow_machine::Place;
-use ledger_types::{Deed, HashList, Held, RefList, StateList, Tx};
+use flow_txs::{alone, made};
+use ledger_types::{Deed, Held, RefList, StateList, Tx};
 use net_base::{ListOf, StateRef};
 use std::alloc::{AllocError, Global};
 
@@ -36,14 +37,10 @@ pub(crate) fn payment(
 ) -> Result<Tx, AllocError>
     ensures { IfOk result (λ t. t ≡ payment pay.now coins.now here.entry.now) }
 {
-    Ok(Tx {
-        salt: salt_of(here),
-        inputs: references(alloc, coins)?,
-        outputs: outputs(alloc, pay, worth(coins), here)?,
-        commands: signed(alloc, Deed::CashMove, here.me)?,
-        attachments: HashList::new(alloc),
-        notary: Some(here.notary),
-        window: pay.window,
-        references: listed(alloc, pay.reference)?,
-    })
+    let inputs = references(alloc, coins)?;
+    let outputs = outputs(alloc, pay, worth(coins), here)?;
+    let mut tx = made(alloc, inputs, outputs, Deed::CashMove, alone(here.me), here)?;
+    tx.window = pay.window;
+    tx.references = listed(alloc, pay.reference)?;
+    Ok(tx)
 }

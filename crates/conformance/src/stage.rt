@@ -1,11 +1,11 @@
 use super::checks::{Check, Played, first_difference};
 use super::sections::Section;
 use anyhow::{Context, Result, bail, ensure};
+use app_flows::AppFlow;
 use contract_verify::ContractBook;
 use disk_mem::MemDisk;
 use node_shell::run;
 use outside::{Bay, Disk, MemSink, MemSource};
-use shipped_flows::ShippedFlow;
 use std::alloc::{AllocError, Global};
 use std::mem;
 
@@ -141,7 +141,7 @@ impl<'a> Stage<'a> {
         let mut answers = MemSink::new(alloc, ROOM, writes)?;
         let disks = mem::replace(&mut self.disks, Vec::new(alloc));
         ensure!(disks.len() == 32, "no case is under way");
-        let ended = run::<_, _, _, ShippedFlow, _>(
+        let ended = run::<_, _, _, AppFlow, _>(
             alloc,
             words.as_slice(),
             &mut source,

@@ -13,12 +13,12 @@ ghost use Rattle.shell_words.specs.Script.{network_of_words};
 
 mod streams;
 
+use app_flows::AppFlow;
 use cash_contract::Cash;
 use contract_verify::{BoxedContract, ContractBook};
 use disk_mem::MemDisk;
 use node_shell::run;
 use outside::{Sink, Source};
-use shipped_flows::ShippedFlow;
 use small_contracts::{Facts, Ious, Locks};
 use std::alloc::{AllocError, Global};
 use std::io::BufReader;
@@ -74,7 +74,7 @@ fn run_shipped<S: Source, K: Sink>(
     contracts.push(Box::new(alloc, Facts)?)?;
     contracts.push(Box::new(alloc, Ious)?)?;
     let contracts = ContractBook::new(contracts);
-    let ended = run::<_, _, _, ShippedFlow, _>(alloc, words, source, sink, disks, &contracts);
+    let ended = run::<_, _, _, AppFlow, _>(alloc, words, source, sink, disks, &contracts);
     Ok(ended.status)
 }
 

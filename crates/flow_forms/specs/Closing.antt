@@ -21,6 +21,9 @@ use Rattle.flow_forms.specs.Calls.{IsCall, call_tags, call_weight, price, load_o
 use Rattle.flow_forms.specs.Bytes.{Spells, content_of, content_at, content_laws}
 use Rattle.flow_forms.specs.Framed.{framed_at, framed_laws}
 use Rattle.flow_forms.specs.Parts.{Part, is_just, BeginsWell, PartLaws}
+use Rattle.flow_forms.specs.declared.forms.Sum.{Sum}
+use Rattle.flow_forms.specs.declared.forms.Sum.TheVariants as of
+use Rattle.flow_forms.specs.Sums.{sum, either}
 
 -- ---- the set
 
@@ -58,6 +61,14 @@ pub record Opens {F : Type 0} (within : F → Type 0) (part : Part F) (see : Cal
   pub over : (c : Call) → part.over (see c) ≡ false
   pub tags : (test : Tag → Bool) (c : Call) → list_all test (call_tags c) ≡ true → list_all test (part.tags (see c)) ≡ true
   pub limits : (c : Call) → IsCall c → within (see c)
+
+-- a frame of the first part of a sum for each call
+abbrev pub see_first : {A B : Type 0} → (Call → A) → Call → Sum A B
+see_first see c = of.First (see c)
+
+-- frames of calls in the first part are frames of calls in the sum
+pub opens_first : {A B : Type 0} (wa : A → Type 0) (wb : B → Type 0) (one : Part A) (two : Part B) (see : Call → A) → Opens wa one see → Opens (either wa wb) (sum one two) (see_first see)
+opens_first wa wb one two see opens = record { weight = λ c. opens.weight c; over = λ c. opens.over c; tags = λ test c h. opens.tags test c h; limits = λ c h. opens.limits c h }
 
 -- ---- an act with the called frames put in
 

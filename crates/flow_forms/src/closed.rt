@@ -10,6 +10,7 @@ ghost use Rattle.flow_forms.specs.Closing.{seen};
 
 use crate::calls::Call;
 use crate::flows::Flows;
+use crate::forms::Sum;
 use flow_machine::{Act, FlowSet, MakeFault, Place, Resumed, WordFault};
 use net_base::{
     ByteList, Key, PartFault, Reader, Spelt, Writer, read_bytes16, read_u8, write_bytes16,
@@ -19,9 +20,8 @@ use std::marker::{Model, PhantomData};
 
 /// The frames of calls in a part.
 pub trait Opens<F: Flows> {
-    ghost use Rattle.std.specs.Prelude.{◌≡◌, true, IfOk};
+    ghost use Rattle.std.specs.Prelude.{◌≡◌, IfOk};
     ghost use Rattle.flow_forms.specs.declared.calls.Call.{Call};
-    ghost use Rattle.flow_forms.specs.Bytes.{distinct};
     ghost use Rattle.flow_forms.specs.Closing.{Opens};
 
     /// The frame of a call.
@@ -35,11 +35,38 @@ pub trait Opens<F: Flows> {
     fn open(alloc: Global, call: Call) -> Result<F, AllocError>
         ensures { IfOk result (λ f. f ≡ see call) };
 
-    /// No machine's number stands twice in the part.
-    ghost unlike: { distinct F.kinds ≡ true };
-
     /// The frames of calls cost no more than is said of them, and so on.
     ghost opens: { Opens F.within F.part see };
+}
+
+/// How a part becomes a flow set.
+pub trait Closes<F: Flows> {
+    ghost use Rattle.std.specs.Prelude.{◌≡◌, true};
+    ghost use Rattle.flow_forms.specs.Bytes.{distinct};
+
+    /// The frames of its calls.
+    type Calls: Opens<F>;
+
+    /// No machine's number stands twice in the part.
+    ghost unlike: { distinct F.kinds ≡ true };
+}
+
+/// The frames of calls are those that `C` has for the first part of a sum.
+#[derive(Clone, Copy)]
+pub struct InFirst<C> {
+    calls: PhantomData<C>,
+}
+
+impl<A: Flows, B: Flows, C: Opens<A>> Opens<Sum<A, B>> for InFirst<C> {
+    ghost use Rattle.flow_forms.specs.Closing.{see_first, opens_first};
+
+    ghost see = { see_first C.see };
+
+    ghost opens = { opens_first A.within B.within A.part B.part C.see C.opens };
+
+    fn open(alloc: Global, call: Call) -> Result<Sum<A, B>, AllocError> {
+        Ok(Sum::First(C::open(alloc, call)?))
+    }
 }
 
 /// A frame of the flow set that a part and the frames of its calls make. Contracts see the part's frame.
@@ -107,7 +134,7 @@ fn read_whole<F: Flows>(alloc: Global, bytes: &[u8]) -> Result<Option<F>, AllocE
 }
 
 #[tactic(auto, unfolding(crate::specs::Framed::framed_at))]
-impl<F: Flows, C: Opens<F>> Spelt for Closed<F, C> {
+impl<F: Flows, C: Closes<F>> Spelt for Closed<F, C> {
     ghost use Rattle.net_base.specs.Forms.{bytes16};
     ghost use Rattle.flow_forms.specs.Bytes.{content_of, content_at};
     ghost use Rattle.flow_forms.specs.Closing.{closed_laws};
@@ -139,30 +166,30 @@ impl<F: Flows, C: Opens<F>> Spelt for Closed<F, C> {
     }
 }
 
-impl<F: Flows, C: Opens<F>> FlowSet for Closed<F, C> {
+impl<F: Flows, C: Closes<F>> FlowSet for Closed<F, C> {
     ghost use Rattle.flow_forms.specs.Closing.{closed, falls, load_holds, overs_hold, over_fails, keeps_tags, begins_bare, keeps_limits, args_are_short, known_by_name, spells_content};
 
-    ghost machine = { closed F.part C.see };
+    ghost machine = { closed F.part C.Calls.see };
 
-    ghost spells_content = { spells_content C.see F.laws F.contents };
+    ghost spells_content = { spells_content C.Calls.see F.laws F.contents };
 
-    ghost keeps_limits = { keeps_limits F.within F.part C.see F.laws C.opens };
+    ghost keeps_limits = { keeps_limits F.within F.part C.Calls.see F.laws C.Calls.opens };
 
-    ghost falls = { falls F.within F.part C.see F.laws C.opens };
+    ghost falls = { falls F.within F.part C.Calls.see F.laws C.Calls.opens };
 
-    ghost load_holds = { load_holds F.within F.part C.see F.laws C.opens };
+    ghost load_holds = { load_holds F.within F.part C.Calls.see F.laws C.Calls.opens };
 
-    ghost overs_hold = { overs_hold F.within F.part C.see F.laws C.opens };
+    ghost overs_hold = { overs_hold F.within F.part C.Calls.see F.laws C.Calls.opens };
 
-    ghost over_fails = { over_fails F.within F.part C.see F.laws };
+    ghost over_fails = { over_fails F.within F.part C.Calls.see F.laws };
 
-    ghost keeps_tags = { keeps_tags F.within F.part C.see F.laws C.opens };
+    ghost keeps_tags = { keeps_tags F.within F.part C.Calls.see F.laws C.Calls.opens };
 
-    ghost begins_bare = { begins_bare F.within F.part C.see F.laws C.opens };
+    ghost begins_bare = { begins_bare F.within F.part C.Calls.see F.laws C.Calls.opens };
 
-    ghost args_are_short = { args_are_short F.within F.part C.see F.laws };
+    ghost args_are_short = { args_are_short F.within F.part C.Calls.see F.laws };
 
-    ghost known_by_name = { known_by_name F.within F.part C.see F.laws };
+    ghost known_by_name = { known_by_name F.within F.part C.Calls.see F.laws };
 
     fn read_words(
         alloc: Global,
@@ -208,11 +235,11 @@ impl<F: Flows, C: Opens<F>> FlowSet for Closed<F, C> {
 }
 
 /// The act with the called frame put in.
-fn act_in<F: Flows, C: Opens<F>>(
+fn act_in<F: Flows, C: Closes<F>>(
     alloc: Global,
     act: Act<Call>,
 ) -> Result<Act<Closed<F, C>>, AllocError>
-    ensures { IfOk result (λ a. a ≡ act_with C.see act) }
+    ensures { IfOk result (λ a. a ≡ act_with C.Calls.see act) }
 {
     Ok(match act {
         Act::Open { to, class, first } => Act::Open { to, class, first },
@@ -221,7 +248,7 @@ fn act_in<F: Flows, C: Opens<F>>(
         Act::ReceiveBy { key, until } => Act::ReceiveBy { key, until },
         Act::Sleep { until } => Act::Sleep { until },
         Act::Sub { frame } => Act::Sub {
-            frame: Closed::new(C::open(alloc, frame)?),
+            frame: Closed::new(C::Calls::open(alloc, frame)?),
         },
         Act::Verify { tx } => Act::Verify { tx },
         Act::Reserve { token, amount } => Act::Reserve { token, amount },

@@ -19,7 +19,7 @@ mod words;
 pub use arguments::{Argument, Arguments, End, Then};
 pub use begins::{Answers, Begins, ByCall, ByInit, ByWords, Callable, Worded};
 pub use calls::{Call, load_of};
-pub use closed::{Closed, Opens};
+pub use closed::{Closed, Closes, InFirst, Opens};
 pub use copies::copy_option;
 pub use fields::Fields;
 pub use flows::Flows;

@@ -38,7 +38,7 @@ pub use part::{
 };
 pub use parties::PartySet;
 pub use reader::{Extra, Reader, Short};
-pub use records::{FrameList, RecordList, WaitingList};
+pub use records::RecordList;
 pub use spelt::{Spelt, decode, decode_if_spelt, decode_whole, encode, one_spelling};
 pub use tested::{read_below_except, read_positive, read_stamp};
 pub use values::{Hash32, Moment, Party};

@@ -1,4 +1,5 @@
 pub mod Boots
+pub mod Claims
 pub mod Commits
 pub mod Items
 pub mod Judging

@@ -4,3 +4,4 @@ pub mod Idle
 pub mod Seen
 pub mod Takes
 pub mod States
+pub mod Claims

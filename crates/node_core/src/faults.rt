@@ -1,7 +1,8 @@
 //! What the calls of a node answer.
 
 use flow_machine::MakeFault;
-use net_base::{Identity, Party};
+use ledger_acts::Job;
+use net_base::{Boxed, Identity, Party};
 use session_frames::Outgoing;
 use std::alloc::AllocError;
 use thiserror::Error;
@@ -45,6 +46,40 @@ pub enum TurnFault {
     #[error("the node is down")]
     NodeDown,
     /// A flow can go on, and the journal takes no more records, or the last stamp was given.
+    #[error("the journal is full")]
+    Full,
+    /// Out of memory.
+    #[error("out of memory")]
+    Memory,
+    /// A call of the disk failed. The record may stand or not; the node is down.
+    #[error("the disk failed")]
+    Fault,
+}
+
+/// What a turn did at a node whose jobs are run beside it.
+#[derive(Debug, Drop)]
+pub enum SharedTurn {
+    /// No flow, or not the picked one, can go on but by a job that is out.
+    Idle,
+    /// The flow went on.
+    Moved { flow: u32 },
+    /// The chosen flow waits for this job, which is out now. Nothing was committed.
+    Job { job: Boxed<Job> },
+}
+
+/// Why a job that was run was not settled.
+#[derive(Clone, Copy, Debug, PartialEq, Eq, Error)]
+pub enum SettleFault {
+    /// The node is down.
+    #[error("the node is down")]
+    NodeDown,
+    /// The flow isn't live, and `have` is `None`, or it is at another step, `have`, than the job's, `given`.
+    #[error("the flow is no longer at step {given}")]
+    Stale { have: Option<u32>, given: u32 },
+    /// The flow is at the job's step, and waits for another job there, or for none.
+    #[error("flow {flow} does not wait for this job")]
+    Foreign { flow: u32 },
+    /// The journal takes no more records, or the last stamp was given.
     #[error("the journal is full")]
     Full,
     /// Out of memory.

@@ -2,9 +2,12 @@
 
 ghost use Rattle.std.specs.Prelude.{◌≡◌, ◌↔◌, ◌<◌, ◌≤◌, true, false, IsTrue, IsSome, MatchOption, List, [], ℕ, Some, None};
 ghost use Rattle.net_base.specs.Names.{IsIdentity};
-ghost use Rattle.net_model.specs.Environment.{environment, meaning, unjudged};
+ghost use Rattle.signing.specs.Marks.{keyed_mark};
+ghost use Rattle.net_model.specs.Environment.{Judgement, environment, meaning, unjudged};
+ghost use Rattle.ledger_acts.specs.Jobs.{IsRun};
 ghost use Rattle.node_ledger.specs.Ledgered.{HoldsLedger, ledger_in};
 ghost use Rattle.node_tables.specs.Journals.{state_of, causes_of};
+ghost use Rattle.node_core.specs.Claims.{SettleAnswers, TurnAnswersBeside};
 ghost use Rattle.node_core.specs.Disks.{roomless, CutsNow};
 ghost use Rattle.node_core.specs.Seen.{StartAnswers, TurnAnswers, CutAnswers, BootsAs, IsBy, IsMember};
 ghost use Rattle.node_core.specs.States.{disk_in, journal_in, is_fault, seen_in, seen_over, IsDown, IsWhole};
@@ -12,11 +15,15 @@ ghost use Rattle.node_core.specs.Takes.{TakeAnswers, SendAnswers};
 
 use super::faults::CommitFault;
 use super::up::{Up, let_go};
-use super::{BootFault, CutFault, StartFault, TakeFault, Taken, TurnFault, Turned, UnackedFault};
+use super::{
+    BootFault, CutFault, SettleFault, SharedTurn, StartFault, TakeFault, Taken, TurnFault, Turned,
+    UnackedFault,
+};
 use checkpoints::Flows;
 use contract_verify::Judge;
 use flow_machine::FlowSet;
 use flow_steps::flow_in;
+use ledger_acts::Done;
 use ledger_tables::LedgerTables;
 use net_base::{ByteList, Cause, Event, Identity, Moment, Spelt};
 use outside::{Bay, Disk};
@@ -249,6 +256,91 @@ impl<D: Disk, F: FlowSet> Node<D, F> {
             Err(CommitFault::Fault) => {
                 go_down(&mut self.state);
                 Err(TurnFault::Fault)
+            }
+        }
+    }
+
+    /// Lets the picked flow go on, or the one with the least number that can, as `turn_whole` does; but a flow that waits for a job is
+    /// not moved: its job is handed out. Flows that wait for a job that is out are passed over.
+    pub(crate) fn turn_beside(
+        &mut self,
+        alloc: Global,
+        now: Moment,
+        pick: Option<u32>,
+        claims: &[u32],
+    ) -> Result<SharedTurn, TurnFault>
+        requires { IsBy F.reading self.old.journal now.0 }
+        ensures turn { (judge : Judgement) → TurnAnswersBeside (environment (meaning F.machine F.reading judge) self.old.identity) now.0 pick claims.now self.old result self.new }
+        ensures by { IsBy F.reading self.new.journal now.0 }
+    {
+        let State::Up { up } = &mut self.state else {
+            return Err(TurnFault::NodeDown);
+        };
+        let Some(picked) = up.pick_free(&self.identity, claims, now, pick) else {
+            return Ok(SharedTurn::Idle);
+        };
+        if up.awaits(&self.identity, &picked.event) {
+            let Ok(job) = up.hand_out(alloc, &self.identity, now, &picked.event) else {
+                return Err(TurnFault::Memory);
+            };
+            return Ok(SharedTurn::Job { job });
+        }
+        if up.is_full(0) {
+            return Err(TurnFault::Full);
+        }
+        let flow = flow_in(&picked.event);
+        match up.go_on_free(alloc, &self.identity, now, picked) {
+            Ok(()) => Ok(SharedTurn::Moved { flow }),
+            Err(CommitFault::Full) => unreachable!(),
+            Err(CommitFault::Memory) => Err(TurnFault::Memory),
+            Err(CommitFault::Fault) => {
+                go_down(&mut self.state);
+                Err(TurnFault::Fault)
+            }
+        }
+    }
+
+    /// Lets the flow go on whose job was run over these contracts, at a moment that is no less than that of the last cause, and gives
+    /// the flow. What may have changed since the job was handed out is asked again: the record is the machine's step as it is now.
+    ///
+    /// # Errors
+    ///
+    /// `NodeDown` exactly where the node is down; `Stale` exactly where the flow isn't live or is at another step than the job's;
+    /// `Foreign` exactly where it is at that step and doesn't wait for just this job; `Full` exactly where it does and the journal is
+    /// full or the last stamp was given; `Memory`; `Fault` only where the disk's count of faults rose, and the node is then down. After
+    /// any but `Fault` nothing has changed.
+    pub fn settle<J: Judge>(
+        &mut self,
+        alloc: Global,
+        now: Moment,
+        done: Done,
+        contracts: &J,
+    ) -> Result<u32, SettleFault>
+        requires by { IsBy F.reading self.old.journal now.0 }
+        requires run { IsRun (J.judges contracts.now) keyed_mark done }
+        ensures settle { SettleAnswers (environment (meaning F.machine F.reading (J.judges contracts.now)) self.old.identity) now.0 done.job self.old result self.new }
+        ensures by { IsBy F.reading self.new.journal now.0 }
+    {
+        let State::Up { up } = &mut self.state else {
+            let_go(done);
+            return Err(SettleFault::NodeDown);
+        };
+        if let Err(why) = up.check(&self.identity, &done.job) {
+            let_go(done);
+            return Err(why);
+        }
+        if up.is_full(0) {
+            let_go(done);
+            return Err(SettleFault::Full);
+        }
+        let flow = done.job.flow;
+        match up.settle(alloc, &self.identity, now, done, contracts) {
+            Ok(()) => Ok(flow),
+            Err(CommitFault::Full) => unreachable!(),
+            Err(CommitFault::Memory) => Err(SettleFault::Memory),
+            Err(CommitFault::Fault) => {
+                go_down(&mut self.state);
+                Err(SettleFault::Fault)
             }
         }
     }

@@ -49,9 +49,9 @@ const LAST_STAMP: u64 = 9_223_372_036_854_775_807;
 #[derive(Drop)]
 pub struct Up<D: Disk, F: Spelt + Drop> {
     journal: Journal<D>,
-    tables: NodeTables<F>,
+    pub(crate) tables: NodeTables<F>,
     // the flows that a turn need not look at
-    idle: Idle,
+    pub(crate) idle: Idle,
 }
 
 impl<D: Disk, F: Spelt + Drop> Model for Up<D, F> {
@@ -230,7 +230,7 @@ impl<D: Disk, F: FlowSet> Up<D, F> {
     }
 
     /// The stamp of a record over an item of this stamp, 0 without one.
-    fn next_stamp(&self, stamp: u64) -> u64
+    pub fn next_stamp(&self, stamp: u64) -> u64
         requires { stamp < 2 ^ 63 }
         ensures { result ≡ max (state_of F.reading self.now.bodies).stamp stamp + 1 }
     {

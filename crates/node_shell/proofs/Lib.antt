@@ -1,6 +1,7 @@
 pub mod Stories
 pub mod Going
 pub mod Shown
+pub mod TxLines
 pub mod Asked
 pub mod Together
 pub mod Reached

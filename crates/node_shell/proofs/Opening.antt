@@ -32,7 +32,9 @@ use Rattle.node_shell.specs.declared.statuses.Status.TheVariants as status
 use Rattle.node_shell.specs.Responds.{NetLink, NetShort}
 use Rattle.node_shell.specs.Story.{ScriptRun, IsScriptStatus}
 use Rattle.node_shell.specs.Together.{PairLink, PairShort, InPair}
-use Rattle.node_shell.specs.Runs.{over, number_of_status, Plays, PlaysOneWay, GoesOn, Refuses, RunsAs, journal_line, PlaysOrRefuses, RefusedWith, IsOpeningStatus, Fails, OneFails, HasCause, MisfitsAt, StaysBut, KeepsCalm, IsOpened, AfterRefusal, GivesUp, IsUnready, IsToldWhy, KeepsOwn, KeepOwn, IsPlayedStatus, IsPlayedNumber, AllStay, MadeReady, GoesOrHalts, RunsAnyhow}
+use Rattle.shell_words.specs.Script.{network_of_words}
+use Rattle.shell_words.specs.declared.program.NetworkWords.{NetworkWords}
+use Rattle.node_shell.specs.Runs.{over, OfNetwork, number_of_status, Plays, PlaysOneWay, GoesOn, Refuses, RunsAs, journal_line, PlaysOrRefuses, RefusedWith, IsOpeningStatus, Fails, OneFails, HasCause, MisfitsAt, StaysBut, KeepsCalm, IsOpened, AfterRefusal, GivesUp, IsUnready, IsToldWhy, KeepsOwn, KeepOwn, IsPlayedStatus, IsPlayedNumber, AllStay, MadeReady, GoesOrHalts, RunsAnyhow}
 use Rattle.node_shell.proofs.Readying.{fails_since, stays_then, stay_same, stay_then}
 use Rattle.node_shell.proofs.Together.{scripts_are_both}
 use Rattle.node_shell.proofs.Reached.{story_reaches, script_reaches}
@@ -546,3 +548,11 @@ damaged_line node at why line is same =
     let t = decimal at in
     let l : List ℕ = 10 ∷ [] in
     same ∙ sym (append_assoc (a ++ n ++ b) t l ∙ append_assoc (a ++ n) b (t ++ l) ∙ append_assoc a n (b ++ (t ++ l))) ∙ ap (journal_line node) (sym is)
+
+-- what holds of the network that the words ask for
+pub asked_only : (words : List (List ℕ)) (k : NetworkWords) (P : NetworkWords → Type 0) → network_of_words words ≡ Some k → P k → OfNetwork words P
+asked_only words k P asked h n is = subst P (some_eq (sym asked ∙ is)) h
+
+-- words that ask for a network are not refused
+pub not_refused : (words : List (List ℕ)) (k : NetworkWords) → network_of_words words ≡ Some k → network_of_words words ≡ None → ⊥
+not_refused words k asked none = let same : Some k ≡ None = sym asked ∙ none in absurd cc

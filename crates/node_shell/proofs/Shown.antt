@@ -3,17 +3,26 @@ use Rattle.std.proofs.Common.{◌≡◌, ◌⊎◌, inl, inr, ℕ, zero, suc, Bo
 use Rattle.std.proofs.lemmas.Bool.Decides.{nat_tests}
 use Rattle.std.specs.Prelude.{IsTrue, IsSome, MatchOption, Result, Ok, Err, option_map, option_and_then, ◌<◌, nat_lt, slice_index_or}
 use Rattle.std.specs.List.{slice_get}
+use Rattle.std.specs.Option.{option_map_or}
 use Rattle.std.proofs.lemmas.Option.{same_Some}
 use Rattle.std.proofs.lemmas.List.{length-map}
 use Rattle.net_base.specs.declared.causes.Cause.{Cause}
 use Rattle.net_base.specs.declared.names.Identity.{Identity}
+use Rattle.net_base.specs.declared.values.Hash32.{Hash32}
+use Rattle.net_base.specs.declared.values.Party.{Party}
+use Rattle.ledger_types.specs.declared.tx.SignedTx.{SignedTx}
 use Rattle.net_base.proofs.Lists.{get_beside, get_map, map_both, drop_get}
 use Rattle.flow_machine.specs.declared.flows.FlowState.{FlowState}
 use Rattle.flow_machine.specs.declared.flow_set.WordFault.{WordFault}
 use Rattle.flow_machine.specs.declared.flow_set.WordFault.TheVariants as word
-use Rattle.net_model.specs.Environment.{Environment, environment, Meaning}
+use Rattle.net_model.specs.Environment.{Environment, environment, Meaning, party}
 use Rattle.net_model.specs.Runs.{merged, network_of}
 use Rattle.net_model.specs.State.{NodeState}
+use Rattle.net_model.specs.State.{with_ids}
+use Rattle.shell_report.specs.LedgerText.{tx_text, book_text, vault_text, balance_text, ids_of}
+use Rattle.ledger_tables.specs.Ledgers.{Ledger}
+use Rattle.node_ledger.specs.Ledgered.{HoldsLedger, ledger_in}
+use Rattle.node_shell.specs.LedgerPrint.{LedgerQuery, printed_ledger, print_ledger, print_ledger_of, of_vault, of_balance, of_book, of_tx, of_tx_at, with_id, vault_text_at, balance_text_at, book_text_at, tx_text_by, tx_text_in}
 use Rattle.net_model.specs.Print.{printed, print_of, of_flows, of_flow, of_history, node_text, flow_text_at, flow_line, flow_text, flows_text, history_text}
 use Rattle.node_tables.specs.Journals.{Reads, causes_of, state_of}
 use Rattle.node_core.specs.Seen.{NodeSeen}
@@ -21,9 +30,11 @@ use Rattle.network_core.specs.Worlds.{World, NodeWorld, NetSeen, NodeShows, Show
 use Rattle.network_core.proofs.Faithful.{coherent_is_faithful}
 use Rattle.shell_words.specs.declared.commands.Command.{Command}
 use Rattle.shell_words.specs.declared.commands.Command.TheVariants as command
+use Rattle.shell_words.specs.declared.commands.TxName.{TxName}
+use Rattle.shell_words.specs.declared.commands.TxName.TheVariants as name
 use Rattle.node_shell.specs.declared.replies.Reply.{Reply}
-use Rattle.node_shell.specs.Serve.{AtNode, AsksFlow, AsksHistory, RefusesWords, Answers, IsRefused, causes_in, place_of, flow_of, started_by, reply_text}
-use Rattle.node_shell.specs.Responds.{AtSeen, StartsNone, PrintsFlows, PrintsFlow, PrintsHistory, IsShown, causes_up}
+use Rattle.node_shell.specs.Serve.{AtNode, AsksFlow, AsksTx, named_in, tx_query, record_of, AsksHistory, RefusesWords, Answers, IsRefused, causes_in, place_of, flow_of, started_by, reply_text}
+use Rattle.node_shell.specs.Responds.{AtSeen, OfSeen, PrintsVault, PrintsBalance, PrintsBook, PrintsTx, notary_seen, StartsNone, PrintsFlows, PrintsFlow, PrintsHistory, IsShown, causes_up}
 
 -- ---- lists
 
@@ -55,6 +66,18 @@ module _ {F : Type 0} (e : Environment F) (net : NetSeen) (w : World) (shows : S
       by None none is = inl (none_beside net.nodes w.nodes p (sym shows.count) none, is)
       by (Some n) at is = let x = stands p n at in up_or_down x.0 x.1 n.journal x.2.journal is
 
+  -- so where it is asked also whose node it is
+  pub of_node : (p : ℕ) (reply : Reply) (asks : Party → List (List ℕ) → Type 0) (goal : NodeWorld → Type 0) → ((x : NodeWorld) → slice_get w.nodes p ≡ Some x → asks (party p) x.journal → goal x) → OfSeen net p reply asks → AtNode w p reply goal
+  of_node p reply asks goal to shown = by (slice_get net.nodes p) refl shown
+    where
+      up_or_down : (x : NodeWorld) → slice_get w.nodes p ≡ Some x → (me : Party) → me ≡ party p → (journal : Option (List (List ℕ))) → ShowsJournal journal x → MatchOption journal (IsRefused 3 reply) (asks me) → AtNode w p reply goal
+      up_or_down x here me own None s is = inr (x, here, inl (s, is))
+      up_or_down x here me own (Some bodies) s is = inr (x, here, inr (s.0, to x here (subst (λ q. asks q x.journal) own (subst (asks me) (sym s.1) is))))
+
+      by : (o : Option NodeSeen) → slice_get net.nodes p ≡ o → MatchOption o (IsRefused 2 reply) (λ n. MatchOption n.journal (IsRefused 3 reply) (asks n.identity.party)) → AtNode w p reply goal
+      by None none is = inl (none_beside net.nodes w.nodes p (sym shows.count) none, is)
+      by (Some n) at is = let x = stands p n at in up_or_down x.0 x.1 n.identity.party (ap (λ i. i.party) x.2.identity_is) n.journal x.2.journal is
+
 -- ---- what is printed of a coherent world
 
 module _ {F : Type 0} (e : Environment F) (w : World) (coherent : Coherent e w) where
@@ -84,6 +107,23 @@ module _ {F : Type 0} (e : Environment F) (w : World) (coherent : Coherent e w) 
   pub flow_printed : (p f : ℕ) (x : NodeWorld) → slice_get w.nodes p ≡ Some x → printed e (causes_in e w) (of_flow p f) ≡ flow_text f (slice_get (state_of e.frame_at x.journal).flows f)
   unfolding printed
   flow_printed p f x at = ap (λ (net : Option (List (NodeState F))). print_of (merged (causes_in e w)) net (of_flow p f)) net_is ∙ ap (λ (s : Option (NodeState F)). flow_text_at f s) (state_at p x at)
+
+  pub ledger_printed : (q : LedgerQuery) → printed_ledger e (causes_in e w) q ≡ print_ledger (map (λ x. state_of e.frame_at x.journal) w.nodes) q
+  unfolding printed_ledger
+  ledger_printed q = ap (λ (net : Option (List (NodeState F))). print_ledger_of net q) net_is
+
+  pub vault_printed : (p : ℕ) (x : NodeWorld) → slice_get w.nodes p ≡ Some x → printed_ledger e (causes_in e w) (of_vault p) ≡ vault_text_at p (Some (state_of e.frame_at x.journal))
+  vault_printed p x at = ledger_printed (of_vault p) ∙ ap (vault_text_at p) (state_at p x at)
+
+  pub balance_printed : (p : ℕ) (x : NodeWorld) → slice_get w.nodes p ≡ Some x → printed_ledger e (causes_in e w) (of_balance p) ≡ balance_text_at p (Some (state_of e.frame_at x.journal))
+  balance_printed p x at = ledger_printed (of_balance p) ∙ ap (balance_text_at p) (state_at p x at)
+
+  pub book_printed : (p : ℕ) (x : NodeWorld) → slice_get w.nodes p ≡ Some x → printed_ledger e (causes_in e w) (of_book p) ≡ book_text (state_of e.frame_at x.journal).entries
+  book_printed p x at = ledger_printed (of_book p) ∙ ap book_text_at (state_at p x at)
+
+  pub tx_printed : (p : ℕ) (named : TxName) (x : NodeWorld) → slice_get w.nodes p ≡ Some x → printed_ledger e (causes_in e w) (tx_query p named) ≡ tx_text_in (named_in named (with_ids (state_of e.frame_at x.journal).stored))
+  tx_printed p (name.Id id) x at = ledger_printed (of_tx p id) ∙ ap (tx_text_by (with_id id)) (state_at p x at)
+  tx_printed p (name.Place k) x at = ledger_printed (of_tx_at p (record_of k)) ∙ ap (tx_text_by (λ recorded. slice_get recorded (record_of k))) (state_at p x at)
 
   pub history_printed : printed e (causes_in e w) of_history ≡ history_text (merged (causes_in e w))
   unfolding printed
@@ -187,6 +227,31 @@ seen_down net p reply asks n at down is = rw (at, down) is
 pub seen_up : (net : NetSeen) (p : ℕ) (reply : Reply) (asks : List (List ℕ) → Type 0) (n : NodeSeen) (bodies : List (List ℕ)) → slice_get net.nodes p ≡ Some n → n.journal ≡ Some bodies → asks bodies → AtSeen net p reply asks
 seen_up net p reply asks n bodies at up is = rw (at, up) is
 
+-- so where it is asked also whose node it is
+pub of_down : (net : NetSeen) (p : ℕ) (reply : Reply) (asks : Party → List (List ℕ) → Type 0) (n : NodeSeen) → slice_get net.nodes p ≡ Some n → n.journal ≡ None → IsRefused 3 reply → OfSeen net p reply asks
+of_down net p reply asks n at down is = rw (at, down) is
+
+pub of_up : (net : NetSeen) (p : ℕ) (reply : Reply) (asks : Party → List (List ℕ) → Type 0) (n : NodeSeen) (bodies : List (List ℕ)) → slice_get net.nodes p ≡ Some n → n.journal ≡ Some bodies → asks n.identity.party bodies → OfSeen net p reply asks
+of_up net p reply asks n bodies at up is = rw (at, up) is
+
+-- ---- what tables hold is printed
+
+module _ {F : Type 0} (f : Reads F) (me : Party) (bodies : List (List ℕ)) (tables : Ledger) (holds : HoldsLedger me (ledger_in (state_of f bodies)) tables) (reply : Reply) where
+  pub vault_of_tables : reply_text reply ≡ vault_text (ids_of tables.store.list) tables.vault.held → PrintsVault f reply me bodies
+  vault_of_tables is = is ∙ ap (λ l. vault_text (ids_of l) tables.vault.held) holds.store ∙ ap (vault_text (ids_of (with_ids (state_of f bodies).stored))) holds.vault.states
+
+  pub balance_of_tables : reply_text reply ≡ balance_text tables.vault.held → PrintsBalance f reply me bodies
+  balance_of_tables is = is ∙ ap balance_text holds.vault.states
+
+  pub book_of_tables : reply_text reply ≡ book_text tables.book.entries → PrintsBook f reply bodies
+  book_of_tables is = is ∙ ap book_text holds.book
+
+  pub tx_none : (named : TxName) → named_in named tables.store.list ≡ None → IsRefused 12 reply → PrintsTx f named reply bodies
+  tx_none named none is = rw (ap (named_in named) (sym holds.store) ∙ none) is
+
+  pub tx_some : (named : TxName) (found : Hash32 × SignedTx) → named_in named tables.store.list ≡ Some found → reply_text reply ≡ tx_text found.0 found.1 → PrintsTx f named reply bodies
+  tx_some named found some is = rw (ap (named_in named) (sym holds.store) ∙ some) is
+
 -- a refusal that does not depend on the journal
 pub seen_refused : (net : NetSeen) (p : ℕ) (reply : Reply) (code : ℕ) (n : NodeSeen) → slice_get net.nodes p ≡ Some n → (n.journal ≡ None → ⊥) → IsRefused code reply → AtSeen net p reply (λ bodies. IsRefused code reply)
 seen_refused net p reply code n at up is = rw at (by n.journal up)
@@ -230,6 +295,31 @@ module _ {F : Type 0} (e : Environment F) (net : NetSeen) (w : World) (shows : S
       line x here None none is = inl (none, is)
       line x here (Some flow) some is = inr ((flow, some), is ∙ ap (λ o. flow_text f o) (sym some) ∙ sym (flow_printed e w coherent p f x here))
 
+  vault_answers : (p : ℕ) (reply : Reply) → OfSeen net p reply (PrintsVault e.frame_at reply) → AtNode w p reply (λ x. reply_text reply ≡ printed_ledger e (causes_in e w) (of_vault p))
+  vault_answers p reply h = of_node e net w shows p reply (PrintsVault e.frame_at reply) (λ x. reply_text reply ≡ printed_ledger e (causes_in e w) (of_vault p)) (λ x here is. is ∙ sym (vault_printed e w coherent p x here)) h
+
+  balance_answers : (p : ℕ) (reply : Reply) → OfSeen net p reply (PrintsBalance e.frame_at reply) → AtNode w p reply (λ x. reply_text reply ≡ printed_ledger e (causes_in e w) (of_balance p))
+  balance_answers p reply h = of_node e net w shows p reply (PrintsBalance e.frame_at reply) (λ x. reply_text reply ≡ printed_ledger e (causes_in e w) (of_balance p)) (λ x here is. is ∙ sym (balance_printed e w coherent p x here)) h
+
+  book_at : (p : ℕ) (reply : Reply) → AtSeen net p reply (PrintsBook e.frame_at reply) → AtNode w p reply (λ x. reply_text reply ≡ printed_ledger e (causes_in e w) (of_book p))
+  book_at p reply h = at_node e net w shows p reply (PrintsBook e.frame_at reply) (λ x. reply_text reply ≡ printed_ledger e (causes_in e w) (of_book p)) (λ x here is. is ∙ sym (book_printed e w coherent p x here)) h
+
+  -- the notary of the first node is that of the network; without nodes every node is none
+  book_answers : (reply : Reply) → AtSeen net (notary_seen net) reply (PrintsBook e.frame_at reply) → AtNode w e.notary.0 reply (λ x. reply_text reply ≡ printed_ledger e (causes_in e w) (of_book e.notary.0))
+  book_answers reply h = book_at e.notary.0 reply (by net.nodes refl h)
+    where
+      by : (ns : List NodeSeen) → net.nodes ≡ ns → AtSeen net (notary_seen net) reply (PrintsBook e.frame_at reply) → AtSeen net e.notary.0 reply (PrintsBook e.frame_at reply)
+      by [] none is = rw none (rw none at is)
+      by (n ∷ ns) some is = subst (λ p. AtSeen net p reply (PrintsBook e.frame_at reply)) (ap (λ l. option_map_or (λ m. m.identity.notary.0) (slice_get l 0) 0) some ∙ ap (λ i. i.notary.0) (stands e net w shows 0 n (ap (λ l. slice_get l 0) some)).2.identity_is) is
+
+  tx_answers : (p : ℕ) (named : TxName) (reply : Reply) → AtSeen net p reply (PrintsTx e.frame_at named reply) → AtNode w p reply (AsksTx e w p named reply)
+  tx_answers p named reply h = at_node e net w shows p reply (PrintsTx e.frame_at named reply) (AsksTx e w p named reply) (λ x here is. line x here (named_in named (with_ids (state_of e.frame_at x.journal).stored)) refl is) h
+    where
+      line : (x : NodeWorld) → slice_get w.nodes p ≡ Some x → (o : Option (Hash32 × SignedTx)) → named_in named (with_ids (state_of e.frame_at x.journal).stored) ≡ o
+          → MatchOption o (IsRefused 12 reply) (λ found. reply_text reply ≡ tx_text found.0 found.1) → AsksTx e w p named reply x
+      line x here None none is = inl (none, is)
+      line x here (Some found) some is = inr ((found, some), is ∙ ap tx_text_in (sym some) ∙ sym (tx_printed e w coherent p named x here))
+
   history_answers : (reply : Reply) → PrintsHistory e.frame_at net reply → AsksHistory e w reply
   history_answers reply h = by (causes_up e.frame_at net.nodes) refl h
     where
@@ -247,6 +337,10 @@ module _ {F : Type 0} (m : Meaning F) (id : Identity) (net : NetSeen) (w : World
   shown_answers (command.Start node) ws reply h = start_answers meant net w shows coherent (place_of node) (started_by m.machine ws) reply h
   shown_answers (command.Flows node) ws reply h = flows_answer meant net w shows coherent (place_of node) reply h
   shown_answers (command.Flow node flow) ws reply h = flow_answers meant net w shows coherent (place_of node) (flow_of flow) reply h
+  shown_answers (command.Vault node) ws reply h = vault_answers meant net w shows coherent (place_of node) reply h
+  shown_answers (command.Balance node) ws reply h = balance_answers meant net w shows coherent (place_of node) reply h
+  shown_answers command.Book ws reply h = book_answers meant net w shows coherent reply h
+  shown_answers (command.TxLine node named) ws reply h = tx_answers meant net w shows coherent (place_of node) named reply h
   shown_answers command.History ws reply h = history_answers meant net w shows coherent reply h
   shown_answers command.Quit ws reply h = h
   shown_answers command.Unknown ws reply h = h

@@ -1,4 +1,5 @@
 pub mod Pairs
+pub mod LedgerPrint
 pub mod Serve
 pub mod Responds
 pub mod Story

@@ -1,11 +1,19 @@
 -- What a line is answered with over any network, whatever its disks tell and its journals hold: each refusal has its cause in what the network shows.
 use Rattle.std.specs.Prelude.{◌≡◌, ◌⊎◌, ℕ, List, [], ◌∷◌, ◌++◌, Option, Some, None, Result, Ok, Err, IfSome, MatchOption, MatchBool, slice_get, option_map, option_and_then}
+use Rattle.std.specs.Option.{option_map_or}
 use Rattle.net_base.specs.declared.causes.Cause.{Cause}
 use Rattle.flow_machine.specs.declared.flow_set.WordFault.{WordFault}
 use Rattle.flow_machine.specs.declared.flow_set.WordFault.TheVariants as word
+use Rattle.net_base.specs.declared.values.Hash32.{Hash32}
+use Rattle.net_base.specs.declared.values.Party.{Party}
+use Rattle.ledger_types.specs.declared.tx.SignedTx.{SignedTx}
+use Rattle.ledger_types.specs.Stores.{untagged}
+use Rattle.ledger_types.specs.Vaults.{vault_of}
 use Rattle.net_model.specs.Environment.{Meaning}
+use Rattle.net_model.specs.State.{with_ids}
 use Rattle.net_model.specs.Print.{flows_text, flow_line, history_text}
 use Rattle.net_model.specs.Runs.{merged}
+use Rattle.shell_report.specs.LedgerText.{ids_of, vault_text, balance_text, book_text, tx_text}
 use Rattle.node_tables.specs.Journals.{Reads, causes_of, state_of}
 use Rattle.node_core.specs.Seen.{NodeSeen}
 use Rattle.network_core.specs.declared.steps.Outcome.{Outcome}
@@ -16,10 +24,11 @@ use Rattle.network_core.specs.Answers.{Answered, answer_of}
 use Rattle.network_core.specs.Served.{ServesPairs}
 use Rattle.shell_words.specs.declared.commands.Command.{Command}
 use Rattle.shell_words.specs.declared.commands.Command.TheVariants as command
+use Rattle.shell_words.specs.declared.commands.TxName.{TxName}
 use Rattle.shell_words.specs.Script.{has_no_answer, is_readable, words_of, command_of, asked_by}
 use Rattle.node_shell.specs.declared.replies.Reply.{Reply}
 use Rattle.node_shell.specs.declared.replies.Reply.TheVariants.{Silence, Quit, Told}
-use Rattle.node_shell.specs.Serve.{IsRefused, place_of, flow_of, started_by, step_of, reply_text, RepliesTo, Leaves}
+use Rattle.node_shell.specs.Serve.{IsRefused, place_of, flow_of, named_in, started_by, step_of, reply_text, RepliesTo, Leaves}
 
 -- ---- answers that change nothing
 
@@ -51,11 +60,49 @@ causes_up frame_at (n ∷ ns) = option_and_then (λ bodies. option_map (λ lists
 abbrev pub PrintsHistory : {F : Type 0} → Reads F → NetSeen → Reply → Type 0
 PrintsHistory frame_at net reply = MatchOption (causes_up frame_at net.nodes) (IsRefused 3 reply) (λ lists. reply_text reply ≡ history_text (merged lists))
 
+-- a command at a node, which asks also whose node it is
+abbrev pub OfSeen : NetSeen → ℕ → Reply → (Party → List (List ℕ) → Type 0) → Type 0
+OfSeen net p reply asks = MatchOption (slice_get net.nodes p) (IsRefused 2 reply) (λ n. MatchOption n.journal (IsRefused 3 reply) (asks n.identity.party))
+
+-- the lines of the vault of a party by a journal
+abbrev pub PrintsVault : {F : Type 0} → Reads F → Reply → Party → List (List ℕ) → Type 0
+PrintsVault frame_at reply me bodies =
+    let s = state_of frame_at bodies in
+    reply_text reply ≡ vault_text (ids_of (with_ids s.stored)) (vault_of me (untagged (with_ids s.stored)) s.locked)
+
+-- the lines of its balances
+abbrev pub PrintsBalance : {F : Type 0} → Reads F → Reply → Party → List (List ℕ) → Type 0
+PrintsBalance frame_at reply me bodies =
+    let s = state_of frame_at bodies in
+    reply_text reply ≡ balance_text (vault_of me (untagged (with_ids s.stored)) s.locked)
+
+-- the lines of the book of a journal
+abbrev pub PrintsBook : {F : Type 0} → Reads F → Reply → List (List ℕ) → Type 0
+PrintsBook frame_at reply bodies = reply_text reply ≡ book_text (state_of frame_at bodies).entries
+
+-- the line of a transaction of a journal, or that there is none that is so named
+abbrev pub PrintsTx : {F : Type 0} → Reads F → TxName → Reply → List (List ℕ) → Type 0
+PrintsTx frame_at named reply bodies =
+    MatchOption (named_in named (with_ids (state_of frame_at bodies).stored)) (IsRefused 12 reply) (λ found. reply_text reply ≡ tx_text found.0 found.1)
+
+-- the line of a recorded transaction, or that there is none that is so named
+abbrev pub IsLineOf : TxName → List (Hash32 × SignedTx) → Option (List ℕ) → Type 0
+IsLineOf named recorded line =
+    MatchOption line (named_in named recorded ≡ None) (λ text. (found : Hash32 × SignedTx) × (named_in named recorded ≡ Some found) × (text ≡ tx_text found.0 found.1))
+
+-- the place of the notary, as the first node has it; without a node it is no matter which
+abbrev pub notary_seen : NetSeen → ℕ
+notary_seen net = option_map_or (λ n. n.identity.notary.0) (slice_get net.nodes 0) 0
+
 -- the reply to a command that makes no step, by what the network shows
 abbrev pub IsShown : {F : Type 0} → Meaning F → NetSeen → Command → List (List ℕ) → Reply → Type 0
 IsShown m net (command.Start node) words reply = StartsNone net (place_of node) (started_by m.machine words) reply
 IsShown m net (command.Flows node) words reply = AtSeen net (place_of node) reply (PrintsFlows m.frame_at reply)
 IsShown m net (command.Flow node flow) words reply = AtSeen net (place_of node) reply (PrintsFlow m.frame_at (flow_of flow) reply)
+IsShown m net (command.Vault node) words reply = OfSeen net (place_of node) reply (PrintsVault m.frame_at reply)
+IsShown m net (command.Balance node) words reply = OfSeen net (place_of node) reply (PrintsBalance m.frame_at reply)
+IsShown m net command.Book words reply = AtSeen net (notary_seen net) reply (PrintsBook m.frame_at reply)
+IsShown m net (command.TxLine node named) words reply = AtSeen net (place_of node) reply (PrintsTx m.frame_at named reply)
 IsShown m net command.History words reply = PrintsHistory m.frame_at net reply
 IsShown m net command.Quit words reply = reply ≡ Quit
 IsShown m net command.Unknown words reply = IsRefused 1 reply

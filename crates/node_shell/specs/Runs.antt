@@ -1,5 +1,5 @@
 -- A whole run: how the network opened, and how the script went.
-use Rattle.std.specs.Prelude.{◌≡◌, ◌⊎◌, ℕ, ◌*◌, ◌<◌, ◌≤◌, List, [], ◌∷◌, ◌++◌, length, map, Option, Some, None, codes, decimal, true, false, slice_get, ⊤}
+use Rattle.std.specs.Prelude.{◌≡◌, ◌⊎◌, ◌↔◌, ℕ, ◌+◌, ◌*◌, ◌<◌, ◌≤◌, drop, List, [], ◌∷◌, ◌++◌, length, map, Option, Some, None, codes, decimal, true, false, slice_get, ⊤}
 use Rattle.std.specs.Io.KnownBytes.{Appends}
 use Rattle.outside.specs.Disk.{DiskView, IfTold, IsImage}
 use Rattle.outside.specs.Faults.{Rose}
@@ -7,6 +7,7 @@ use Rattle.net_base.specs.declared.causes.Cause.{Cause}
 use Rattle.net_base.specs.declared.names.Identity.{Identity}
 use Rattle.net_base.specs.declared.values.Party.{Party}
 use Rattle.shell_words.specs.declared.program.NetworkWords.{NetworkWords}
+use Rattle.shell_words.specs.Script.{network_of_words}
 use Rattle.disk_journal.specs.Journal.{WasSpelt, journal_of, placed, is_unformatted, formatted, refusal}
 use Rattle.disk_journal.specs.declared.fault.OpenFault.TheVariants as open_fault
 use Rattle.net_model.specs.Environment.{Environment, environment, party, Meaning}
@@ -21,7 +22,7 @@ use Rattle.node_core.specs.Disks.{roomless}
 use Rattle.network_core.specs.Begins.{member, nodes_over, net_over, Begun, BootsUpTo}
 use Rattle.network_core.specs.Acknowledged.{Reaches, Acknowledged, StandsOnce}
 use Rattle.network_core.specs.Drains.{with_world}
-use Rattle.node_shell.specs.Pairs.{own_name}
+use Rattle.node_shell.specs.Pairs.{first_disks, own_name}
 use Rattle.node_shell.specs.declared.statuses.Status.{Status}
 use Rattle.node_shell.specs.declared.statuses.Status.TheVariants as status
 use Rattle.node_shell.specs.Serve.{Link, RunsShort}
@@ -105,11 +106,7 @@ abbrev pub Writes : List ℕ → Option (List ℕ) → Option (List ℕ) → Sta
 Writes line written0 written1 status.BadJournal = Appends written0 written1 line
 Writes line written0 written1 status.NoMemory = written1 ≡ written0
 Writes line written0 written1 status.WriteFault = (front missing : List ℕ) × (line ≡ front ++ missing) × (0 < length missing) × Appends written0 written1 front
-Writes line written0 written1 status.Finished = ⊥
-Writes line written0 written1 status.BadWords = ⊥
-Writes line written0 written1 status.TooLong = ⊥
-Writes line written0 written1 status.ReadFault = ⊥
-Writes line written0 written1 status.DiskFault = ⊥
+Writes line written0 written1 other = ⊥
 
 -- the first opening was refused so: what is written, and the status
 abbrev pub RefusedWith : ℕ → BootFault → Option (List ℕ) → Option (List ℕ) → Status → Type 0
@@ -239,12 +236,7 @@ pub record Refuses {F : Type 0} (e : Environment F) (w : World) (old new : List 
 abbrev pub IsOpeningStatus : Status → Type 0
 IsOpeningStatus status.DiskFault = ⊤
 IsOpeningStatus status.NoMemory = ⊤
-IsOpeningStatus status.Finished = ⊥
-IsOpeningStatus status.BadWords = ⊥
-IsOpeningStatus status.TooLong = ⊥
-IsOpeningStatus status.ReadFault = ⊥
-IsOpeningStatus status.WriteFault = ⊥
-IsOpeningStatus status.BadJournal = ⊥
+IsOpeningStatus other = ⊥
 
 -- the statuses of a first opening that was refused
 abbrev pub IsRefusedStatus : Status → Type 0
@@ -252,32 +244,19 @@ IsRefusedStatus status.DiskFault = ⊤
 IsRefusedStatus status.NoMemory = ⊤
 IsRefusedStatus status.WriteFault = ⊤
 IsRefusedStatus status.BadJournal = ⊤
-IsRefusedStatus status.Finished = ⊥
-IsRefusedStatus status.BadWords = ⊥
-IsRefusedStatus status.TooLong = ⊥
-IsRefusedStatus status.ReadFault = ⊥
+IsRefusedStatus other = ⊥
 
 -- every status but that of refused words
 abbrev pub IsRunStatus : Status → Type 0
 IsRunStatus status.BadWords = ⊥
-IsRunStatus status.DiskFault = ⊤
-IsRunStatus status.NoMemory = ⊤
-IsRunStatus status.WriteFault = ⊤
-IsRunStatus status.BadJournal = ⊤
-IsRunStatus status.Finished = ⊤
-IsRunStatus status.TooLong = ⊤
-IsRunStatus status.ReadFault = ⊤
+IsRunStatus other = ⊤
 
 -- the statuses that come only once all nodes have opened
 abbrev pub IsPlayedStatus : Status → Type 0
 IsPlayedStatus status.Finished = ⊤
 IsPlayedStatus status.TooLong = ⊤
 IsPlayedStatus status.ReadFault = ⊤
-IsPlayedStatus status.BadWords = ⊥
-IsPlayedStatus status.WriteFault = ⊥
-IsPlayedStatus status.DiskFault = ⊥
-IsPlayedStatus status.NoMemory = ⊥
-IsPlayedStatus status.BadJournal = ⊥
+IsPlayedStatus other = ⊥
 
 -- the numbers of these statuses
 abbrev pub IsPlayedNumber : ℕ → Type 0
@@ -340,3 +319,88 @@ pub record RunsAs {F : Type 0} (m : Meaning F) (nodes : ℕ) (notary : Party) (w
   pub status : Status
   pub is : number ≡ number_of_status status
   pub ran : PlaysOrRefuses m nodes notary w old new left0 left1 written0 written1 count status
+
+-- ---- a whole run, whatever its words and its disks
+
+-- what something was before and is after
+pub record Change (A : Type 0) : Type 0 where
+  pub old : A
+  pub new : A
+
+-- What a run was handed and what it left: its words; the disks; what the source has left and what the sink was told, where these tell it; the counts of
+-- faults of both; how many bytes were read; and the number of the status.
+pub record Ran (B : Type 0) : Type 0 where
+  pub words : List (List ℕ)
+  pub disks : Change (List B)
+  pub left : Change (Option (List ℕ))
+  pub written : Change (Option (List ℕ))
+  pub source_faults : Change ℕ
+  pub sink_faults : Change ℕ
+  pub count : ℕ
+  pub status : ℕ
+
+-- so the run ended
+abbrev pub Ends : {B : Type 0} → Ran B → Status → Type 0
+Ends r s = r.status ≡ number_of_status s
+
+-- the disks as contracts see them
+abbrev pub views : {B : Type 0} → (B → DiskView) → Change (List B) → Change (List DiskView)
+views seen disks = record { old = map seen disks.old; new = map seen disks.new }
+
+-- of these the first one of each node
+abbrev pub firsts : ℕ → Change (List DiskView) → Change (List DiskView)
+firsts nodes disks = record { old = first_disks nodes disks.old; new = first_disks nodes disks.new }
+
+-- this holds of the network that the words ask for, where they ask for one
+abbrev pub OfNetwork : List (List ℕ) → (NetworkWords → Type 0) → Type 0
+OfNetwork words P = (n : NetworkWords) → network_of_words words ≡ Some n → P n
+
+-- where the nodes' first disks show a coherent world, the script is a story that begins in it, or a node did not open
+abbrev pub IsStory : {F B : Type 0} → Meaning F → Ran B → Change (List DiskView) → NetworkWords → Type 0
+IsStory m r disks n = (w : World) → Shows (environment_for m n) (over (environment_for m n) w.now disks.old) w → Coherent (environment_for m n) w
+    → RunsAs m n.nodes (party n.notary) w disks.old disks.new r.left.old r.left.new r.written.old r.written.new r.count r.status
+
+-- whatever the disks tell, the script went line by line, or nothing was read
+abbrev pub Went : {F B : Type 0} → Meaning F → Ran B → Change (List DiskView) → NetworkWords → Type 0
+Went m r disks n = RunsAnyhow m n.nodes (party n.notary) disks.old disks.new r.left.old r.left.new r.written.old r.written.new r.count r.status
+
+-- the disks behind those of the nodes are handed back as they were
+abbrev pub KeepsOthers : {B : Type 0} → Change (List B) → NetworkWords → Type 0
+KeepsOthers disks n = drop (2 * n.nodes) disks.new ≡ drop (2 * n.nodes) disks.old
+
+-- the second disk of each node is as it was but for its count of faults and its name
+abbrev pub KeepsSeconds : Change (List DiskView) → NetworkWords → Type 0
+KeepsSeconds disks n = (p : ℕ) (d e : DiskView) → p < n.nodes → slice_get disks.old (2 * p + 1) ≡ Some d → slice_get disks.new (2 * p + 1) ≡ Some e → StaysBut d e
+
+-- nothing was read or written, and the disks are as they were
+pub record IsUntouched {B : Type 0} (r : Ran B) : Type 0 where
+  pub count : r.count ≡ 0
+  pub disks : r.disks.new ≡ r.disks.old
+  pub left : r.left.new ≡ r.left.old
+  pub written : r.written.new ≡ r.written.old
+
+-- why the run ended so: 4 and 5 come only where the source or the sink failed, 6 only where a disk failed that was not calm, 8 only where the first disk of
+-- some node keeps no journal that the node can open, which was told; and where the script was read no opening refuses what its disk keeps
+pub record HasCauses {F B : Type 0} (m : Meaning F) (r : Ran B) (disks : Change (List DiskView)) : Type 0 where
+  pub read_fault : Ends r status.ReadFault → Rose r.source_faults.old r.source_faults.new
+  pub write_fault : Ends r status.WriteFault → Rose r.sink_faults.old r.sink_faults.new
+  pub disk_fault : Ends r status.DiskFault → OfNetwork r.words (λ n. OneFails (2 * n.nodes) disks.old disks.new)
+  pub bad_journal : Ends r status.BadJournal → OfNetwork r.words (λ n. IsToldWhy m.frame_at n.nodes (party n.notary) (firsts n.nodes disks).old (firsts n.nodes disks).new r.written.old r.written.new status.BadJournal)
+  pub own : IsPlayedNumber r.status → OfNetwork r.words (λ n. KeepOwn m.frame_at n.nodes (party n.notary) (firsts n.nodes disks).old)
+
+-- A run. Over disks that show a coherent world it is a story (`story`), over any disks it went line by line or nothing was read (`went`), each status has its
+-- cause (`causes`); 2 is exactly refused words (`words`), which leave everything untouched, and 3 exactly a script that is too long (`too_long`). The 32 disks
+-- come back in order, those of the nodes under their names, the second ones and those behind them as they were. No count of faults falls.
+pub record IsRun {F B : Type 0} (m : Meaning F) (seen : B → DiskView) (r : Ran B) : Type 0 where
+  pub story : OfNetwork r.words (λ n. IsStory m r (firsts n.nodes (views seen r.disks)) n)
+  pub went : OfNetwork r.words (λ n. Went m r (firsts n.nodes (views seen r.disks)) n)
+  pub causes : HasCauses m r (views seen r.disks)
+  pub words : Ends r status.BadWords ↔ (network_of_words r.words ≡ None)
+  pub untouched : network_of_words r.words ≡ None → IsUntouched r
+  pub too_long : Ends r status.TooLong ↔ (r.count ≡ 16777217)
+  pub few : r.count ≤ 16777217
+  pub disks : length r.disks.new ≡ 32
+  pub others : OfNetwork r.words (KeepsOthers r.disks)
+  pub seconds : OfNetwork r.words (KeepsSeconds (views seen r.disks))
+  pub named : OfNetwork r.words (λ n. NamesDisks n.nodes (views seen r.disks).old (views seen r.disks).new r.count r.status)
+  pub later : (r.source_faults.old ≤ r.source_faults.new) × (r.sink_faults.old ≤ r.sink_faults.new)

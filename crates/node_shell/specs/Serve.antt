@@ -7,6 +7,10 @@ use Rattle.flow_machine.specs.declared.flow_set.WordFault.TheVariants as word
 use Rattle.flow_machine.specs.Machine.{Machine}
 use Rattle.net_model.specs.Environment.{Environment}
 use Rattle.net_model.specs.Print.{printed, of_flows, of_flow, of_history}
+use Rattle.net_model.specs.State.{with_ids}
+use Rattle.net_base.specs.declared.values.Hash32.{Hash32}
+use Rattle.ledger_types.specs.declared.tx.SignedTx.{SignedTx}
+use Rattle.node_shell.specs.LedgerPrint.{LedgerQuery, printed_ledger, of_vault, of_balance, of_book, of_tx, of_tx_at, with_id}
 use Rattle.node_tables.specs.Journals.{causes_of, state_of}
 use Rattle.network_core.specs.declared.steps.Outcome.{Outcome}
 use Rattle.network_core.specs.declared.steps.Outcome.TheVariants as outcome
@@ -16,6 +20,8 @@ use Rattle.network_core.specs.Worlds.{World, NodeWorld}
 use Rattle.network_core.specs.Served.{Serve}
 use Rattle.shell_words.specs.declared.commands.Command.{Command}
 use Rattle.shell_words.specs.declared.commands.Command.TheVariants as command
+use Rattle.shell_words.specs.declared.commands.TxName.{TxName}
+use Rattle.shell_words.specs.declared.commands.TxName.TheVariants as name
 use Rattle.shell_words.specs.Script.{has_no_answer, is_readable, words_of, command_of, asked_by, has_mark}
 use Rattle.node_shell.specs.declared.replies.Reply.{Reply}
 use Rattle.node_shell.specs.declared.replies.Reply.TheVariants.{Silence, Quit, Told, Printed}
@@ -89,7 +95,7 @@ flow_of n = min n (2 ^ 32 - 1)
 abbrev pub frame_of : ℕ → ℕ
 frame_of n = min n (2 ^ 32 - 1)
 
--- a class and arguments, where no argument names a recorded transaction: none is recorded yet
+-- a class and arguments; an argument that names a recorded transaction by its place is not taken yet
 abbrev pub unmarked : Bool → Result (ℕ × List ℕ) WordFault → Result (ℕ × List ℕ) WordFault
 unmarked false words = words
 unmarked true (Ok words) = Err word.BadArgs
@@ -118,6 +124,10 @@ step_of m (command.Boot node) words = Some (step.Boot (place_of node))
 step_of m command.Drain words = Some step.Drain
 step_of m (command.Flows node) words = None
 step_of m (command.Flow node flow) words = None
+step_of m (command.Vault node) words = None
+step_of m (command.Balance node) words = None
+step_of m command.Book words = None
+step_of m (command.TxLine node name) words = None
 step_of m command.History words = None
 step_of m command.Quit words = None
 step_of m command.Unknown words = None
@@ -151,6 +161,26 @@ AsksFlow {F} e w p f reply x =
     ((slice_get (state_of e.frame_at x.journal).flows f ≡ None) × IsRefused 11 reply)
     ⊎ (((flow : FlowState F) × (slice_get (state_of e.frame_at x.journal).flows f ≡ Some flow)) × (reply_text reply ≡ printed e (causes_in e w) (of_flow p f)))
 
+-- a place of a recorded transaction, where it is too great the greatest that names one: no node records so many
+abbrev pub record_of : ℕ → ℕ
+record_of k = min k (2 ^ 32 - 1)
+
+-- the recorded transaction that is named
+abbrev pub named_in : TxName → List (Hash32 × SignedTx) → Option (Hash32 × SignedTx)
+named_in (name.Id id) recorded = with_id id recorded
+named_in (name.Place k) recorded = slice_get recorded (record_of k)
+
+-- the query of a transaction of a node
+abbrev pub tx_query : ℕ → TxName → LedgerQuery
+tx_query p (name.Id id) = of_tx p id
+tx_query p (name.Place k) = of_tx_at p (record_of k)
+
+-- the line of a recorded transaction, or that the node recorded none that is so named
+abbrev pub AsksTx : {F : Type 0} → Environment F → World → ℕ → TxName → Reply → NodeWorld → Type 0
+AsksTx e w p named reply x =
+    ((named_in named (with_ids (state_of e.frame_at x.journal).stored) ≡ None) × IsRefused 12 reply)
+    ⊎ (((found : Hash32 × SignedTx) × (named_in named (with_ids (state_of e.frame_at x.journal).stored) ≡ Some found)) × (reply_text reply ≡ printed_ledger e (causes_in e w) (tx_query p named)))
+
 -- the merged causes of all nodes, or that one is down
 abbrev pub AsksHistory : {F : Type 0} → Environment F → World → Reply → Type 0
 AsksHistory e w reply =
@@ -162,6 +192,10 @@ abbrev pub Answers : {F : Type 0} → Environment F → World → Command → Li
 Answers e w (command.Start node) words reply = RefusesWords w (place_of node) (started_by e.machine words) reply
 Answers e w (command.Flows node) words reply = AtNode w (place_of node) reply (λ x. reply_text reply ≡ printed e (causes_in e w) (of_flows (place_of node)))
 Answers e w (command.Flow node flow) words reply = AtNode w (place_of node) reply (AsksFlow e w (place_of node) (flow_of flow) reply)
+Answers e w (command.Vault node) words reply = AtNode w (place_of node) reply (λ x. reply_text reply ≡ printed_ledger e (causes_in e w) (of_vault (place_of node)))
+Answers e w (command.Balance node) words reply = AtNode w (place_of node) reply (λ x. reply_text reply ≡ printed_ledger e (causes_in e w) (of_balance (place_of node)))
+Answers e w command.Book words reply = AtNode w e.notary.0 reply (λ x. reply_text reply ≡ printed_ledger e (causes_in e w) (of_book e.notary.0))
+Answers e w (command.TxLine node named) words reply = AtNode w (place_of node) reply (AsksTx e w (place_of node) named reply)
 Answers e w command.History words reply = AsksHistory e w reply
 Answers e w command.Quit words reply = reply ≡ Quit
 Answers e w command.Unknown words reply = IsRefused 1 reply
@@ -239,5 +273,9 @@ is_quit_command (command.Boot node) = false
 is_quit_command command.Drain = false
 is_quit_command (command.Flows node) = false
 is_quit_command (command.Flow node flow) = false
+is_quit_command (command.Vault node) = false
+is_quit_command (command.Balance node) = false
+is_quit_command command.Book = false
+is_quit_command (command.TxLine node name) = false
 is_quit_command command.History = false
 is_quit_command command.Unknown = false

@@ -6,8 +6,8 @@ ghost use Rattle.network_core.specs.Worlds.{KeepsWorld};
 ghost use Rattle.shell_words.specs.Script.{command_of, is_quit, has_mark};
 ghost use Rattle.shell_words.specs.declared.commands.Command.TheVariants as command;
 ghost use Rattle.flow_machine.specs.Flows.{GivesWords};
-ghost use Rattle.node_shell.specs.Serve.{Comes, LineComes, StepComes, IsRefused, unmarked, place_of, flow_of, frame_of, is_end, is_quit_command};
-ghost use Rattle.node_shell.specs.Responds.{AtSeen, PrintsFlows, PrintsFlow, PrintsHistory, StepResponds, CommandResponds, LineResponds, causes_up, given};
+ghost use Rattle.node_shell.specs.Serve.{Comes, LineComes, StepComes, IsRefused, unmarked, place_of, flow_of, frame_of, record_of, is_end, is_quit_command};
+ghost use Rattle.node_shell.specs.Responds.{AtSeen, PrintsFlows, PrintsFlow, OfSeen, PrintsVault, PrintsBalance, PrintsBook, PrintsTx, IsLineOf, notary_seen, PrintsHistory, StepResponds, CommandResponds, LineResponds, causes_up, given};
 
 use super::replies::Reply;
 use contract_verify::Judge;
@@ -16,9 +16,13 @@ use net_base::{ByteList, CauseList, Moment};
 use network_core::{Net, Outcome, Step};
 use node_core::Node;
 use outside::Bay;
-use shell_report::{copy_causes, flow_text, flows_text, history_text};
-use shell_words::{Command, command_of, has_mark, has_no_answer, is_readable, words_of};
+use shell_report::{
+    balance_text, book_text, copy_causes, flow_text, flows_text, history_text, tx_text_at,
+    tx_text_of, vault_text,
+};
+use shell_words::{Command, TxName, command_of, has_mark, has_no_answer, is_readable, words_of};
 use std::alloc::{AllocError, Global};
+use tx_store::Store;
 
 /// The place of a node of this number; one that is too great is none's.
 fn place_of(node: u64) -> u8
@@ -37,6 +41,13 @@ fn flow_of(flow: u64) -> u32
 /// The place of a waiting frame; one that is too great is none's.
 fn frame_of(place: u64) -> u32
     ensures { result ≡ frame_of place }
+{
+    place.min(u32::MAX as u64) as u32
+}
+
+/// The place of a recorded transaction; one that is too great is none's.
+fn record_of(place: u64) -> u32
+    ensures { result ≡ record_of place }
 {
     place.min(u32::MAX as u64) as u32
 }
@@ -167,6 +178,105 @@ fn print_flow<B: Bay, F: FlowSet>(
     }
 }
 
+/// The lines of a node's vault.
+fn print_vault<B: Bay, F: FlowSet>(
+    alloc: Global,
+    net: &Net<B, F>,
+    place: u8,
+) -> Result<Reply, AllocError>
+    ensures asks { IfOk result (λ reply. OfSeen net.entry.now place reply (PrintsVault F.reading reply)) }
+    ensures goes_on { IfOk result (λ reply. is_end reply ≡ false) }
+{
+    let Some(node) = net.nodes().get(place as usize) else {
+        return Ok(refused(2));
+    };
+    match node.ledger() {
+        None => Ok(refused(3)),
+        Some(ledger) => {
+            let text = vault_text(alloc, ledger.store(), ledger.vault())?;
+            Ok(Reply::Printed(text))
+        }
+    }
+}
+
+/// The lines of a node's balances.
+fn print_balance<B: Bay, F: FlowSet>(
+    alloc: Global,
+    net: &Net<B, F>,
+    place: u8,
+) -> Result<Reply, AllocError>
+    ensures asks { IfOk result (λ reply. OfSeen net.entry.now place reply (PrintsBalance F.reading reply)) }
+    ensures goes_on { IfOk result (λ reply. is_end reply ≡ false) }
+{
+    let Some(node) = net.nodes().get(place as usize) else {
+        return Ok(refused(2));
+    };
+    match node.ledger() {
+        None => Ok(refused(3)),
+        Some(ledger) => Ok(Reply::Printed(balance_text(alloc, ledger.vault())?)),
+    }
+}
+
+/// The place of the notary.
+fn notary_of<B: Bay, F: FlowSet>(net: &Net<B, F>) -> u8
+    ensures { result ≡ notary_seen net.entry.now }
+{
+    match net.nodes().get(0) {
+        None => 0,
+        Some(node) => node.identity().notary.0,
+    }
+}
+
+/// The lines of a node's book.
+fn print_book<B: Bay, F: FlowSet>(
+    alloc: Global,
+    net: &Net<B, F>,
+    place: u8,
+) -> Result<Reply, AllocError>
+    ensures asks { IfOk result (λ reply. AtSeen net.entry.now place reply (PrintsBook F.reading reply)) }
+    ensures goes_on { IfOk result (λ reply. is_end reply ≡ false) }
+{
+    let Some(node) = net.nodes().get(place as usize) else {
+        return Ok(refused(2));
+    };
+    match node.ledger() {
+        None => Ok(refused(3)),
+        Some(ledger) => Ok(Reply::Printed(book_text(alloc, ledger.book())?)),
+    }
+}
+
+/// The line of a recorded transaction, with its end; `None` where none is so named.
+fn tx_line(alloc: Global, store: &Store, name: &TxName) -> Result<Option<String>, AllocError>
+    ensures { IfOk result (λ line. IsLineOf name.now store.now.list (option_map (λ s. string_bytes s) line)) }
+{
+    match name {
+        TxName::Id(id) => tx_text_of(alloc, store, id),
+        TxName::Place(k) => tx_text_at(alloc, store, record_of(*k)),
+    }
+}
+
+/// The line of a node's transaction.
+fn print_tx<B: Bay, F: FlowSet>(
+    alloc: Global,
+    net: &Net<B, F>,
+    place: u8,
+    name: &TxName,
+) -> Result<Reply, AllocError>
+    ensures asks { IfOk result (λ reply. AtSeen net.entry.now place reply (PrintsTx F.reading name.now reply)) }
+    ensures goes_on { IfOk result (λ reply. is_end reply ≡ false) }
+{
+    let Some(node) = net.nodes().get(place as usize) else {
+        return Ok(refused(2));
+    };
+    match node.ledger() {
+        None => Ok(refused(3)),
+        Some(ledger) => match tx_line(alloc, ledger.store(), name)? {
+            None => Ok(refused(12)),
+            Some(line) => Ok(Reply::Printed(line)),
+        },
+    }
+}
+
 /// The causes of all nodes' journals; `None` where a node is down.
 fn all_causes<B: Bay, F: FlowSet>(
     alloc: Global,
@@ -265,6 +375,10 @@ fn serve<B: Bay, F: FlowSet, J: Judge>(
         Command::Drain => make(alloc, net, &Step::Drain, contracts),
         Command::Flows { node } => print_flows(alloc, net, place_of(node)),
         Command::Flow { node, flow } => print_flow(alloc, net, place_of(node), flow_of(flow)),
+        Command::Vault { node } => print_vault(alloc, net, place_of(node)),
+        Command::Balance { node } => print_balance(alloc, net, place_of(node)),
+        Command::Book => print_book(alloc, net, notary_of(net)),
+        Command::TxLine { node, name } => print_tx(alloc, net, place_of(node), &name),
         Command::History => print_history(alloc, net),
         Command::Quit => Ok(Reply::Quit),
         Command::Unknown => Ok(refused(1)),

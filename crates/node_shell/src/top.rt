@@ -7,7 +7,7 @@ ghost use Rattle.network_core.specs.Worlds.{World, Shows, Coherent};
 ghost use Rattle.shell_words.specs.Script.{network_of_words, IsNetwork};
 ghost use Rattle.shell_words.specs.declared.program.NetworkWords.{NetworkWords};
 ghost use Rattle.node_shell.specs.Pairs.{first_disks};
-ghost use Rattle.node_shell.specs.Runs.{RunsAs, RunsAnyhow, PlaysOrRefuses, GoesOrHalts, OneFails, IsToldWhy, KeepOwn, StaysBut, NamesDisks, IsPlayedStatus, IsPlayedNumber, IsRunStatus, number_of_status, environment_for, over};
+ghost use Rattle.node_shell.specs.Runs.{RunsAs, RunsAnyhow, PlaysOrRefuses, GoesOrHalts, OneFails, IsToldWhy, KeepOwn, StaysBut, NamesDisks, IsPlayedStatus, IsPlayedNumber, IsRunStatus, number_of_status, IsRun, environment_for, over};
 
 use super::disks::{put_back, take_first};
 use super::openings::{attach_all, refuse};
@@ -128,7 +128,11 @@ fn run_network<S: Source, K: Sink, B: Bay, F: FlowSet, J: Judge>(
 ///
 /// Over disks that show a coherent world the script is one way of the network together with that world (`scripts_are_ways`). So at every
 /// moment of it, also within any call of a disk in the middle of a line, whichever image a power loss leaves of each disk, the journals are
-/// those of one run, and what was acknowledged before stands there once. Of the openings before it this is not said.
+/// those of one run, and what was acknowledged before stands there once. At every such moment, and after every line, the laws of
+/// `ledger_laws` hold of these journals (`story_laws::ledgers_hold_in_scripts`): each state has at most one consumer in the notary's book,
+/// each tag by the notary is over an id that the book signed, the back-chain of each recorded transaction is whole, and no two recorded
+/// transactions of different ids have an input in common, where the digests of what was hashed to sign them do not collide. Of the
+/// openings before it this is not said.
 pub fn run<S: Source, K: Sink, B: Bay, F: FlowSet, J: Judge>(
     alloc: Global,
     words: &[String],
@@ -138,22 +142,16 @@ pub fn run<S: Source, K: Sink, B: Bay, F: FlowSet, J: Judge>(
     contracts: &J,
 ) -> Ended<B>
     requires { length disks.items ≡ 32 }
-    ensures story { (n : NetworkWords) → network_of_words (map (λ s. string_bytes s) words.now) ≡ Some n → let e = environment_for (meaning F.machine F.reading (J.judges contracts.now)) n in let old = first_disks n.nodes (map B.seen disks.items) in let new = first_disks n.nodes (map B.seen result.disks.items) in (w : World) → Shows e (over e w.now old) w → Coherent e w
-        → RunsAs (meaning F.machine F.reading (J.judges contracts.now)) n.nodes (party n.notary) w old new (S.left source.old) (S.left source.new) (K.written sink.old) (K.written sink.new) result.bytes_read result.status }
-    ensures went { (n : NetworkWords) → network_of_words (map (λ s. string_bytes s) words.now) ≡ Some n → RunsAnyhow (meaning F.machine F.reading (J.judges contracts.now)) n.nodes (party n.notary) (first_disks n.nodes (map B.seen disks.items)) (first_disks n.nodes (map B.seen result.disks.items)) (S.left source.old) (S.left source.new) (K.written sink.old) (K.written sink.new) result.bytes_read result.status }
-    ensures words { (result.status ≡ 2) ↔ (network_of_words (map (λ s. string_bytes s) words.now) ≡ None) }
-    ensures untouched { network_of_words (map (λ s. string_bytes s) words.now) ≡ None → (result.bytes_read ≡ 0) × (result.disks.items ≡ disks.items) × (S.left source.new ≡ S.left source.old) × (K.written sink.new ≡ K.written sink.old) }
-    ensures disks { (length result.disks.items ≡ 32) × ((n : NetworkWords) → network_of_words (map (λ s. string_bytes s) words.now) ≡ Some n → drop (2 * n.nodes) result.disks.items ≡ drop (2 * n.nodes) disks.items) }
-    ensures named { (n : NetworkWords) → network_of_words (map (λ s. string_bytes s) words.now) ≡ Some n → NamesDisks n.nodes (map B.seen disks.items) (map B.seen result.disks.items) result.bytes_read result.status }
-    ensures second { (n : NetworkWords) → network_of_words (map (λ s. string_bytes s) words.now) ≡ Some n → (p : ℕ) (d e : DiskView) → p < n.nodes → slice_get (map B.seen disks.items) (2 * p + 1) ≡ Some d → slice_get (map B.seen result.disks.items) (2 * p + 1) ≡ Some e → StaysBut d e }
-    ensures own { IsPlayedNumber result.status → (n : NetworkWords) → network_of_words (map (λ s. string_bytes s) words.now) ≡ Some n → KeepOwn F.reading n.nodes (party n.notary) (first_disks n.nodes (map B.seen disks.items)) }
-    ensures too_long { (result.status ≡ 3) ↔ (result.bytes_read ≡ 16777217) }
-    ensures few { result.bytes_read ≤ 16777217 }
-    ensures read_fault { result.status ≡ 4 → Rose (S.faults source.old) (S.faults source.new) }
-    ensures disk_fault { result.status ≡ 6 → (n : NetworkWords) → network_of_words (map (λ s. string_bytes s) words.now) ≡ Some n → OneFails (2 * n.nodes) (map B.seen disks.items) (map B.seen result.disks.items) }
-    ensures bad_journal { result.status ≡ 8 → (n : NetworkWords) → network_of_words (map (λ s. string_bytes s) words.now) ≡ Some n → IsToldWhy F.reading n.nodes (party n.notary) (first_disks n.nodes (map B.seen disks.items)) (first_disks n.nodes (map B.seen result.disks.items)) (K.written sink.old) (K.written sink.new) Status.BadJournal }
-    ensures write_fault { result.status ≡ 5 → Rose (K.faults sink.old) (K.faults sink.new) }
-    ensures later { (S.faults source.old ≤ S.faults source.new) × (K.faults sink.old ≤ K.faults sink.new) }
+    ensures run { IsRun (meaning F.machine F.reading (J.judges contracts.now)) B.seen (record {
+      words = map (λ s. string_bytes s) words.now;
+      disks = record { old = disks.items; new = result.disks.items };
+      left = record { old = S.left source.old; new = S.left source.new };
+      written = record { old = K.written sink.old; new = K.written sink.new };
+      source_faults = record { old = S.faults source.old; new = S.faults source.new };
+      sink_faults = record { old = K.faults sink.old; new = K.faults sink.new };
+      count = result.bytes_read;
+      status = result.status;
+    }) }
 {
     match network_of_words(words) {
         None => end_with(Status::BadWords, disks, 0),

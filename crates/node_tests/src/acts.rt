@@ -1,8 +1,8 @@
 //! Each call once, over the ledger of party 1 in which one transaction is recorded, which makes 100 of a token for it.
 
-ghost use Rattle.std.specs.Prelude.{◌≡◌, ◌<◌, ◌≤◌, ◌^◌, IfOk, IfSome, length};
+ghost use Rattle.std.specs.Prelude.{◌≡◌, ◌<◌, ◌≤◌, ◌^◌, IfOk, IfSome, None, length};
 ghost use Rattle.signing.specs.Marks.{keyed_mark};
-ghost use Rattle.ledger_types.specs.Txs.{IsTx};
+ghost use Rattle.ledger_types.specs.Txs.{IsSignedTx, IsTx};
 ghost use Rattle.flow_machine.specs.Limits.{IsAct};
 ghost use Rattle.ledger_acts.specs.Jobs.{IsRun};
 
@@ -38,8 +38,8 @@ const fn node(party: Party) -> Identity {
     }
 }
 
-/// A transaction that makes 100 of a token for party 1, and consumes the state if there is one.
-fn transaction(alloc: Global, input: Option<StateRef>) -> Result<Tx, Fail>
+/// A transaction that makes an amount of a token for party 1, and consumes the state if there is one.
+fn cash(alloc: Global, input: Option<StateRef>, amount: u8) -> Result<Tx, Fail>
     ensures { IfOk result (λ tx. IsTx tx) }
 {
     let mut out = Writer::new(alloc);
@@ -53,11 +53,31 @@ fn transaction(alloc: Global, input: Option<StateRef>) -> Result<Tx, Fail>
     }
     out.put_bytes(
         alloc,
-        &[1, 1, 3, b'E', b'U', b'R', 0, 0, 0, 0, 0, 0, 0, 100, 1],
+        &[1, 1, 3, b'E', b'U', b'R', 0, 0, 0, 0, 0, 0, 0, amount, 1],
     )?;
     out.put_bytes(alloc, &[0, 0, 0, 0, 1, 0, 0, 0])?;
     let bytes = out.into_bytes();
     Ok(Tx::decode(alloc, &mut Reader::new(bytes.as_slice()))?)
+}
+
+/// A transaction that makes 100 of a token for party 1, and consumes the state if there is one.
+fn transaction(alloc: Global, input: Option<StateRef>) -> Result<Tx, Fail>
+    ensures { IfOk result (λ tx. IsTx tx) }
+{
+    cash(alloc, input, 100)
+}
+
+/// Applies a change where it fits.
+fn apply(alloc: Global, ledger: &mut LedgerTables, change: LedgerChange) -> Result<bool, AllocError>
+    requires recorded { IfSome change.recorded IsSignedTx }
+    requires booked { change.booked ≡ None }
+{
+    make_change_room(alloc, ledger, &change)?;
+    if !change_fits(ledger, NOTARY, &change) || ledger.store().count() > 9 {
+        return Ok(false);
+    }
+    add_change::<u32>(ledger, NOTARY, change);
+    Ok(true)
 }
 
 /// Records a transaction where it may be recorded.
@@ -72,12 +92,7 @@ fn record(alloc: Global, ledger: &mut LedgerTables, tx: Tx) -> Result<bool, Allo
         ended: false,
         booked: None,
     };
-    make_change_room(alloc, ledger, &change)?;
-    if !change_fits(ledger, NOTARY, &change) || ledger.store().count() > 9 {
-        return Ok(false);
-    }
-    add_change::<u32>(ledger, NOTARY, change);
-    Ok(true)
+    apply(alloc, ledger, change)
 }
 
 /// What the frame is resumed with, in a number; how many states are locked, and whether something is recorded or booked.
@@ -194,6 +209,73 @@ fn acts_answer(rt: HostRuntime) -> Result<(), Fail> {
     assert_eq!(rt; signed, (401, 0, false, false));
     let refused = shown(sign(alloc, &node(NOTARY), 4, id));
     assert_eq!(rt; refused, (46, 0, false, false));
+    Ok(())
+}
+
+/// Locks a coin for flow 7, where it is one.
+fn lock(alloc: Global, ledger: &mut LedgerTables, coin: StateRef) -> Result<bool, AllocError> {
+    let mut locked = ListOf::new(alloc);
+    locked.push(coin)?;
+    let change = LedgerChange {
+        recorded: None,
+        locked,
+        owner: 7,
+        ended: false,
+        booked: None,
+    };
+    apply(alloc, ledger, change)
+}
+
+/// How many coins a reservation names, and how many it locks; and what there is, where that is less than the amount.
+fn reserved(
+    alloc: Global,
+    ledger: &LedgerTables,
+    amount: u64,
+) -> Result<(usize, usize, u128), AllocError> {
+    let token = Token {
+        issuer: Party(3),
+        code: *b"EUR",
+    };
+    let outcome = reserve(alloc, ledger, 4, &token, amount)?;
+    let shown = match &outcome.with {
+        Resumed::Coins { list } => (list.len(), outcome.change.locked.len(), 0),
+        Resumed::Short { have } => (0, outcome.change.locked.len(), *have),
+        _ => (0, 0, 0),
+    };
+    forget(outcome);
+    Ok(shown)
+}
+
+/// What 120 and 60 are answered before and behind a lock of the first coin.
+fn reserved_around(
+    alloc: Global,
+    ledger: &mut LedgerTables,
+    coin: StateRef,
+) -> Result<[(usize, usize, u128); 4], AllocError> {
+    let many = reserved(alloc, ledger, 120)?;
+    let few = reserved(alloc, ledger, 60)?;
+    lock(alloc, ledger, coin)?;
+    Ok([
+        many,
+        few,
+        reserved(alloc, ledger, 120)?,
+        reserved(alloc, ledger, 60)?,
+    ])
+}
+
+/// Coins of 100 and 50: 120 takes both; once the first is locked there are 50, so 60 can't be had.
+#[test]
+fn a_locked_coin_is_not_reserved(rt: HostRuntime) -> Result<(), Fail> {
+    let alloc = rt.alloc();
+    let first = transaction(alloc, None)?;
+    let coin = made_by(first.id());
+    let second = cash(alloc, None, 50)?;
+    let mut ledger = ledger_with(alloc, first)?;
+    let added = record(alloc, &mut ledger, second);
+    let answers = reserved_around(alloc, &mut ledger, coin);
+    forget(ledger);
+    assert!(rt; added?);
+    assert_eq!(rt; answers?, [(2, 2, 0), (1, 1, 0), (0, 0, 50), (0, 0, 50)]);
     Ok(())
 }
 

@@ -13,3 +13,11 @@ eight a b c d e f g h =
     ∙ append_assoc (a ++ b ++ c ++ d) e (f ++ (g ++ h))
     ∙ append_assoc (a ++ b ++ c) d (e ++ (f ++ (g ++ h)))
     ∙ four a b c (d ++ (e ++ (f ++ (g ++ h))))
+
+-- and six
+pub six : (a b c d e f : List ℕ) → a ++ b ++ c ++ d ++ e ++ f ≡ a ++ (b ++ (c ++ (d ++ (e ++ f))))
+six a b c d e f = append_assoc (a ++ b ++ c ++ d) e f ∙ append_assoc (a ++ b ++ c) d (e ++ f) ∙ four a b c (d ++ (e ++ f))
+
+-- and ten
+pub ten : (a b c d e f g h i j : List ℕ) → a ++ b ++ c ++ d ++ e ++ f ++ g ++ h ++ i ++ j ≡ a ++ (b ++ (c ++ (d ++ (e ++ (f ++ (g ++ (h ++ (i ++ j))))))))
+ten a b c d e f g h i j = append_assoc (a ++ b ++ c ++ d ++ e ++ f ++ g ++ h) i j ∙ append_assoc (a ++ b ++ c ++ d ++ e ++ f ++ g) h (i ++ j) ∙ eight a b c d e f g (h ++ (i ++ j))

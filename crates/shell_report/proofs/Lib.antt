@@ -1,2 +1,4 @@
 pub mod Heads
 pub mod Lines
+pub mod Places
+pub mod Tokens

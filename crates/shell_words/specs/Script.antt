@@ -1,11 +1,16 @@
 -- The script: its lines, their words, and what the words ask for; and the words that the program is started with.
-use Rattle.std.specs.Prelude.{◌≡◌, ◌≢◌, ◌<◌, ◌≤◌, ℕ, ◌-◌, List, [], ◌∷◌, ◌++◌, Bool, true, false, Option, Some, None, is_some, All, nat_lt, nat_le, ◌==◌, ◌&&◌, ◌||◌, not, if◌then◌else◌, length, codes, take, slice_index, map}
+use Rattle.std.specs.Prelude.{◌≡◌, ◌≢◌, ◌<◌, ◌≤◌, ℕ, ◌-◌, List, [], ◌∷◌, ◌++◌, Bool, true, false, Option, Some, None, Result, Ok, Err, is_some, option_and_then, All, nat_lt, nat_le, ◌==◌, ◌&&◌, ◌||◌, not, if◌then◌else◌, length, codes, take, slice_index, map}
 use Rattle.std.specs.List.{list_all, list_any, flat_map}
 use Rattle.std.specs.Str.{bytes_eq}
+use Rattle.hex.specs.Hex.{decode_sized}
+use Rattle.hex.specs.declared.error.FromHexError.{FromHexError}
+use Rattle.net_base.specs.declared.values.Hash32.{Hash32}
 use Rattle.net_base.specs.Numbers.{number_of}
 use Rattle.shell_words.specs.declared.commands.Command.{Command}
+use Rattle.shell_words.specs.declared.commands.TxName.{TxName}
+use Rattle.shell_words.specs.declared.commands.TxName.TheVariants.{Id, Place}
 use Rattle.shell_words.specs.declared.program.NetworkWords.{NetworkWords}
-use Rattle.shell_words.specs.declared.commands.Command.TheVariants.{Clock, Start, Turn, Post, Deliver, Repeat, Lose, Cut, Boot, Drain, Flows, Flow, History, Quit, Unknown}
+use Rattle.shell_words.specs.declared.commands.Command.TheVariants.{Clock, Start, Turn, Post, Deliver, Repeat, Lose, Cut, Boot, Drain, Flows, Flow, Vault, Balance, Book, TxLine, History, Quit, Unknown}
 
 -- ---- lines
 
@@ -73,6 +78,53 @@ words_onto word (b ∷ bs) = if is_blank b then ended word ++ words_onto [] bs e
 abbrev pub words_of : List ℕ → List (List ℕ)
 words_of line = words_onto [] line
 
+-- ---- marks
+
+-- what follows a first `#`
+abbrev pub after_hash : List ℕ → Option (List ℕ)
+after_hash [] = None
+after_hash (b ∷ bs) = if b == 35 then Some bs else None
+
+-- there are bytes, and they are a number
+abbrev pub is_number : Option (List ℕ) → Bool
+is_number None = false
+is_number (Some bytes) = is_some (number_of bytes)
+
+-- `#` with a number behind it, as `#k` names a recorded transaction
+abbrev pub is_mark : List ℕ → Bool
+is_mark word = is_number (after_hash word)
+
+-- some word is such a mark
+abbrev pub has_mark : List (List ℕ) → Bool
+has_mark args = list_any is_mark args
+
+-- the place that `#` with a number names
+abbrev pub mark_of : List ℕ → Option ℕ
+mark_of word = option_and_then number_of (after_hash word)
+
+-- bytes that were read
+abbrev pub hash_in : Result (List ℕ) FromHexError → Option Hash32
+hash_in (Ok bytes) = Some (record { 0 = bytes })
+hash_in (Err e) = None
+
+-- the id that a word is: 64 hexadecimal digits, in either case
+abbrev pub id_of : List ℕ → Option Hash32
+id_of word = hash_in (decode_sized word 32)
+
+-- a transaction named by its id, if by anything
+abbrev pub named_by_id : Option Hash32 → Option TxName
+named_by_id None = None
+named_by_id (Some id) = Some (Id id)
+
+-- a transaction named by its place, or by its id
+abbrev pub named_by : Option ℕ → Option Hash32 → Option TxName
+named_by None id = named_by_id id
+named_by (Some place) id = Some (Place place)
+
+-- the transaction that a word names: `#` and its place, or its id
+abbrev pub tx_name : List ℕ → Option TxName
+tx_name word = named_by (mark_of word) (id_of word)
+
 -- ---- commands
 
 -- `clock` with a moment
@@ -113,6 +165,22 @@ abbrev pub flows_of : Option ℕ → Command
 flows_of None = Unknown
 flows_of (Some node) = Flows node
 
+-- `vault` with a node
+abbrev pub vault_of : Option ℕ → Command
+vault_of None = Unknown
+vault_of (Some node) = Vault node
+
+-- `balance` with a node
+abbrev pub balance_of : Option ℕ → Command
+balance_of None = Unknown
+balance_of (Some node) = Balance node
+
+-- `tx` with a node and the name of a transaction
+abbrev pub tx_of : Option ℕ → Option TxName → Command
+tx_of None name = Unknown
+tx_of (Some node) None = Unknown
+tx_of (Some node) (Some name) = TxLine node name
+
 -- `flow` with a node and one of its flows
 abbrev pub flow_of : Option ℕ → Option ℕ → Command
 flow_of None flow = Unknown
@@ -142,13 +210,17 @@ lose_of None place = Unknown
 lose_of (Some node) None = Unknown
 lose_of (Some node) (Some place) = Lose node place
 
--- what one word asks for: `drain`, `history` or `quit`
+-- what one word asks for: `drain`, `book`, `history` or `quit`
 abbrev pub one_word : List ℕ → Command
-one_word w = if bytes_eq w (codes "drain") then Drain else if bytes_eq w (codes "history") then History else if bytes_eq w (codes "quit") then Quit else Unknown
+one_word w = if bytes_eq w (codes "drain") then Drain else if bytes_eq w (codes "book") then Book else if bytes_eq w (codes "history") then History else if bytes_eq w (codes "quit") then Quit else Unknown
 
--- what two words ask for: `clock T`, `turn N`, `post N`, `boot N` or `flows N`
+-- what two words ask for of a node's ledger: `vault N` or `balance N`
+abbrev pub ledger_words : List ℕ → List ℕ → Command
+ledger_words w n = if bytes_eq w (codes "vault") then vault_of (number_of n) else if bytes_eq w (codes "balance") then balance_of (number_of n) else Unknown
+
+-- what two words ask for: `clock T`, `turn N`, `post N`, `boot N`, `flows N`, `vault N` or `balance N`
 abbrev pub two_words : List ℕ → List ℕ → Command
-two_words w n = if bytes_eq w (codes "clock") then clock_of (number_of n) else if bytes_eq w (codes "turn") then turn_of (number_of n) else if bytes_eq w (codes "post") then post_of (number_of n) else if bytes_eq w (codes "boot") then boot_of (number_of n) else if bytes_eq w (codes "flows") then flows_of (number_of n) else Unknown
+two_words w n = if bytes_eq w (codes "clock") then clock_of (number_of n) else if bytes_eq w (codes "turn") then turn_of (number_of n) else if bytes_eq w (codes "post") then post_of (number_of n) else if bytes_eq w (codes "boot") then boot_of (number_of n) else if bytes_eq w (codes "flows") then flows_of (number_of n) else ledger_words w n
 
 -- what three and more words ask for where no other command has so many: `start N CLASS ARGS..`
 abbrev pub many_words : List ℕ → List ℕ → Command
@@ -162,9 +234,9 @@ frame_words w n m =
     else if bytes_eq w (codes "lose") then lose_of (number_of n) (number_of m)
     else many_words w n
 
--- what three words ask for: `turn N F`, `flow N F`, what is asked of a frame, or `start N CLASS`
+-- what three words ask for: `turn N F`, `flow N F`, `tx N NAME`, what is asked of a frame, or `start N CLASS`
 abbrev pub three_words : List ℕ → List ℕ → List ℕ → Command
-three_words w n m = if bytes_eq w (codes "turn") then picked_turn_of (number_of n) (number_of m) else if bytes_eq w (codes "flow") then flow_of (number_of n) (number_of m) else frame_words w n m
+three_words w n m = if bytes_eq w (codes "turn") then picked_turn_of (number_of n) (number_of m) else if bytes_eq w (codes "flow") then flow_of (number_of n) (number_of m) else if bytes_eq w (codes "tx") then tx_of (number_of n) (tx_name m) else frame_words w n m
 
 -- what four words ask for: `cut N CALLS OUTCOME` or `start N CLASS ARG`
 abbrev pub four_words : List ℕ → List ℕ → List ℕ → List ℕ → Command
@@ -202,6 +274,10 @@ asks_quit (Boot node) = false
 asks_quit Drain = false
 asks_quit (Flows node) = false
 asks_quit (Flow node flow) = false
+asks_quit (Vault node) = false
+asks_quit (Balance node) = false
+asks_quit Book = false
+asks_quit (TxLine node name) = false
 asks_quit History = false
 asks_quit Quit = true
 asks_quit Unknown = false
@@ -209,26 +285,6 @@ asks_quit Unknown = false
 -- a line that asks for `quit`
 abbrev pub is_quit : List ℕ → Bool
 is_quit line = asks_quit (asked_by line)
-
--- ---- marks
-
--- what follows a first `#`
-abbrev pub after_hash : List ℕ → Option (List ℕ)
-after_hash [] = None
-after_hash (b ∷ bs) = if b == 35 then Some bs else None
-
--- there are bytes, and they are a number
-abbrev pub is_number : Option (List ℕ) → Bool
-is_number None = false
-is_number (Some bytes) = is_some (number_of bytes)
-
--- `#` with a number behind it, as `#k` names a recorded transaction
-abbrev pub is_mark : List ℕ → Bool
-is_mark word = is_number (after_hash word)
-
--- some word is such a mark
-abbrev pub has_mark : List (List ℕ) → Bool
-has_mark args = list_any is_mark args
 
 -- ---- the program's words
 

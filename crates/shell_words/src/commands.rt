@@ -1,7 +1,17 @@
 ghost use Rattle.std.specs.Prelude.{◌≡◌, map, string_bytes, nat_le, if◌then◌else◌, Some, None};
-ghost use Rattle.shell_words.specs.Script.{asked, one_word, two_words, frame_words, three_words, four_words, many_words, command_of};
+ghost use Rattle.shell_words.specs.Script.{asked, one_word, ledger_words, two_words, frame_words, three_words, four_words, many_words, command_of};
 
-use net_base::number;
+use super::words::tx_name;
+use net_base::{Hash32, number};
+
+/// How a recorded transaction is named.
+#[derive(Clone, Copy, Debug, PartialEq, Eq)]
+pub enum TxName {
+    /// By its id.
+    Id(Hash32),
+    /// By its place among those that the node recorded, from 0.
+    Place(u64),
+}
 
 /// What the words of a line ask for. Numbers are as they stand in the words.
 #[derive(Clone, Copy, Debug, PartialEq, Eq)]
@@ -30,6 +40,14 @@ pub enum Command {
     Flows { node: u64 },
     /// `flow N F`.
     Flow { node: u64, flow: u64 },
+    /// `vault N`.
+    Vault { node: u64 },
+    /// `balance N`.
+    Balance { node: u64 },
+    /// `book`.
+    Book,
+    /// `tx N NAME`.
+    TxLine { node: u64, name: TxName },
     /// `history`.
     History,
     /// `quit`.
@@ -43,6 +61,8 @@ fn one_word(word: &str) -> Option<Command>
 {
     if word == "drain" {
         Some(Command::Drain)
+    } else if word == "book" {
+        Some(Command::Book)
     } else if word == "history" {
         Some(Command::History)
     } else if word == "quit" {
@@ -52,10 +72,24 @@ fn one_word(word: &str) -> Option<Command>
     }
 }
 
-fn two_words(word: &str, first: &str) -> Option<Command>
-    ensures { asked result ≡ two_words word.now first.now }
+fn ledger_words(word: &str, node: &str) -> Option<Command>
+    ensures { asked result ≡ ledger_words word.now node.now }
 {
-    let first = number(first);
+    if word == "vault" {
+        let node = number(node)?;
+        Some(Command::Vault { node })
+    } else if word == "balance" {
+        let node = number(node)?;
+        Some(Command::Balance { node })
+    } else {
+        None
+    }
+}
+
+fn two_words(word: &str, node: &str) -> Option<Command>
+    ensures { asked result ≡ two_words word.now node.now }
+{
+    let first = number(node);
     if word == "clock" {
         Some(Command::Clock { to: first? })
     } else if word == "turn" {
@@ -68,7 +102,7 @@ fn two_words(word: &str, first: &str) -> Option<Command>
     } else if word == "flows" {
         Some(Command::Flows { node: first? })
     } else {
-        None
+        ledger_words(word, node)
     }
 }
 
@@ -110,6 +144,9 @@ fn three_words(word: &str, node: &str, flow: &str) -> Option<Command>
     } else if word == "flow" {
         let (node, flow) = (number(node)?, number(flow)?);
         Some(Command::Flow { node, flow })
+    } else if word == "tx" {
+        let (node, name) = (number(node)?, tx_name(flow)?);
+        Some(Command::TxLine { node, name })
     } else {
         frame_words(word, node, flow)
     }

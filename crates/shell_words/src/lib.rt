@@ -7,7 +7,7 @@ mod lines;
 mod program;
 mod words;
 
-pub use commands::{Command, command_of};
+pub use commands::{Command, TxName, command_of};
 pub use lines::{has_no_answer, is_readable, without_cr};
 pub use program::{NetworkWords, network_of_words};
-pub use words::{has_mark, is_blank, is_plain, words_of};
+pub use words::{has_mark, is_blank, is_plain, mark_of, words_of};

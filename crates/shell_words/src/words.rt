@@ -1,8 +1,10 @@
 ghost use Rattle.std.specs.Prelude.{◌≡◌, ◌<◌, IfOk, map, option_map, string_bytes, All};
 ghost use Rattle.std.specs.List.{list_any};
-ghost use Rattle.shell_words.specs.Script.{is_blank, is_plain, words_of, after_hash, is_mark, has_mark};
+ghost use Rattle.shell_words.specs.Script.{is_blank, is_plain, words_of, after_hash, is_mark, has_mark, mark_of, id_of, tx_name};
 
-use net_base::number;
+use super::commands::TxName;
+use hex::FromHex;
+use net_base::{Hash32, number};
 use std::alloc::{AllocError, Global};
 use std::mem;
 
@@ -71,4 +73,31 @@ pub fn has_mark(args: &[String]) -> bool
     ensures { result ≡ has_mark (map (λ s. string_bytes s) args.now) }
 {
     has_some_mark(args)
+}
+
+/// The place that `#` with a number names.
+pub fn mark_of(word: &str) -> Option<u64>
+    ensures { result ≡ mark_of word.now }
+{
+    number(after_hash(word)?)
+}
+
+/// The id that the word is: 64 hexadecimal digits, in either case.
+fn id_of(word: &str) -> Option<Hash32>
+    ensures { result ≡ id_of word.now }
+{
+    match <[u8; 32] as FromHex>::from_hex(word) {
+        Ok(bytes) => Some(Hash32(bytes)),
+        Err(_) => None,
+    }
+}
+
+/// The recorded transaction that the word names: `#` and its place, or its id.
+pub(crate) fn tx_name(word: &str) -> Option<TxName>
+    ensures { result ≡ tx_name word.now }
+{
+    match mark_of(word) {
+        Some(place) => Some(TxName::Place(place)),
+        None => Some(TxName::Id(id_of(word)?)),
+    }
 }

@@ -4,7 +4,7 @@ use crate::count::{Count, CountPlace};
 use crate::echo::{Echo, EchoPlace};
 use crate::ping::{Ping, PingPlace};
 use crate::probe::{Probe, ProbePlace};
-use flow_forms::{ByInit, ByWords, Call, Closed, Frame, Opens, Sum};
+use flow_forms::{ByInit, ByWords, Call, Closed, Closes, Frame, Opens, Sum};
 use std::alloc::{AllocError, Global};
 
 /// The machines of the set, by number: 1 counts, 2 pings, 10 probes, and 11 is the echo.
@@ -27,14 +27,20 @@ impl Opens<Shipped> for NoCalls {
 
     ghost see = { no_call };
 
-    ghost unlike = { refl };
-
     ghost opens = { record { weight = calls_cost; over = λ c. refl; tags = λ test c h. refl; limits = λ c h. (refl, (omega arith, omega arith)) } };
 
     fn open(_alloc: Global, _call: Call) -> Result<Shipped, AllocError> {
         let fields = Count { left: 0, all: 0 };
         Ok(Sum::First(Frame::asking(CountPlace::Sleeping, fields)))
     }
+}
+
+impl Closes<Shipped> for NoCalls {
+    ghost use Rattle.std.specs.Prelude.{refl};
+
+    type Calls = NoCalls;
+
+    ghost unlike = { refl };
 }
 
 /// A frame of the flow set: a counting flow (machine 1), a ping (2), a probe (10) or an echo (11).

@@ -189,6 +189,68 @@ returns-in-Flow-clause-responds g c =
     let shown = rw (c.place_of-in-Flow.ensures, c.flow_of.ensures) at c.print_flow.ensures.asks in
     asked_responds m c.args.net.now c.args.net.now asked ws (given c.print_flow.result) c.in-Flow.ensures (shown_responds m c.args.net.now asked ws c.print_flow.result refl shown)
 
+pub returns-in-Vault-clause-serves : goal.returns-in-Vault-clause-serves
+returns-in-Vault-clause-serves g c =
+    let m = meaning g.F.FlowSet.machine g.F.Spelt.reading (g.J.Judge.judges c.args.contracts.now) in
+    let ws = map (λ s. string_bytes s) c.args.words.now in
+    let asked = command.Vault c.in-Vault.node in
+    asked_as m c.args.net.now c.args.net.now asked ws c.print_vault.result c.in-Vault.ensures
+    (answered m c.args.net.now asked ws c.print_vault.result refl (rw c.place_of-in-Vault.ensures at c.print_vault.ensures.asks))
+
+pub returns-in-Vault-clause-responds : goal.returns-in-Vault-clause-responds
+returns-in-Vault-clause-responds g c =
+    let m = meaning g.F.FlowSet.machine g.F.Spelt.reading (g.J.Judge.judges c.args.contracts.now) in
+    let ws = map (λ s. string_bytes s) c.args.words.now in
+    let asked = command.Vault c.in-Vault.node in
+    let shown = rw c.place_of-in-Vault.ensures at c.print_vault.ensures.asks in
+    asked_responds m c.args.net.now c.args.net.now asked ws (given c.print_vault.result) c.in-Vault.ensures (shown_responds m c.args.net.now asked ws c.print_vault.result refl shown)
+
+pub returns-in-Balance-clause-serves : goal.returns-in-Balance-clause-serves
+returns-in-Balance-clause-serves g c =
+    let m = meaning g.F.FlowSet.machine g.F.Spelt.reading (g.J.Judge.judges c.args.contracts.now) in
+    let ws = map (λ s. string_bytes s) c.args.words.now in
+    let asked = command.Balance c.in-Balance.node in
+    asked_as m c.args.net.now c.args.net.now asked ws c.print_balance.result c.in-Balance.ensures
+    (answered m c.args.net.now asked ws c.print_balance.result refl (rw c.place_of-in-Balance.ensures at c.print_balance.ensures.asks))
+
+pub returns-in-Balance-clause-responds : goal.returns-in-Balance-clause-responds
+returns-in-Balance-clause-responds g c =
+    let m = meaning g.F.FlowSet.machine g.F.Spelt.reading (g.J.Judge.judges c.args.contracts.now) in
+    let ws = map (λ s. string_bytes s) c.args.words.now in
+    let asked = command.Balance c.in-Balance.node in
+    let shown = rw c.place_of-in-Balance.ensures at c.print_balance.ensures.asks in
+    asked_responds m c.args.net.now c.args.net.now asked ws (given c.print_balance.result) c.in-Balance.ensures (shown_responds m c.args.net.now asked ws c.print_balance.result refl shown)
+
+pub returns-in-Book-clause-serves : goal.returns-in-Book-clause-serves
+returns-in-Book-clause-serves g c =
+    let m = meaning g.F.FlowSet.machine g.F.Spelt.reading (g.J.Judge.judges c.args.contracts.now) in
+    let ws = map (λ s. string_bytes s) c.args.words.now in
+    asked_as m c.args.net.now c.args.net.now command.Book ws c.print_book.result c.in-Book.ensures
+    (answered m c.args.net.now command.Book ws c.print_book.result refl (rw c.notary_of.ensures at c.print_book.ensures.asks))
+
+pub returns-in-Book-clause-responds : goal.returns-in-Book-clause-responds
+returns-in-Book-clause-responds g c =
+    let m = meaning g.F.FlowSet.machine g.F.Spelt.reading (g.J.Judge.judges c.args.contracts.now) in
+    let ws = map (λ s. string_bytes s) c.args.words.now in
+    let shown = rw c.notary_of.ensures at c.print_book.ensures.asks in
+    asked_responds m c.args.net.now c.args.net.now command.Book ws (given c.print_book.result) c.in-Book.ensures (shown_responds m c.args.net.now command.Book ws c.print_book.result refl shown)
+
+pub returns-in-TxLine-clause-serves : goal.returns-in-TxLine-clause-serves
+returns-in-TxLine-clause-serves g c =
+    let m = meaning g.F.FlowSet.machine g.F.Spelt.reading (g.J.Judge.judges c.args.contracts.now) in
+    let ws = map (λ s. string_bytes s) c.args.words.now in
+    let asked = command.TxLine c.in-TxLine.node c.in-TxLine.name in
+    asked_as m c.args.net.now c.args.net.now asked ws c.print_tx.result c.in-TxLine.ensures
+    (answered m c.args.net.now asked ws c.print_tx.result refl (rw c.place_of-in-TxLine.ensures at c.print_tx.ensures.asks))
+
+pub returns-in-TxLine-clause-responds : goal.returns-in-TxLine-clause-responds
+returns-in-TxLine-clause-responds g c =
+    let m = meaning g.F.FlowSet.machine g.F.Spelt.reading (g.J.Judge.judges c.args.contracts.now) in
+    let ws = map (λ s. string_bytes s) c.args.words.now in
+    let asked = command.TxLine c.in-TxLine.node c.in-TxLine.name in
+    let shown = rw c.place_of-in-TxLine.ensures at c.print_tx.ensures.asks in
+    asked_responds m c.args.net.now c.args.net.now asked ws (given c.print_tx.result) c.in-TxLine.ensures (shown_responds m c.args.net.now asked ws c.print_tx.result refl shown)
+
 pub returns-in-History-clause-serves : goal.returns-in-History-clause-serves
 returns-in-History-clause-serves g c =
     let m = meaning g.F.FlowSet.machine g.F.Spelt.reading (g.J.Judge.judges c.args.contracts.now) in

@@ -1,34 +1,42 @@
-use Rattle.std.proofs.Common.{◌≡◌, map, sym, ◌∙◌, subst}
-use Rattle.net_base.proofs.Options.{some_eq}
+use Rattle.std.proofs.Common.{◌≡◌, ◌*◌, map, sym, ◌∙◌}
+use Rattle.std.specs.Prelude.{string_bytes, Some}
 use Rattle.net_model.specs.Environment.{meaning, party}
-use Rattle.shell_words.specs.declared.program.NetworkWords.{NetworkWords}
-use Rattle.node_shell.specs.Pairs.{first_disks}
-use Rattle.network_core.specs.Worlds.{World, Shows, Coherent}
-use Rattle.node_shell.specs.Runs.{KeepOwn, NamesDisks, RunsAs, RunsAnyhow, environment_for, over}
+use Rattle.shell_words.specs.Script.{network_of_words}
+use Rattle.node_shell.specs.declared.statuses.Status.TheVariants as status
+use Rattle.node_shell.specs.Runs.{IsStory, Went, KeepsOthers, KeepsSeconds, KeepOwn, NamesDisks, OneFails, IsToldWhy, firsts, views}
+use Rattle.node_shell.proofs.Opening.{asked_only, not_refused}
 use Rattle.node_shell.proofs.top.run.Goals as goal
 
-pub returns-in-Some-clause-own : goal.returns-in-Some-clause-own
-returns-in-Some-clause-own g c number n is =
-    let same : c.in-Some.network ≡ n = some_eq (sym c.in-Some.is ∙ c.network_of_words.ensures.network ∙ is) in
-    subst (λ (k : NetworkWords). KeepOwn g.F.Spelt.reading k.nodes (party k.notary) (first_disks k.nodes (map g.B.Disk.seen c.args.disks.items))) same (c.run_network.ensures.own number)
-
-pub returns-in-Some-clause-went : goal.returns-in-Some-clause-went
-returns-in-Some-clause-went g c n is =
-    let same : c.in-Some.network ≡ n = some_eq (sym c.in-Some.is ∙ c.network_of_words.ensures.network ∙ is) in
-    subst
-    (λ (k : NetworkWords). RunsAnyhow (meaning g.F.FlowSet.machine g.F.Spelt.reading (g.J.Judge.judges c.args.contracts.now)) k.nodes (party k.notary) (first_disks k.nodes (map g.B.Disk.seen c.args.disks.items)) (first_disks k.nodes (map g.B.Disk.seen c.run_network.result.disks.items)) (g.S.Source.left c.args.source.now) (g.S.Source.left c.run_network.new.source) (g.K.Sink.written c.args.sink.now) (g.K.Sink.written c.run_network.new.sink) c.run_network.result.bytes_read c.run_network.result.status)
-    same c.run_network.ensures.went
-
-pub returns-in-Some-clause-named : goal.returns-in-Some-clause-named
-returns-in-Some-clause-named g c n is =
-    let same : c.in-Some.network ≡ n = some_eq (sym c.in-Some.is ∙ c.network_of_words.ensures.network ∙ is) in
-    subst (λ (k : NetworkWords). NamesDisks k.nodes (map g.B.Disk.seen c.args.disks.items) (map g.B.Disk.seen c.run_network.result.disks.items) c.run_network.result.bytes_read c.run_network.result.status) same c.run_network.ensures.named
-
-pub returns-in-Some-clause-story : goal.returns-in-Some-clause-story
-returns-in-Some-clause-story g c n is =
-    let same : c.in-Some.network ≡ n = some_eq (sym c.in-Some.is ∙ c.network_of_words.ensures.network ∙ is) in
+pub returns-in-Some : goal.returns-in-Some
+returns-in-Some g c =
     let m = meaning g.F.FlowSet.machine g.F.Spelt.reading (g.J.Judge.judges c.args.contracts.now) in
-    subst
-    (λ (k : NetworkWords). (w : World) → Shows (environment_for m k) (over (environment_for m k) w.now (first_disks k.nodes (map g.B.Disk.seen c.args.disks.items))) w → Coherent (environment_for m k) w
-    → RunsAs m k.nodes (party k.notary) w (first_disks k.nodes (map g.B.Disk.seen c.args.disks.items)) (first_disks k.nodes (map g.B.Disk.seen c.run_network.result.disks.items)) (g.S.Source.left c.args.source.now) (g.S.Source.left c.run_network.new.source) (g.K.Sink.written c.args.sink.now) (g.K.Sink.written c.run_network.new.sink) c.run_network.result.bytes_read c.run_network.result.status)
-    same c.run_network.ensures.story
+    let words = map (λ s. string_bytes s) c.args.words.now in
+    let k = c.in-Some.network in
+    let asked : network_of_words words ≡ Some k = sym c.network_of_words.ensures.network ∙ c.in-Some.is in
+    let e = c.run_network.ensures in
+    let seen = g.B.Disk.seen in
+    let disks = views seen (record { old = c.args.disks.items; new = c.run_network.result.disks.items }) in
+    let written0 = g.K.Sink.written c.args.sink.now in
+    let written1 = g.K.Sink.written c.run_network.new.sink in
+    record {
+      run = record {
+        story = asked_only words k _ asked e.story;
+        went = asked_only words k _ asked e.went;
+        causes = record {
+          read_fault = e.read_fault;
+          write_fault = e.write_fault;
+          disk_fault = λ is. asked_only words k (λ n. OneFails (2 * n.nodes) disks.old disks.new) asked (e.disk_fault is);
+          bad_journal = λ is. asked_only words k (λ n. IsToldWhy m.frame_at n.nodes (party n.notary) (firsts n.nodes disks).old (firsts n.nodes disks).new written0 written1 status.BadJournal) asked (e.bad_journal is);
+          own = λ is. asked_only words k (λ n. KeepOwn m.frame_at n.nodes (party n.notary) (firsts n.nodes disks).old) asked (e.own is);
+        };
+        words = (λ is. absurd (e.words is), λ none. absurd (not_refused words k asked none));
+        untouched = λ none. absurd (not_refused words k asked none);
+        too_long = e.too_long;
+        few = e.few;
+        disks = e.count;
+        others = asked_only words k _ asked e.rest;
+        seconds = asked_only words k _ asked e.second;
+        named = asked_only words k _ asked e.named;
+        later = e.later;
+      };
+    }

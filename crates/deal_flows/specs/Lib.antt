@@ -1,0 +1,12 @@
+pub mod Fact
+pub mod FactLaws
+pub mod FactWords
+pub mod FactAccepted
+pub mod Refact
+pub mod RefactLaws
+pub mod RefactWords
+pub mod RefactAccepted
+pub mod Iou
+pub mod IouLaws
+pub mod IouWords
+pub mod IouAccepted
