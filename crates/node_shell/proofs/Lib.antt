@@ -10,4 +10,5 @@ pub mod Readying
 pub mod Running
 pub mod Resting
 pub mod Opening
+pub mod Unread
 pub mod Naming

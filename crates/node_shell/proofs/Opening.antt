@@ -32,9 +32,9 @@ use Rattle.node_shell.specs.declared.statuses.Status.TheVariants as status
 use Rattle.node_shell.specs.Responds.{NetLink, NetShort}
 use Rattle.node_shell.specs.Story.{ScriptRun, IsScriptStatus}
 use Rattle.node_shell.specs.Together.{PairLink, PairShort, InPair}
-use Rattle.shell_words.specs.Script.{network_of_words}
+use Rattle.shell_words.specs.Program.{network_of_words}
 use Rattle.shell_words.specs.declared.program.NetworkWords.{NetworkWords}
-use Rattle.node_shell.specs.Runs.{over, OfNetwork, number_of_status, Plays, PlaysOneWay, GoesOn, Refuses, RunsAs, journal_line, PlaysOrRefuses, RefusedWith, IsOpeningStatus, Fails, OneFails, HasCause, MisfitsAt, StaysBut, KeepsCalm, IsOpened, AfterRefusal, GivesUp, IsUnready, IsToldWhy, KeepsOwn, KeepOwn, IsPlayedStatus, IsPlayedNumber, AllStay, MadeReady, GoesOrHalts, RunsAnyhow}
+use Rattle.node_shell.specs.Runs.{over, OfNetwork, number_of_status, Plays, PlaysOneWay, GoesOn, Refuses, RunsAs, IsRunStatus, journal_line, PlaysOrRefuses, RefusedWith, IsOpeningStatus, Fails, OneFails, HasCause, MisfitsAt, StaysBut, KeepsCalm, IsOpened, AfterRefusal, GivesUp, IsUnready, IsToldWhy, KeepsOwn, KeepOwn, IsPlayedStatus, IsPlayedNumber, AllStay, MadeReady, GoesOrHalts, RunsAnyhow}
 use Rattle.node_shell.proofs.Readying.{fails_since, stays_then, stay_same, stay_then}
 use Rattle.node_shell.proofs.Together.{scripts_are_both}
 use Rattle.node_shell.proofs.Reached.{story_reaches, script_reaches}
@@ -192,6 +192,37 @@ is_too_long status.DiskFault is = cc
 is_too_long status.NoMemory is = cc
 is_too_long status.BadJournal is = cc
 
+pub is_read_fault : (s : Status) → number_of_status s ≡ 4 → s ≡ status.ReadFault
+is_read_fault status.ReadFault is = refl
+is_read_fault status.Finished is = cc
+is_read_fault status.BadWords is = cc
+is_read_fault status.TooLong is = cc
+is_read_fault status.WriteFault is = cc
+is_read_fault status.DiskFault is = cc
+is_read_fault status.NoMemory is = cc
+is_read_fault status.BadJournal is = cc
+
+pub is_write_fault : (s : Status) → number_of_status s ≡ 5 → s ≡ status.WriteFault
+is_write_fault status.WriteFault is = refl
+is_write_fault status.Finished is = cc
+is_write_fault status.BadWords is = cc
+is_write_fault status.TooLong is = cc
+is_write_fault status.ReadFault is = cc
+is_write_fault status.DiskFault is = cc
+is_write_fault status.NoMemory is = cc
+is_write_fault status.BadJournal is = cc
+
+-- no run ends with the status of refused words
+pub not_words : (s : Status) → IsRunStatus s → number_of_status s ≡ 2 → ⊥
+not_words status.BadWords ran is = ran
+not_words status.Finished ran is = cc
+not_words status.TooLong ran is = cc
+not_words status.ReadFault ran is = cc
+not_words status.WriteFault ran is = cc
+not_words status.DiskFault ran is = cc
+not_words status.NoMemory ran is = cc
+not_words status.BadJournal ran is = cc
+
 -- the statuses of a disk that was not made ready are 6 and 7
 pub opening_number : (s : Status) (number : ℕ) → IsOpeningStatus s → number ≡ number_of_status s → (number ≡ 6) ⊎ (number ≡ 7)
 opening_number status.DiskFault number is same = inl same
@@ -236,7 +267,7 @@ calm_since d k b stays h = (omega (arith, stays.1, h.0), λ calm. h.1 (ap (λ (x
 roomless_stays : (d k : DiskView) → StaysBut d k → StaysBut (roomless d) (roomless k)
 roomless_stays d k stays = (ap roomless stays.0, stays.1)
 
-told_since : {F : Type 0} (f : Reads F) (nodes : ℕ) (notary : Party) (ds ks bs : List DiskView) (written0 written1 : Option (List ℕ)) (s : Status) → AllStay ds ks
+pub told_since : {F : Type 0} (f : Reads F) (nodes : ℕ) (notary : Party) (ds ks bs : List DiskView) (written0 written1 : Option (List ℕ)) (s : Status) → AllStay ds ks
     → IsToldWhy f nodes notary ks bs written0 written1 s → IsToldWhy f nodes notary ds bs written0 written1 s
 told_since f nodes notary ds ks bs written0 written1 s stay t = record {
   node = t.node;
@@ -512,6 +543,22 @@ module _ {F : Type 0} (m : Meaning F) (nodes : ℕ) (notary : Party) where
       → PlaysOrRefuses m nodes notary w ds bs left0 left1 written0 written1 count s → RunsAs m nodes notary w ds bs left0 left1 written0 written1 counted number
   runs_as w ds bs left0 left1 written0 written1 count counted number s is same ran = record { status = s; is = is; ran = subst (λ n. PlaysOrRefuses m nodes notary w ds bs left0 left1 written0 written1 n s) (sym same) ran }
 
+  -- a run over disks that were made ready, since before that
+  pub runs_since : (ds ks bs : List DiskView) (w : World) (left0 left1 written0 written1 : Option (List ℕ)) (count number : ℕ) → AllStay ds ks
+      → ((v : World) → Shows e (over e v.now ks) v → Coherent e v → RunsAs m nodes notary v ks bs left0 left1 written0 written1 count number)
+      → Shows e (over e w.now ds) w → Coherent e w → RunsAs m nodes notary w ds bs left0 left1 written0 written1 count number
+  runs_since ds ks bs w left0 left1 written0 written1 count number stay runs shows coherent =
+      let v = counted ks w in
+      let made = made_counted m nodes notary w ds ks stay shows in
+      let ran = runs v (counted_shows m nodes notary w ds ks stay shows) (made_coherent m nodes notary w v made coherent) in
+      record {
+        status = ran.status;
+        is = ran.is;
+        ran = ⊎_elim (λ (p : PlaysOneWay m nodes notary v ks bs left0 left1 written0 written1 count ran.status). inl (one_way_with w v ds ks bs left0 left1 written0 written1 count ran.status made stay p))
+            (λ (r : Refuses e v ks bs left0 left1 written0 written1 count ran.status). inr (refuses_with w v ds ks bs left0 left1 written0 written1 count ran.status made stay r))
+            ran.ran;
+      }
+
 -- ---- over any disks
 
 module _ {F : Type 0} (m : Meaning F) (nodes : ℕ) (notary : Party) where
@@ -533,6 +580,10 @@ module _ {F : Type 0} (m : Meaning F) (nodes : ℕ) (notary : Party) where
     is = is;
     ran = subst (λ n. GoesOrHalts m nodes notary ds es left0 left1 written0 written1 n s) (sym same) (subst (λ x. GoesOrHalts m nodes notary ds x left0 left1 written0 written1 count s) (sym there) (went_since ds ks bs left0 left1 written0 written1 count s stay ran));
   }
+
+  pub runs_anyhow_since : (ds ks bs : List DiskView) (left0 left1 written0 written1 : Option (List ℕ)) (count number : ℕ) → AllStay ds ks
+      → RunsAnyhow m nodes notary ks bs left0 left1 written0 written1 count number → RunsAnyhow m nodes notary ds bs left0 left1 written0 written1 count number
+  runs_anyhow_since ds ks bs left0 left1 written0 written1 count number stay ran = record { status = ran.status; is = ran.is; ran = went_since ds ks bs left0 left1 written0 written1 count ran.status stay ran.ran }
 
   -- the disks were not made ready, or there was no memory for that
   pub went_unready : (ds es : List DiskView) (left written : Option (List ℕ)) (counted number : ℕ) (s : Status) → IsOpeningStatus s → AllStay ds es → number ≡ number_of_status s → counted ≡ 0

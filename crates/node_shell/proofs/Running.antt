@@ -7,9 +7,9 @@ use Rattle.outside.specs.Disk.{Attached, DiskView}
 use Rattle.net_base.proofs.Lists.{map_both}
 use Rattle.node_core.specs.Disks.{attached_as}
 use Rattle.node_shell.specs.Pairs.{first_disks, woven}
-use Rattle.node_shell.specs.Runs.{StaysBut, OneFails, AllStay, AreNamed}
+use Rattle.node_shell.specs.Runs.{StaysBut, OneFails, AllStay}
 use Rattle.node_shell.proofs.Weaving.{map_woven, woven_count, firsts, seconds, behind}
-use Rattle.node_shell.proofs.Readying.{first_stay, first_fails, named_same}
+use Rattle.node_shell.proofs.Readying.{first_stay, first_fails}
 
 -- the disks were made ready, the first ones of the nodes were taken out, and others, as many, were put back
 pub record Handed {X : Type 0} (seen : X → DiskView) (n : ℕ) (olds ready own rest back ends : List X) : Type 0 where
@@ -55,13 +55,13 @@ module _ {X : Type 0} (seen : X → DiskView) (n : ℕ) (olds ready own rest bac
   name x = (seen x).attached
 
   -- each disk is attached as it was when all were made ready, where those that were put back are
-  pub last_named : (place : ℕ) → attached_as (map seen back) ≡ attached_as (map seen own) → AreNamed place (map seen olds) (map seen ready) → AreNamed place (map seen olds) (map seen ends)
-  last_named place kept named =
+  pub last_attached : attached_as (map seen back) ≡ attached_as (map seen own) → attached_as (map seen ends) ≡ attached_as (map seen ready)
+  last_attached kept =
       let all = λ (l : List X). map_both (λ (d : DiskView). d.attached) seen l in
       let firsts_same : map name back ≡ map name own = sym (all back) ∙ kept ∙ all own in
       let wove : map name ends ≡ map name ready =
       ap (map name) h.put ∙ map_woven name back rest ∙ ap (λ l. woven l (map name rest)) firsts_same ∙ sym (map_woven name own rest) ∙ ap (map name) h.taken in
-      named_same place (map seen olds) (map seen ready) (map seen ends) (all ends ∙ wove ∙ sym (all ready)) named
+      all ends ∙ wove ∙ sym (all ready)
 
   -- the first disks of the nodes were made ready
   pub own_stay : AllStay (first_disks n (map seen olds)) (map seen own)

@@ -1,5 +1,5 @@
 -- Which disks are which node's: each node has two, of which the first holds its journal.
-use Rattle.std.specs.Prelude.{ℕ, ◌/◌, ◌%◌, ◌==◌, List, [], ◌∷◌, ◌++◌, take, codes, decimal, Bool, true, false, None}
+use Rattle.std.specs.Prelude.{ℕ, ◌/◌, ◌%◌, ◌==◌, List, [], ◌∷◌, ◌++◌, take, codes, decimal, Bool, true, false, Option}
 use Rattle.outside.specs.Disk.{Attached}
 
 -- every other one, from the first on
@@ -27,6 +27,7 @@ letter_of false = codes "a"
 abbrev pub disk_name : ℕ → Bool → List ℕ
 disk_name node second = codes "node-" ++ decimal node ++ codes "." ++ letter_of second
 
--- what the disk at a place among all disks is attached as once it is made ready: in memory, under the name of its node's first or second disk
-abbrev pub own_name : ℕ → Attached
-own_name place = record { folder = None; name = disk_name (place / 2) (place % 2 == 1) }
+-- what the disk at a place among all disks is attached as once it is made ready: in a folder or in memory, under the name of its node's first or second
+-- disk
+abbrev pub own_name : Option (List ℕ) → ℕ → Attached
+own_name folder place = record { folder = folder; name = disk_name (place / 2) (place % 2 == 1) }

@@ -7,7 +7,7 @@ use Rattle.net_base.specs.declared.causes.Cause.{Cause}
 use Rattle.net_base.specs.declared.names.Identity.{Identity}
 use Rattle.net_base.specs.declared.values.Party.{Party}
 use Rattle.shell_words.specs.declared.program.NetworkWords.{NetworkWords}
-use Rattle.shell_words.specs.Script.{network_of_words}
+use Rattle.shell_words.specs.Program.{network_of_words, dir_of_words}
 use Rattle.disk_journal.specs.Journal.{WasSpelt, journal_of, placed, is_unformatted, formatted, refusal}
 use Rattle.disk_journal.specs.declared.fault.OpenFault.TheVariants as open_fault
 use Rattle.net_model.specs.Environment.{Environment, environment, party, Meaning}
@@ -18,7 +18,7 @@ use Rattle.node_core.specs.declared.faults.BootFault.{BootFault}
 use Rattle.node_core.specs.declared.faults.BootFault.TheVariants as boot
 use Rattle.network_core.specs.Worlds.{World, NodeWorld, NetSeen, MaySpell, Shows, AreOpenable, Coherent, Choice}
 use Rattle.node_core.specs.Seen.{NodeSeen}
-use Rattle.node_core.specs.Disks.{roomless}
+use Rattle.node_core.specs.Disks.{roomless, attached_as}
 use Rattle.network_core.specs.Begins.{member, nodes_over, net_over, Begun, BootsUpTo}
 use Rattle.network_core.specs.Acknowledged.{Reaches, Acknowledged, StandsOnce}
 use Rattle.network_core.specs.Drains.{with_world}
@@ -133,26 +133,36 @@ pub record AllStay (old new : List DiskView) : Type 0 where
   pub count : length new ≡ length old
   pub each : (p : ℕ) (d e : DiskView) → slice_get old p ≡ Some d → slice_get new p ≡ Some e → StaysBut d e
 
--- the disks before a place are attached in memory under their own names, and all others as they were before
-pub record AreNamed (place : ℕ) (old new : List DiskView) : Type 0 where
-  pub own : (p : ℕ) (e : DiskView) → p < place → slice_get new p ≡ Some e → e.attached ≡ Some (own_name p)
+-- no disk's count of faults has fallen
+pub record NoneFalls (old new : List DiskView) : Type 0 where
+  pub count : length new ≡ length old
+  pub each : (p : ℕ) (d e : DiskView) → slice_get old p ≡ Some d → slice_get new p ≡ Some e → d.faults ≤ e.faults
+
+-- what making disks ready leaves of them: in memory each is as before but for its count of faults and what it is attached as, and in a folder no count has fallen
+abbrev pub StayIn : Option (List ℕ) → List DiskView → List DiskView → Type 0
+StayIn None old new = AllStay old new
+StayIn (Some path) old new = NoneFalls old new
+
+-- the disks before a place are attached under their own names, in this folder or in memory, and all others as they were before
+pub record AreNamed (folder : Option (List ℕ)) (place : ℕ) (old new : List DiskView) : Type 0 where
+  pub own : (p : ℕ) (e : DiskView) → p < place → slice_get new p ≡ Some e → e.attached ≡ Some (own_name folder p)
   pub rest : (p : ℕ) (d e : DiskView) → place ≤ p → slice_get old p ≡ Some d → slice_get new p ≡ Some e → e.attached ≡ d.attached
 
 -- of the first disks, so many, those before some place are attached under their own names, and no others
-abbrev pub StopsNaming : ℕ → List DiskView → List DiskView → Type 0
-StopsNaming count old new = (place : ℕ) × (place < count) × AreNamed place old new
+abbrev pub StopsNaming : Option (List ℕ) → ℕ → List DiskView → List DiskView → Type 0
+StopsNaming folder count old new = (place : ℕ) × (place < count) × AreNamed folder place old new
 
--- the attaching stopped at a disk of the nodes, for a disk that failed or for want of memory: nothing was read, and each disk is as before but for
--- its count of faults and what it is attached as
-pub record StopsAttaching (nodes : ℕ) (old new : List DiskView) (count number : ℕ) : Type 0 where
-  pub named : StopsNaming (2 * nodes) old new
-  pub stay : AllStay old new
+-- the attaching stopped at a disk of the nodes, for a disk that failed or for want of memory, or did not begin: nothing was read, and the disks are left
+-- as making them ready leaves them
+pub record StopsAttaching (folder : Option (List ℕ)) (nodes : ℕ) (old new : List DiskView) (count number : ℕ) : Type 0 where
+  pub named : StopsNaming folder (2 * nodes) old new ⊎ (new ≡ old)
+  pub stay : StayIn folder old new
   pub none : count ≡ 0
   pub status_is : (number ≡ 6) ⊎ (number ≡ 7)
 
--- both disks of each node are attached in memory under their own names, and all others as they were before; or the attaching stopped
-abbrev pub NamesDisks : ℕ → List DiskView → List DiskView → ℕ → ℕ → Type 0
-NamesDisks nodes old new count number = AreNamed (2 * nodes) old new ⊎ StopsAttaching nodes old new count number
+-- both disks of each node are attached under their own names, in this folder or in memory, and all others as they were before; or the attaching stopped
+abbrev pub NamesDisks : Option (List ℕ) → ℕ → List DiskView → List DiskView → ℕ → ℕ → Type 0
+NamesDisks folder nodes old new count number = AreNamed folder (2 * nodes) old new ⊎ StopsAttaching folder nodes old new count number
 
 -- the count of faults of a disk rose, and the disk was not calm
 pub record Fails (old new : DiskView) : Type 0 where
@@ -168,6 +178,16 @@ pub record OneFails (count : ℕ) (old new : List DiskView) : Type 0 where
   pub at : slice_get old place ≡ Some before
   pub now : slice_get new place ≡ Some after
   pub fails : Fails before after
+
+-- the count of faults of one of the first of these disks, so many, rose
+pub record OneRises (count : ℕ) (old new : List DiskView) : Type 0 where
+  pub place : ℕ
+  pub own : place < count
+  pub before : DiskView
+  pub after : DiskView
+  pub at : slice_get old place ≡ Some before
+  pub now : slice_get new place ≡ Some after
+  pub rose : Rose before.faults after.faults
 
 -- a disk's count of faults has not fallen, and if it was calm it is so
 abbrev pub KeepsCalm : DiskView → DiskView → Type 0
@@ -355,6 +375,14 @@ firsts nodes disks = record { old = first_disks nodes disks.old; new = first_dis
 abbrev pub OfNetwork : List (List ℕ) → (NetworkWords → Type 0) → Type 0
 OfNetwork words P = (n : NetworkWords) → network_of_words words ≡ Some n → P n
 
+-- and where they name no folder for its disks
+abbrev pub InMemory : List (List ℕ) → (NetworkWords → Type 0) → Type 0
+InMemory words P = dir_of_words words ≡ None → OfNetwork words P
+
+-- and where they name one
+abbrev pub InFolder : List (List ℕ) → (NetworkWords → Type 0) → Type 0
+InFolder words P = (path : List ℕ) → dir_of_words words ≡ Some path → OfNetwork words P
+
 -- where the nodes' first disks show a coherent world, the script is a story that begins in it, or a node did not open
 abbrev pub IsStory : {F B : Type 0} → Meaning F → Ran B → Change (List DiskView) → NetworkWords → Type 0
 IsStory m r disks n = (w : World) → Shows (environment_for m n) (over (environment_for m n) w.now disks.old) w → Coherent (environment_for m n) w
@@ -379,28 +407,92 @@ pub record IsUntouched {B : Type 0} (r : Ran B) : Type 0 where
   pub left : r.left.new ≡ r.left.old
   pub written : r.written.new ≡ r.written.old
 
--- why the run ended so: 4 and 5 come only where the source or the sink failed, 6 only where a disk failed that was not calm, 8 only where the first disk of
--- some node keeps no journal that the node can open, which was told; and where the script was read no opening refuses what its disk keeps
+-- an opening was refused and told, the first of the nodes on these first disks
+abbrev pub ToldWhy : {F B : Type 0} → Meaning F → Ran B → Change (List DiskView) → NetworkWords → Type 0
+ToldWhy m r disks n = IsToldWhy m.frame_at n.nodes (party n.notary) disks.old disks.new r.written.old r.written.new status.BadJournal
+
+-- no opening refuses what these first disks keep
+abbrev pub OpensOwn : {F : Type 0} → Meaning F → Change (List DiskView) → NetworkWords → Type 0
+OpensOwn m disks n = KeepOwn m.frame_at n.nodes (party n.notary) disks.old
+
+-- Why the run ended so: 4 and 5 come only where the source or the sink failed. In memory 6 comes only where a disk failed that was not calm, 8 only where
+-- the first disk of some node keeps no journal that the node can open, which was told; and where the script was read no opening refuses what its disk keeps.
 pub record HasCauses {F B : Type 0} (m : Meaning F) (r : Ran B) (disks : Change (List DiskView)) : Type 0 where
   pub read_fault : Ends r status.ReadFault → Rose r.source_faults.old r.source_faults.new
   pub write_fault : Ends r status.WriteFault → Rose r.sink_faults.old r.sink_faults.new
-  pub disk_fault : Ends r status.DiskFault → OfNetwork r.words (λ n. OneFails (2 * n.nodes) disks.old disks.new)
-  pub bad_journal : Ends r status.BadJournal → OfNetwork r.words (λ n. IsToldWhy m.frame_at n.nodes (party n.notary) (firsts n.nodes disks).old (firsts n.nodes disks).new r.written.old r.written.new status.BadJournal)
-  pub own : IsPlayedNumber r.status → OfNetwork r.words (λ n. KeepOwn m.frame_at n.nodes (party n.notary) (firsts n.nodes disks).old)
+  pub disk_fault : Ends r status.DiskFault → InMemory r.words (λ n. OneFails (2 * n.nodes) disks.old disks.new)
+  pub bad_journal : Ends r status.BadJournal → InMemory r.words (λ n. ToldWhy m r (firsts n.nodes disks) n)
+  pub own : IsPlayedNumber r.status → InMemory r.words (λ n. OpensOwn m (firsts n.nodes disks) n)
 
--- A run. Over disks that show a coherent world it is a story (`story`), over any disks it went line by line or nothing was read (`went`), each status has its
--- cause (`causes`); 2 is exactly refused words (`words`), which leave everything untouched, and 3 exactly a script that is too long (`too_long`). The 32 disks
--- come back in order, those of the nodes under their names, the second ones and those behind them as they were. No count of faults falls.
+-- A run over disks that were made ready: over such as show a coherent world it is a story, over any it went line by line or nothing was read.
+pub record IsPlayed {F B : Type 0} (m : Meaning F) (seen : B → DiskView) (r : Ran B) (n : NetworkWords) : Type 0 where
+  pub story : IsStory m r (firsts n.nodes (views seen r.disks)) n
+  pub went : Went m r (firsts n.nodes (views seen r.disks)) n
+  pub bad_journal : Ends r status.BadJournal → ToldWhy m r (firsts n.nodes (views seen r.disks)) n
+  pub own : IsPlayedNumber r.status → OpensOwn m (firsts n.nodes (views seen r.disks)) n
+  pub seconds : KeepsSeconds (views seen r.disks) n
+  -- each is attached as it was
+  pub attached : attached_as (map seen r.disks.new) ≡ attached_as (map seen r.disks.old)
+
+-- How a run ends for which the words were taken: 3 is exactly a script that is too long, 4 and 5 come only where the source or the sink failed, the 32 disks come
+-- back, those behind the nodes' as they were, and no count of faults of the source or the sink falls.
+pub record EndsWell {B : Type 0} (r : Ran B) (n : NetworkWords) : Type 0 where
+  pub words : Ends r status.BadWords → ⊥
+  pub too_long : Ends r status.TooLong ↔ (r.count ≡ 16777217)
+  pub few : r.count ≤ 16777217
+  pub disks : length r.disks.new ≡ 32
+  pub others : KeepsOthers r.disks n
+  pub read_fault : Ends r status.ReadFault → Rose r.source_faults.old r.source_faults.new
+  pub write_fault : Ends r status.WriteFault → Rose r.sink_faults.old r.sink_faults.new
+  pub later : (r.source_faults.old ≤ r.source_faults.new) × (r.sink_faults.old ≤ r.sink_faults.new)
+
+-- a run over disks that were made ready, and why it ended so
+pub record RanReady {F B : Type 0} (m : Meaning F) (seen : B → DiskView) (r : Ran B) (n : NetworkWords) : Type 0 where
+  pub played : IsPlayed m seen r n
+  pub disk_fault : Ends r status.DiskFault → OneFails (2 * n.nodes) (map seen r.disks.old) (map seen r.disks.new)
+  pub ends : EndsWell r n
+
+-- a run in memory, in which the disks are made ready first, and why it ended so
+pub record RanInMemory {F B : Type 0} (m : Meaning F) (seen : B → DiskView) (r : Ran B) (n : NetworkWords) : Type 0 where
+  pub story : IsStory m r (firsts n.nodes (views seen r.disks)) n
+  pub went : Went m r (firsts n.nodes (views seen r.disks)) n
+  pub disk_fault : Ends r status.DiskFault → OneFails (2 * n.nodes) (map seen r.disks.old) (map seen r.disks.new)
+  pub bad_journal : Ends r status.BadJournal → ToldWhy m r (firsts n.nodes (views seen r.disks)) n
+  pub own : IsPlayedNumber r.status → OpensOwn m (firsts n.nodes (views seen r.disks)) n
+  pub seconds : KeepsSeconds (views seen r.disks) n
+  pub named : NamesDisks None n.nodes (map seen r.disks.old) (map seen r.disks.new) r.count r.status
+  pub ends : EndsWell r n
+
+-- A run over files: once they were made ready, by which no count of faults fell, it is a run over them; 6 comes only where a count rose.
+pub record RunsOverFiles {F B : Type 0} (m : Meaning F) (seen : B → DiskView) (r : Ran B) (n : NetworkWords) : Type 0 where
+  pub ready : List B
+  pub none_falls : NoneFalls (map seen r.disks.old) (map seen ready)
+  pub played : IsPlayed m seen (record r { disks = record r.disks { old = ready } }) n
+  pub disk_fault : Ends r status.DiskFault → OneRises (2 * n.nodes) (map seen r.disks.old) (map seen r.disks.new)
+
+-- a run over the files of a folder, in which the disks are made ready first, and why it ended so
+pub record RanInFolder {F B : Type 0} (m : Meaning F) (seen : B → DiskView) (path : List ℕ) (r : Ran B) (n : NetworkWords) : Type 0 where
+  pub files : RunsOverFiles m seen r n
+  pub named : NamesDisks (Some path) n.nodes (map seen r.disks.old) (map seen r.disks.new) r.count r.status
+  pub ends : EndsWell r n
+
+-- A run. In memory, over disks that show a coherent world it is a story (`story`), over any disks it went line by line or nothing was read (`went`), each
+-- status has its cause (`causes`), and the second disks stay as they were; over files this holds of the disks once they were made ready (`files`). 2 comes
+-- only where the words are refused (`words`), which leaves everything untouched, and is the status then unless memory ran out (`refused`); 3 is exactly a script
+-- that is too long (`too_long`). The 32 disks come back in order, those of the nodes under their names, and those behind them as they were. No count of
+-- faults of the source or the sink falls.
 pub record IsRun {F B : Type 0} (m : Meaning F) (seen : B → DiskView) (r : Ran B) : Type 0 where
-  pub story : OfNetwork r.words (λ n. IsStory m r (firsts n.nodes (views seen r.disks)) n)
-  pub went : OfNetwork r.words (λ n. Went m r (firsts n.nodes (views seen r.disks)) n)
+  pub story : InMemory r.words (λ n. IsStory m r (firsts n.nodes (views seen r.disks)) n)
+  pub went : InMemory r.words (λ n. Went m r (firsts n.nodes (views seen r.disks)) n)
   pub causes : HasCauses m r (views seen r.disks)
-  pub words : Ends r status.BadWords ↔ (network_of_words r.words ≡ None)
+  pub seconds : InMemory r.words (KeepsSeconds (views seen r.disks))
+  pub files : InFolder r.words (RunsOverFiles m seen r)
+  pub words : Ends r status.BadWords → network_of_words r.words ≡ None
+  pub refused : network_of_words r.words ≡ None → Ends r status.BadWords ⊎ Ends r status.NoMemory
   pub untouched : network_of_words r.words ≡ None → IsUntouched r
   pub too_long : Ends r status.TooLong ↔ (r.count ≡ 16777217)
   pub few : r.count ≤ 16777217
   pub disks : length r.disks.new ≡ 32
   pub others : OfNetwork r.words (KeepsOthers r.disks)
-  pub seconds : OfNetwork r.words (KeepsSeconds (views seen r.disks))
-  pub named : OfNetwork r.words (λ n. NamesDisks n.nodes (views seen r.disks).old (views seen r.disks).new r.count r.status)
+  pub named : OfNetwork r.words (λ n. NamesDisks (dir_of_words r.words) n.nodes (views seen r.disks).old (views seen r.disks).new r.count r.status)
   pub later : (r.source_faults.old ≤ r.source_faults.new) × (r.sink_faults.old ≤ r.sink_faults.new)

@@ -1,8 +1,8 @@
 //! How a run begins: the disks are made ready, and a first opening that was refused is told.
 
-ghost use Rattle.std.specs.Prelude.{◌≡◌, ◌≤◌, ◌*◌, length, drop, map, IfErr, IsErrOf, IfOk, OnOk, OnErr, Some, string_bytes};
+ghost use Rattle.std.specs.Prelude.{◌≡◌, ◌≤◌, ◌*◌, length, drop, map, option_map, IfErr, IsErrOf, IfOk, OnOk, OnErr, Some, None, string_bytes};
 ghost use Rattle.outside.specs.Faults.{Rose};
-ghost use Rattle.node_shell.specs.Runs.{journal_line, RefusedWith, IsOpeningStatus, IsRefusedStatus, Fails, OneFails, StaysBut, AllStay, AreNamed, StopsNaming};
+ghost use Rattle.node_shell.specs.Runs.{journal_line, RefusedWith, IsOpeningStatus, IsRefusedStatus, Fails, OneFails, OneRises, StaysBut, StayIn, NoneFalls, AreNamed, StopsNaming};
 ghost use Rattle.node_shell.specs.Pairs.{letter_of, disk_name, own_name};
 
 use super::statuses::Status;
@@ -27,18 +27,25 @@ fn disk_name(alloc: Global, node: usize, second: bool) -> Result<String, AllocEr
     Ok(name)
 }
 
-/// Makes the disk at a place ready, in memory, under its own name.
-fn attach<B: Bay>(alloc: Global, disk: &mut B, place: usize) -> Result<(), Status>
-    ensures stays { StaysBut (B.seen disk.old) (B.seen disk.new) }
-    ensures named { OnOk result ((B.seen disk.new).attached ≡ Some (own_name place)) }
+/// Makes the disk at a place ready under its own name, in a folder or in memory.
+fn attach<B: Bay>(
+    alloc: Global,
+    dir: Option<&str>,
+    disk: &mut B,
+    place: usize,
+) -> Result<(), Status>
+    ensures stays { option_map (λ s. s.now) dir.entry ≡ None → StaysBut (B.seen disk.old) (B.seen disk.new) }
+    ensures later { (B.seen disk.old).faults ≤ (B.seen disk.new).faults }
+    ensures named { OnOk result ((B.seen disk.new).attached ≡ Some (own_name (option_map (λ s. s.now) dir.entry) place)) }
     ensures unnamed { OnErr result ((B.seen disk.new).attached ≡ (B.seen disk.old).attached) }
     ensures kinds { IfErr result IsOpeningStatus }
-    ensures cause { IsErrOf result Status.DiskFault → Fails (B.seen disk.old) (B.seen disk.new) }
+    ensures cause { option_map (λ s. s.now) dir.entry ≡ None → IsErrOf result Status.DiskFault → Fails (B.seen disk.old) (B.seen disk.new) }
+    ensures rose { IsErrOf result Status.DiskFault → Rose (B.seen disk.old).faults (B.seen disk.new).faults }
 {
     let Ok(name) = disk_name(alloc, place / 2, place % 2 == 1) else {
         return Err(Status::NoMemory);
     };
-    match disk.attach(alloc, None, name.as_str()) {
+    match disk.attach(alloc, dir, name.as_str()) {
         Ok(()) => Ok(()),
         Err(AttachFault::Failed) => Err(Status::DiskFault),
         Err(AttachFault::Memory) => Err(Status::NoMemory),
@@ -88,20 +95,27 @@ pub fn refuse<K: Sink>(alloc: Global, sink: &mut K, node: u8, why: BootFault) ->
     }
 }
 
-/// Makes both disks of each of so many nodes ready, in order.
-pub fn attach_all<B: Bay>(alloc: Global, disks: &mut Vec<B>, nodes: usize) -> Result<(), Status>
+/// Makes both disks of each of so many nodes ready, in order, in a folder or in memory.
+pub fn attach_all<B: Bay>(
+    alloc: Global,
+    dir: Option<&str>,
+    disks: &mut Vec<B>,
+    nodes: usize,
+) -> Result<(), Status>
     requires few { nodes ≤ 16 }
     requires disks { 2 * nodes ≤ length disks.old.items }
-    ensures stay { AllStay (map B.seen disks.old.items) (map B.seen disks.new.items) }
-    ensures named { OnOk result (AreNamed (2 * nodes) (map B.seen disks.old.items) (map B.seen disks.new.items)) }
-    ensures stopped { OnErr result (StopsNaming (2 * nodes) (map B.seen disks.old.items) (map B.seen disks.new.items)) }
+    ensures stay { StayIn (option_map (λ s. s.now) dir.entry) (map B.seen disks.old.items) (map B.seen disks.new.items) }
+    ensures none_falls { NoneFalls (map B.seen disks.old.items) (map B.seen disks.new.items) }
+    ensures named { OnOk result (AreNamed (option_map (λ s. s.now) dir.entry) (2 * nodes) (map B.seen disks.old.items) (map B.seen disks.new.items)) }
+    ensures stopped { OnErr result (StopsNaming (option_map (λ s. s.now) dir.entry) (2 * nodes) (map B.seen disks.old.items) (map B.seen disks.new.items)) }
     ensures rest { drop (2 * nodes) disks.new.items ≡ drop (2 * nodes) disks.old.items }
     ensures kinds { IfErr result IsOpeningStatus }
-    ensures cause { IsErrOf result Status.DiskFault → OneFails (2 * nodes) (map B.seen disks.old.items) (map B.seen disks.new.items) }
+    ensures cause { option_map (λ s. s.now) dir.entry ≡ None → IsErrOf result Status.DiskFault → OneFails (2 * nodes) (map B.seen disks.old.items) (map B.seen disks.new.items) }
+    ensures rose { IsErrOf result Status.DiskFault → OneRises (2 * nodes) (map B.seen disks.old.items) (map B.seen disks.new.items) }
 {
     'places: for place in 0..2 * nodes {
         let disk = &mut disks[place];
-        match attach(alloc, disk, place) {
+        match attach(alloc, dir, disk, place) {
             Ok(()) => {}
             Err(status) => return Err(status),
         }

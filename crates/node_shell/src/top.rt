@@ -1,13 +1,10 @@
-ghost use Rattle.std.specs.Prelude.{◌≡◌, ◌≤◌, ◌<◌, ◌↔◌, ◌+◌, ◌*◌, ℕ, length, map, drop, slice_get, string_bytes, Some, None};
-ghost use Rattle.outside.specs.Disk.{DiskView};
+ghost use Rattle.std.specs.Prelude.{◌≡◌, ◌≤◌, ◌↔◌, [], length, map, string_bytes};
 ghost use Rattle.outside.specs.Faults.{Rose};
 ghost use Rattle.net_model.specs.Environment.{party, meaning};
 ghost use Rattle.node_core.specs.Disks.{attached_as};
 ghost use Rattle.network_core.specs.Worlds.{World, Shows, Coherent};
-ghost use Rattle.shell_words.specs.Script.{network_of_words, IsNetwork};
-ghost use Rattle.shell_words.specs.declared.program.NetworkWords.{NetworkWords};
-ghost use Rattle.node_shell.specs.Pairs.{first_disks};
-ghost use Rattle.node_shell.specs.Runs.{RunsAs, RunsAnyhow, PlaysOrRefuses, GoesOrHalts, OneFails, IsToldWhy, KeepOwn, StaysBut, NamesDisks, IsPlayedStatus, IsPlayedNumber, IsRunStatus, number_of_status, IsRun, environment_for, over};
+ghost use Rattle.shell_words.specs.Program.{IsNetwork};
+ghost use Rattle.node_shell.specs.Runs.{PlaysOrRefuses, GoesOrHalts, OneFails, IsToldWhy, KeepOwn, RanReady, RanInMemory, RanInFolder, IsPlayedStatus, IsRunStatus, number_of_status, IsRun, environment_for, over};
 
 use super::disks::{put_back, take_first};
 use super::openings::{attach_all, refuse};
@@ -18,7 +15,7 @@ use flow_machine::FlowSet;
 use net_base::Party;
 use network_core::Net;
 use outside::{Bay, Sink, Source};
-use shell_words::{NetworkWords, network_of_words};
+use shell_words::{NetworkWords, WordsFault, program_words};
 use std::alloc::Global;
 
 /// What a run leaves.
@@ -73,8 +70,8 @@ fn play<S: Source, K: Sink, B: Bay, F: FlowSet, J: Judge>(
     }
 }
 
-/// Runs a script over this network: makes the disks of its nodes ready, opens the nodes, and plays.
-fn run_network<S: Source, K: Sink, B: Bay, F: FlowSet, J: Judge>(
+/// Runs a script over this network on disks that were made ready: opens the nodes, and plays.
+fn run_ready<S: Source, K: Sink, B: Bay, F: FlowSet, J: Judge>(
     alloc: Global,
     network: NetworkWords,
     source: &mut S,
@@ -84,31 +81,22 @@ fn run_network<S: Source, K: Sink, B: Bay, F: FlowSet, J: Judge>(
 ) -> Ended<B>
     requires within { IsNetwork network }
     requires disks { length disks.items ≡ 32 }
-    ensures story { let e = environment_for (meaning F.machine F.reading (J.judges contracts.now)) network in let old = first_disks network.nodes (map B.seen disks.items) in let new = first_disks network.nodes (map B.seen result.disks.items) in (w : World) → Shows e (over e w.now old) w → Coherent e w
-        → RunsAs (meaning F.machine F.reading (J.judges contracts.now)) network.nodes (party network.notary) w old new (S.left source.old) (S.left source.new) (K.written sink.old) (K.written sink.new) result.bytes_read result.status }
-    ensures went { RunsAnyhow (meaning F.machine F.reading (J.judges contracts.now)) network.nodes (party network.notary) (first_disks network.nodes (map B.seen disks.items)) (first_disks network.nodes (map B.seen result.disks.items)) (S.left source.old) (S.left source.new) (K.written sink.old) (K.written sink.new) result.bytes_read result.status }
-    ensures words { result.status ≡ 2 → ⊥ }
-    ensures count { length result.disks.items ≡ 32 }
-    ensures rest { drop (2 * network.nodes) result.disks.items ≡ drop (2 * network.nodes) disks.items }
-    ensures named { NamesDisks network.nodes (map B.seen disks.items) (map B.seen result.disks.items) result.bytes_read result.status }
-    ensures second { (p : ℕ) (d e : DiskView) → p < network.nodes → slice_get (map B.seen disks.items) (2 * p + 1) ≡ Some d → slice_get (map B.seen result.disks.items) (2 * p + 1) ≡ Some e → StaysBut d e }
-    ensures own { IsPlayedNumber result.status → KeepOwn F.reading network.nodes (party network.notary) (first_disks network.nodes (map B.seen disks.items)) }
-    ensures too_long { (result.status ≡ 3) ↔ (result.bytes_read ≡ 16777217) }
-    ensures few { result.bytes_read ≤ 16777217 }
-    ensures read_fault { result.status ≡ 4 → Rose (S.faults source.old) (S.faults source.new) }
-    ensures disk_fault { result.status ≡ 6 → OneFails (2 * network.nodes) (map B.seen disks.items) (map B.seen result.disks.items) }
-    ensures bad_journal { result.status ≡ 8 → IsToldWhy F.reading network.nodes (party network.notary) (first_disks network.nodes (map B.seen disks.items)) (first_disks network.nodes (map B.seen result.disks.items)) (K.written sink.old) (K.written sink.new) Status.BadJournal }
-    ensures write_fault { result.status ≡ 5 → Rose (K.faults sink.old) (K.faults sink.new) }
-    ensures later { (S.faults source.old ≤ S.faults source.new) × (K.faults sink.old ≤ K.faults sink.new) }
+    ensures { RanReady (meaning F.machine F.reading (J.judges contracts.now)) B.seen (record {
+      words = [];
+      disks = record { old = disks.items; new = result.disks.items };
+      left = record { old = S.left source.old; new = S.left source.new };
+      written = record { old = K.written sink.old; new = K.written sink.new };
+      source_faults = record { old = S.faults source.old; new = S.faults source.new };
+      sink_faults = record { old = K.faults sink.old; new = K.faults sink.new };
+      count = result.bytes_read;
+      status = result.status;
+    }) network }
 {
     let mut disks = disks;
     let nodes = network.nodes as usize;
     let Ok(mut own) = Vec::with_capacity(alloc, nodes) else {
         return end_with(Status::NoMemory, disks, 0);
     };
-    if let Err(status) = attach_all(alloc, &mut disks, nodes) {
-        return end_with(status, disks, 0);
-    }
     take_first(&mut disks, &mut own, nodes);
     let (status, bytes_read, own) = play::<S, K, B, F, J>(
         alloc, source, sink, network, own, contracts,
@@ -117,12 +105,75 @@ fn run_network<S: Source, K: Sink, B: Bay, F: FlowSet, J: Judge>(
     end_with(status, disks, bytes_read)
 }
 
+/// Runs a script over this network in memory: makes the disks of its nodes ready, opens the nodes, and plays.
+fn run_in_memory<S: Source, K: Sink, B: Bay, F: FlowSet, J: Judge>(
+    alloc: Global,
+    network: NetworkWords,
+    source: &mut S,
+    sink: &mut K,
+    disks: Vec<B>,
+    contracts: &J,
+) -> Ended<B>
+    requires within { IsNetwork network }
+    requires disks { length disks.items ≡ 32 }
+    ensures { RanInMemory (meaning F.machine F.reading (J.judges contracts.now)) B.seen (record {
+      words = [];
+      disks = record { old = disks.items; new = result.disks.items };
+      left = record { old = S.left source.old; new = S.left source.new };
+      written = record { old = K.written sink.old; new = K.written sink.new };
+      source_faults = record { old = S.faults source.old; new = S.faults source.new };
+      sink_faults = record { old = K.faults sink.old; new = K.faults sink.new };
+      count = result.bytes_read;
+      status = result.status;
+    }) network }
+{
+    let mut disks = disks;
+    match attach_all(alloc, None, &mut disks, network.nodes as usize) {
+        Err(status) => end_with(status, disks, 0),
+        Ok(()) => run_ready::<S, K, B, F, J>(
+            alloc, network, source, sink, disks, contracts,
+        ),
+    }
+}
+
+/// Runs a script over this network on the files of a folder: makes the disks of its nodes ready there, opens the nodes, and plays.
+fn run_in_folder<S: Source, K: Sink, B: Bay, F: FlowSet, J: Judge>(
+    alloc: Global,
+    dir: &str,
+    network: NetworkWords,
+    source: &mut S,
+    sink: &mut K,
+    disks: Vec<B>,
+    contracts: &J,
+) -> Ended<B>
+    requires within { IsNetwork network }
+    requires disks { length disks.items ≡ 32 }
+    ensures { RanInFolder (meaning F.machine F.reading (J.judges contracts.now)) B.seen dir.now (record {
+      words = [];
+      disks = record { old = disks.items; new = result.disks.items };
+      left = record { old = S.left source.old; new = S.left source.new };
+      written = record { old = K.written sink.old; new = K.written sink.new };
+      source_faults = record { old = S.faults source.old; new = S.faults source.new };
+      sink_faults = record { old = K.faults sink.old; new = K.faults sink.new };
+      count = result.bytes_read;
+      status = result.status;
+    }) network }
+{
+    let mut disks = disks;
+    match attach_all(alloc, Some(dir), &mut disks, network.nodes as usize) {
+        Err(status) => end_with(status, disks, 0),
+        Ok(()) => run_ready::<S, K, B, F, J>(
+            alloc, network, source, sink, disks, contracts,
+        ),
+    }
+}
+
 /// Runs a script over a network of 1 to 16 nodes, line by line, and writes the answers.
 ///
-/// The words are `--nodes n`, with 1 to 16, and `--notary n`, with 0 to 15 and below the number of nodes, each at most once and in any
-/// order; without them there are two nodes, and node 0 is the notary. Of the 32 disks node `n` has disks `2n` and `2n + 1`, which are
-/// made ready in memory as `node-n.a` and `node-n.b`; its journal is on the first. All disks are made ready in order, and then the nodes
-/// are opened in order. The contracts are those by which the nodes verify transactions. A script has at most 16,777,216 bytes. Each line
+/// The words are `--nodes n`, with 1 to 16, `--notary n`, with 0 to 15 and below the number of nodes, and `--dir path`, each at most once
+/// and in any order; without them there are two nodes, node 0 is the notary, and the disks are in memory. Of the 32 disks node `n` has
+/// disks `2n` and `2n + 1`, which are made ready as `node-n.a` and `node-n.b`, in the folder that `--dir` names or in memory; its journal
+/// is on the first. All disks are made ready in order, and then the nodes are opened in order. The contracts are those by which the nodes verify transactions. A script has at most 16,777,216 bytes. Each line
 /// of it is a command, which has one answer line or, a query, several; a blank line, one that begins with `#` and `quit` have none. The
 /// frames that wait when it ends are not kept.
 ///
@@ -153,11 +204,23 @@ pub fn run<S: Source, K: Sink, B: Bay, F: FlowSet, J: Judge>(
       status = result.status;
     }) }
 {
-    match network_of_words(words) {
-        None => end_with(Status::BadWords, disks, 0),
-        Some(network) => run_network::<S, K, B, F, J>(
-            alloc, network, source, sink, disks, contracts,
-        ),
+    match program_words(alloc, words) {
+        Ok(asked) => match asked.dir {
+            None => run_in_memory::<S, K, B, F, J>(
+                alloc, asked.network, source, sink, disks, contracts,
+            ),
+            Some(dir) => run_in_folder::<S, K, B, F, J>(
+                alloc,
+                dir.as_str(),
+                asked.network,
+                source,
+                sink,
+                disks,
+                contracts,
+            ),
+        },
+        Err(WordsFault::Refused) => end_with(Status::BadWords, disks, 0),
+        Err(WordsFault::Memory) => end_with(Status::NoMemory, disks, 0),
     }
 }
 
