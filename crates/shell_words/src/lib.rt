@@ -9,5 +9,5 @@ mod words;
 
 pub use commands::{Command, TxName, command_of};
 pub use lines::{has_no_answer, is_readable, without_cr};
-pub use program::{NetworkWords, ProgramWords, WordsFault, program_words};
+pub use program::{NetworkWords, network_of_words};
 pub use words::{has_mark, is_blank, is_plain, mark_of, words_of};
