@@ -1,3 +1,5 @@
+mod Asked
 mod FiveWords
 mod Marks
+mod OptionValues
 pub mod Splitting

@@ -1,4 +1,4 @@
--- The script: its lines, their words, and what the words ask for; and the words that the program is started with.
+-- The script: its lines, their words, and what the words ask for.
 use Rattle.std.specs.Prelude.{◌≡◌, ◌≢◌, ◌<◌, ◌≤◌, ℕ, ◌-◌, List, [], ◌∷◌, ◌++◌, Bool, true, false, Option, Some, None, Result, Ok, Err, is_some, option_and_then, All, nat_lt, nat_le, ◌==◌, ◌&&◌, ◌||◌, not, if◌then◌else◌, length, codes, take, slice_index, map}
 use Rattle.std.specs.List.{list_all, list_any, flat_map}
 use Rattle.std.specs.Str.{bytes_eq}
@@ -9,7 +9,6 @@ use Rattle.net_base.specs.Numbers.{number_of}
 use Rattle.shell_words.specs.declared.commands.Command.{Command}
 use Rattle.shell_words.specs.declared.commands.TxName.{TxName}
 use Rattle.shell_words.specs.declared.commands.TxName.TheVariants.{Id, Place}
-use Rattle.shell_words.specs.declared.program.NetworkWords.{NetworkWords}
 use Rattle.shell_words.specs.declared.commands.Command.TheVariants.{Clock, Start, Turn, Post, Deliver, Repeat, Lose, Cut, Boot, Drain, Flows, Flow, Vault, Balance, Book, TxLine, History, Quit, Unknown}
 
 -- ---- lines
@@ -285,58 +284,3 @@ asks_quit Unknown = false
 -- a line that asks for `quit`
 abbrev pub is_quit : List ℕ → Bool
 is_quit line = asks_quit (asked_by line)
-
--- ---- the program's words
-
--- a number of nodes that a network may have
-abbrev pub is_count : ℕ → Bool
-is_count n = nat_le 1 n && nat_le n 16
-
--- a number that may be a notary's
-abbrev pub is_place : ℕ → Bool
-is_place n = nat_le n 15
-
--- a number that passes a test
-abbrev pub passing : (ℕ → Bool) → Option ℕ → Option ℕ
-passing test None = None
-passing test (Some n) = if test n then Some n else None
-
--- the value of `--nodes`: 1 to 16
-abbrev pub nodes_of : List ℕ → Option ℕ
-nodes_of word = passing is_count (number_of word)
-
--- the value of `--notary`: 0 to 15
-abbrev pub notary_of : List ℕ → Option ℕ
-notary_of word = passing is_place (number_of word)
-
--- a network of so many nodes, where the notary is one of them
-abbrev pub network : Option ℕ → Option ℕ → Option NetworkWords
-network None notary = None
-network (Some nodes) None = None
-network (Some nodes) (Some notary) = if nat_lt notary nodes then Some (record { nodes = nodes; notary = notary }) else None
-
--- an option and its value: two nodes, or notary 0, where it is not named
-abbrev pub one_option : List ℕ → List ℕ → Option NetworkWords
-one_option o v = if bytes_eq o (codes "--nodes") then network (nodes_of v) (Some 0) else if bytes_eq o (codes "--notary") then network (Some 2) (notary_of v) else None
-
--- one option and its value, and then the other one
-abbrev pub two_options : List ℕ → List ℕ → List ℕ → List ℕ → Option NetworkWords
-two_options o v p w =
-    if bytes_eq o (codes "--nodes") && bytes_eq p (codes "--notary") then network (nodes_of v) (notary_of w)
-    else if bytes_eq o (codes "--notary") && bytes_eq p (codes "--nodes") then network (nodes_of w) (notary_of v)
-    else None
-
--- the network that the program's words ask for, by their count; none where they are refused
-abbrev pub network_of_words : List (List ℕ) → Option NetworkWords
-network_of_words [] = network (Some 2) (Some 0)
-network_of_words (o ∷ []) = None
-network_of_words (o ∷ v ∷ []) = one_option o v
-network_of_words (o ∷ v ∷ p ∷ []) = None
-network_of_words (o ∷ v ∷ p ∷ w ∷ []) = two_options o v p w
-network_of_words (o ∷ v ∷ p ∷ w ∷ x ∷ more) = None
-
--- a network has 1 to 16 nodes, and its notary is one of them
-pub record IsNetwork (n : NetworkWords) : Type 0 where
-  pub some : 0 < n.nodes
-  pub few : n.nodes ≤ 16
-  pub notary : n.notary < n.nodes

@@ -1,13 +1,16 @@
 //! The words of the shell: the lines of a script, their words, what the words ask for, and the words that the
-//! program is started with. The definitions stand in `specs/Script.antt`.
+//! program is started with. The definitions stand in `specs/Script.antt` and `specs/Program.antt`.
 #![tactic(auto)]
 
 mod commands;
 mod lines;
+mod options;
 mod program;
+mod told;
 mod words;
 
 pub use commands::{Command, TxName, command_of};
 pub use lines::{has_no_answer, is_readable, without_cr};
-pub use program::{NetworkWords, network_of_words};
+pub use program::{NetworkWords, ProgramWords, WordsFault, program_words};
+pub use told::{Told, text_told, told_of};
 pub use words::{has_mark, is_blank, is_plain, mark_of, words_of};
