@@ -1,33 +1,36 @@
-//! Runs a script of commands over a network of 1 to 16 nodes: `corda_net [--nodes N] [--notary N] < SCRIPT`.
+//! Runs a script of commands over a network of 1 to 16 nodes: `corda_net [--nodes N] [--notary N] [--dir PATH] < SCRIPT`.
 //!
-//! The script comes from standard input, and the answers go to standard output.
+//! The script comes from standard input, and the answers go to standard output. With a folder the nodes' disks are files there, and else
+//! they are in memory.
 #![tactic(auto)]
 
-ghost use Rattle.std.specs.Prelude.{◌≡◌, ◌↔◌, IfOk, length, map, string_bytes, All, [], true, None};
+ghost use Rattle.std.specs.Prelude.{◌≡◌, ◌⊎◌, ⊥, IfOk, length, map, string_bytes, All, [], true, None};
 ghost use Rattle.std.specs.IoError.{error_kind};
 ghost use Rattle.std.specs.declared.io.ErrorKind.TheVariants.{OutOfMemory};
-ghost use Rattle.outside.specs.Disk.{clean};
+ghost use Rattle.outside.specs.Disk.{DiskView, clean};
 ghost use Rattle.outside.specs.Faults.{Rose};
-ghost use Rattle.disk_mem.specs.Mem.{MemView};
-ghost use Rattle.shell_words.specs.Script.{network_of_words};
-
-mod streams;
+ghost use Rattle.shell_words.specs.Program.{network_of_words};
 
 use app_flows::AppFlow;
 use cash_contract::Cash;
 use contract_verify::{BoxedContract, ContractBook};
-use disk_mem::MemDisk;
+use disk_host::{HostDisk, StdSink, StdSource};
 use node_shell::run;
 use outside::{Sink, Source};
+use shell_words::{Told, text_told, told_of};
 use small_contracts::{Facts, Ious, Locks};
 use std::alloc::{AllocError, Global};
-use std::io::BufReader;
+use std::fs::File;
+use std::io::{BufReader, Write};
 use std::process::ExitCode;
+use std::rt::Files;
 use std::{env, io};
-use streams::{StdSink, StdSource};
 
 /// The status for words that the program refuses.
 const BAD_WORDS: u8 = 2;
+
+/// The status where the answer cannot be written.
+const WRITE_FAULT: u8 = 5;
 
 /// The status for want of memory.
 const NO_MEMORY: u8 = 7;
@@ -43,28 +46,43 @@ fn status_of(fault: &io::Error) -> u8
     }
 }
 
-/// The disks of a run, all empty.
-fn empty_disks(alloc: Global) -> Result<Vec<MemDisk>, AllocError>
+/// The disks of a run, all empty and in memory. A run opens those that it uses as files where the words name a folder.
+fn empty_disks<'a, R: Files<File = File>>(
+    alloc: Global,
+    rt: &'a R,
+) -> Result<Vec<HostDisk<'a, R>>, AllocError>
     ensures count { IfOk result (λ disks. length disks.items ≡ 32) }
-    ensures empty { IfOk result (λ disks. All (λ (d : MemView). (d.state ≡ record { kept = []; now = clean []; past = [] }) × (d.power ≡ true) × (d.fuse ≡ None) × (d.faults ≡ 0)) disks.items) }
+    ensures empty { IfOk result (λ disks. All (λ (d : DiskView). (d.state ≡ record { kept = []; now = clean []; past = [] }) × (d.calm ≡ true) × (d.power ≡ true) × (d.fuse ≡ None) × (d.faults ≡ 0)) disks.items) }
 {
     let mut disks = Vec::new(alloc);
     'disks: for _ in 0..32u8 {
-        disks.push(MemDisk::new(alloc))?;
+        disks.push(HostDisk::new(alloc, rt))?;
     }
     Ok(disks)
 }
 
+/// Writes the text that the words ask for, and gives the status.
+fn tell<W: Write>(alloc: Global, told: Told, out: &mut W) -> u8 {
+    let Ok(text) = text_told(alloc, told) else {
+        return NO_MEMORY;
+    };
+    match out.write_all(text.as_bytes()) {
+        Ok(()) => 0,
+        Err(_) => WRITE_FAULT,
+    }
+}
+
 /// Runs a script with the flows and the contracts that the program ships, and gives its status.
-fn run_shipped<S: Source, K: Sink>(
+fn run_shipped<S: Source, K: Sink, R: Files<File = File>>(
     alloc: Global,
     words: &[String],
     source: &mut S,
     sink: &mut K,
-    disks: Vec<MemDisk>,
+    disks: Vec<HostDisk<'_, R>>,
 ) -> Result<u8, AllocError>
     requires { length disks.items ≡ 32 }
-    ensures words { IfOk result (λ status. (status ≡ 2) ↔ (network_of_words (map (λ s. string_bytes s) words.now) ≡ None)) }
+    ensures words { IfOk result (λ status. status ≡ 2 → network_of_words (map (λ s. string_bytes s) words.now) ≡ None) }
+    ensures refused { IfOk result (λ status. network_of_words (map (λ s. string_bytes s) words.now) ≡ None → (status ≡ 2) ⊎ (status ≡ 7)) }
     ensures read_fault { IfOk result (λ status. status ≡ 4 → Rose (S.faults source.old) (S.faults source.new)) }
     ensures write_fault { IfOk result (λ status. status ≡ 5 → Rose (K.faults sink.old) (K.faults sink.new)) }
 {
@@ -90,10 +108,13 @@ fn main(rt: HostRuntime) -> ExitCode {
             return ExitCode::from(NO_MEMORY);
         }
     }
+    if let Some(told) = told_of(&words) {
+        return ExitCode::from(tell(alloc, told, &mut io::writer(&rt)));
+    }
     let Ok(reader) = BufReader::new(alloc, rt.reader()) else {
         return ExitCode::from(NO_MEMORY);
     };
-    let Ok(disks) = empty_disks(alloc) else {
+    let Ok(disks) = empty_disks(alloc, &rt) else {
         return ExitCode::from(NO_MEMORY);
     };
     let mut source = StdSource::new(reader);

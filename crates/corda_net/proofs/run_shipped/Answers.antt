@@ -8,3 +8,6 @@ returns-clause-read_fault g c = c.run-ended.ensures.run.causes.read_fault
 
 pub returns-clause-write_fault : goal.returns-clause-write_fault
 returns-clause-write_fault g c = c.run-ended.ensures.run.causes.write_fault
+
+pub returns-clause-refused : goal.returns-clause-refused
+returns-clause-refused g c = c.run-ended.ensures.run.refused
