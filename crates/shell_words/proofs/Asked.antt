@@ -18,7 +18,8 @@ some_kind : (k : ErrorKind) (kinds : Kinds) → IsAmong k kinds → has_kind kin
 some_kind k [] h = absurd h
 some_kind k (x ∷ xs) h = refl
 
-refused : (words : List (List ℕ)) (k : ErrorKind) → IsAmong k (fault_of our_app words) → are_refused words ≡ true
+-- and words for which one comes are refused
+pub refused : (words : List (List ℕ)) (k : ErrorKind) → IsAmong k (fault_of our_app words) → are_refused words ≡ true
 unfolding are_refused
 refused words k h = some_kind k (fault_of our_app words) h
 

@@ -1,5 +1,6 @@
 mod Asked
 mod FiveWords
+mod GoodWords
 mod Marks
 mod OptionValues
 pub mod Splitting

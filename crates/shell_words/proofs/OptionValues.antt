@@ -291,12 +291,12 @@ module _ (old new : Command) (m : ArgMatches) (app : app_of old ≡ our_app) (fr
   holds k low high d lt parser n0 n4 n7 text has =
       let id = id_is k d lt in
       let read = optional_reads old m (record { built = new; from = from; parsed = parsed }) named_no_group (no_command_groups old plain) (no_globals old plain)
-          k d (subst (λ (n : ℕ). k < n) (sym three) lt) (unique k d lt)
-          (λ empty. n0 (ap length (sym id ∙ empty)))
-          (λ auto. other_length (slice_index_or (args_of old) k d).id.now (codes "help") (codes "version")
-              (λ h. n4 (ap length (sym id) ∙ h)) (λ h. n7 (ap length (sym id) ∙ h)) auto)
-          (vp.Signed (pos low) (pos high)) parser text
-          (subst (λ (w : List ℕ). one_text (found_of m) w ≡ Some text) (sym id) has) in
+      k d (subst (λ (n : ℕ). k < n) (sym three) lt) (unique k d lt)
+      (λ empty. n0 (ap length (sym id ∙ empty)))
+      (λ auto. other_length (slice_index_or (args_of old) k d).id.now (codes "help") (codes "version")
+      (λ h. n4 (ap length (sym id) ∙ h)) (λ h. n7 (ap length (sym id) ∙ h)) auto)
+      (vp.Signed (pos low) (pos high)) parser text
+      (subst (λ (w : List ℕ). one_text (found_of m) w ≡ Some text) (sym id) has) in
       subst (λ (w : List ℕ). IsNumberIn low high w) (sym read.1) (signed_in low high read.0 read.2)
 
   pub nodes_hold : HoldsNumber 1 16 (found_of m) (codes "nodes")

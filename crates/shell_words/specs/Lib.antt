@@ -1,2 +1,3 @@
+pub mod NamedWords
 pub mod Program
 pub mod Script

@@ -3,6 +3,7 @@
 #![tactic(auto)]
 
 mod commands;
+mod laws;
 mod lines;
 mod options;
 mod program;
@@ -10,6 +11,7 @@ mod told;
 mod words;
 
 pub use commands::{Command, TxName, command_of};
+pub use laws::{folder_words_are_taken, help_alone_is_refused, network_words_are_taken};
 pub use lines::{has_no_answer, is_readable, without_cr};
 pub use program::{NetworkWords, ProgramWords, WordsFault, program_words};
 pub use told::{Told, text_told, told_of};

@@ -5,8 +5,8 @@ ghost use Rattle.clap.specs.declared.error.kind.ErrorKind.TheVariants.{OutOfMemo
 ghost use Rattle.shell_words.specs.Program.{our_app, number_in, network, network_of_words, dir_of_words, IsNetwork, HoldsNumber};
 
 use super::options::command;
-use clap::error::ErrorKind;
 use clap::ArgMatches;
+use clap::error::ErrorKind;
 use std::alloc::{AllocError, Global};
 use thiserror::Error;
 
@@ -59,7 +59,8 @@ fn parsed<'a>(alloc: Global, words: &'a [String]) -> Result<ArgMatches<'a>, clap
 
 fn nodes_of(matches: &ArgMatches<'_>) -> u8
     requires { HoldsNumber 1 16 (found_of matches.now) (codes "nodes") }
-    ensures value { result ≡ option_map_or number_in (one_text (found_of matches.now) (codes "nodes")) 2 }
+    ensures value { result
+        ≡ option_map_or number_in (one_text (found_of matches.now) (codes "nodes")) 2 }
     ensures some { 1 ≤ result }
     ensures few { result ≤ 16 }
 {
@@ -68,7 +69,8 @@ fn nodes_of(matches: &ArgMatches<'_>) -> u8
 
 fn notary_of(matches: &ArgMatches<'_>) -> u8
     requires { HoldsNumber 0 15 (found_of matches.now) (codes "notary") }
-    ensures { result ≡ option_map_or number_in (one_text (found_of matches.now) (codes "notary")) 0 }
+    ensures { result
+        ≡ option_map_or number_in (one_text (found_of matches.now) (codes "notary")) 0 }
 {
     matches.get_one::<u8>("notary").unwrap_or(USUAL_NOTARY)
 }
@@ -103,17 +105,21 @@ fn fault_by(error: clap::Error) -> WordsFault
     }
 }
 
-/// What the program's words, without its name, ask for: `--nodes` with 1 to 16, 2 where it is not named, `--notary` with the
-/// number of a node, 0 where it is not named, and `--dir` with a path. `clap` decides what it takes.
+/// What the program's words, without its name, ask for: `--nodes` with 1 to 16, 2 where it is not
+/// named, `--notary` with the number of a node, 0 where it is not named, and `--dir` with a path.
+/// `clap` decides what it takes.
 ///
 /// # Errors
 ///
-/// `Refused` exactly where `clap` refuses the words for another cause than memory, or the notary is not one of the nodes;
-/// `Memory` for want of memory.
+/// `Refused` exactly where `clap` refuses the words for another cause than memory, or the notary is
+/// not one of the nodes; `Memory` for want of memory.
 pub fn program_words(alloc: Global, words: &[String]) -> Result<ProgramWords, WordsFault>
-    ensures network { IfOk result (λ p. network_of_words (map (λ s. string_bytes s) words.now) ≡ Some p.network) }
-    ensures dir { IfOk result (λ p. dir_of_words (map (λ s. string_bytes s) words.now) ≡ option_map (λ s. string_bytes s) p.dir) }
-    ensures refused { IfErr result (λ e. e ≡ WordsFault.Refused → network_of_words (map (λ s. string_bytes s) words.now) ≡ None) }
+    ensures network { IfOk result (λ p.
+        network_of_words (map (λ s. string_bytes s) words.now) ≡ Some p.network) }
+    ensures dir { IfOk result (λ p. dir_of_words (map (λ s. string_bytes s) words.now)
+        ≡ option_map (λ s. string_bytes s) p.dir) }
+    ensures refused { IfErr result (λ e. e ≡ WordsFault.Refused
+        → network_of_words (map (λ s. string_bytes s) words.now) ≡ None) }
     ensures within { IfOk result (λ p. IsNetwork p.network) }
 {
     let matches = match parsed(alloc, words) {

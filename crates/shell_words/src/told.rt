@@ -18,8 +18,10 @@ pub enum Told {
 const ABOUT: &str = "Runs a script of commands over a network of Corda nodes.
 The script comes from standard input, one command a line; the answers go to standard output.";
 
-/// The commands and the statuses, below its options. A command has one line, in the order of the reference.
-const COMMANDS: &str = "Commands (N, P: a node, from 0; F: the number of a flow; I: the place of a frame, from 0):
+/// The commands and the statuses, below its options: a line for each. The place of a command for
+/// loads is behind `history`.
+const COMMANDS: &str =
+    "Commands (N, P: a node, from 0; F: the number of a flow; I: the place of a frame, from 0):
   clock T             sets the network's moment
   start N CLASS ARGS  starts a flow at node N
   turn N [F]          lets a flow of N, or F, go on
@@ -62,7 +64,8 @@ fn told_by(word: &str) -> Option<Told>
     }
 }
 
-/// The text that the program's words, without its name, ask for: they are exactly one of `--help`, `-h`, `--version` and `-V`.
+/// The text that the program's words, without its name, ask for: they are exactly one of `--help`,
+/// `-h`, `--version` and `-V`.
 pub fn told_of(words: &[String]) -> Option<Told>
     ensures { result ≡ told_of (map (λ s. string_bytes s) words.now) }
 {
