@@ -14,7 +14,7 @@ use Rattle.node_shell.proofs.Readying.{stay_same, first_stay}
 use Rattle.node_shell.proofs.Opening.{unready, runs_as, went_unready, opening_number}
 
 -- a run that read and wrote nothing
-pub abbrev still : {B : Type 0} → List (List ℕ) → List B → List B → Option (List ℕ) → Option (List ℕ) → ℕ → ℕ → ℕ → ℕ → Ran B
+abbrev pub still : {B : Type 0} → List (List ℕ) → List B → List B → Option (List ℕ) → Option (List ℕ) → ℕ → ℕ → ℕ → ℕ → Ran B
 still words ds es left written a b count number = record {
   words = words;
   disks = record { old = ds; new = es };
@@ -30,7 +30,7 @@ still words ds es left written a b count number = record {
 no_other : (k number : ℕ) → (k < 6) ⊎ (7 < k) → (number ≡ 6) ⊎ (number ≡ 7) → number ≡ k → ⊥
 no_other k number other is same = ⊎_elim (λ o. ⊎_elim (λ h. omega (arith, o, h, same)) (λ h. omega (arith, o, h, same)) is) (λ o. ⊎_elim (λ h. omega (arith, o, h, same)) (λ h. omega (arith, o, h, same)) is) other
 
-not_played : (number : ℕ) → (number ≡ 6) ⊎ (number ≡ 7) → IsPlayedNumber number → ⊥
+pub not_played : (number : ℕ) → (number ≡ 6) ⊎ (number ≡ 7) → IsPlayedNumber number → ⊥
 not_played number is played =
     ⊎_elim (λ h. no_other 0 number (inl (omega arith)) is h) (λ r. ⊎_elim (λ h. no_other 3 number (inl (omega arith)) is h) (λ h. no_other 4 number (inl (omega arith)) is h) r) played
 

@@ -137,7 +137,7 @@ fn run_in_memory<S: Source, K: Sink, B: Bay, F: FlowSet, J: Judge>(
 }
 
 /// Runs a script over this network on the files of a folder: makes the disks of its nodes ready there, opens the nodes, and plays.
-fn run_in_folder<S: Source, K: Sink, B: Bay, F: FlowSet, J: Judge>(
+fn run_at_path<S: Source, K: Sink, B: Bay, F: FlowSet, J: Judge>(
     alloc: Global,
     dir: &str,
     network: NetworkWords,
@@ -166,6 +166,40 @@ fn run_in_folder<S: Source, K: Sink, B: Bay, F: FlowSet, J: Judge>(
             alloc, network, source, sink, disks, contracts,
         ),
     }
+}
+
+/// The same where the folder's name is owned.
+fn run_in_folder<S: Source, K: Sink, B: Bay, F: FlowSet, J: Judge>(
+    alloc: Global,
+    dir: String,
+    network: NetworkWords,
+    source: &mut S,
+    sink: &mut K,
+    disks: Vec<B>,
+    contracts: &J,
+) -> Ended<B>
+    requires within { IsNetwork network }
+    requires disks { length disks.items ≡ 32 }
+    ensures { RanInFolder (meaning F.machine F.reading (J.judges contracts.now)) B.seen (string_bytes dir) (record {
+      words = [];
+      disks = record { old = disks.items; new = result.disks.items };
+      left = record { old = S.left source.old; new = S.left source.new };
+      written = record { old = K.written sink.old; new = K.written sink.new };
+      source_faults = record { old = S.faults source.old; new = S.faults source.new };
+      sink_faults = record { old = K.faults sink.old; new = K.faults sink.new };
+      count = result.bytes_read;
+      status = result.status;
+    }) network }
+{
+    run_at_path::<S, K, B, F, J>(
+        alloc,
+        dir.as_str(),
+        network,
+        source,
+        sink,
+        disks,
+        contracts,
+    )
 }
 
 /// Runs a script over a network of 1 to 16 nodes, line by line, and writes the answers.
@@ -205,20 +239,17 @@ pub fn run<S: Source, K: Sink, B: Bay, F: FlowSet, J: Judge>(
     }) }
 {
     match program_words(alloc, words) {
-        Ok(asked) => match asked.dir {
-            None => run_in_memory::<S, K, B, F, J>(
-                alloc, asked.network, source, sink, disks, contracts,
-            ),
-            Some(dir) => run_in_folder::<S, K, B, F, J>(
-                alloc,
-                dir.as_str(),
-                asked.network,
-                source,
-                sink,
-                disks,
-                contracts,
-            ),
-        },
+        Ok(asked) => {
+            let network = asked.network;
+            match asked.dir {
+                None => run_in_memory::<S, K, B, F, J>(
+                    alloc, network, source, sink, disks, contracts,
+                ),
+                Some(dir) => run_in_folder::<S, K, B, F, J>(
+                    alloc, dir, network, source, sink, disks, contracts,
+                ),
+            }
+        }
         Err(WordsFault::Refused) => end_with(Status::BadWords, disks, 0),
         Err(WordsFault::Memory) => end_with(Status::NoMemory, disks, 0),
     }

@@ -1,4 +1,4 @@
-use Rattle.std.proofs.Common.{◌≡◌, ◌<◌, ◌*◌, length, map, Some, refl, arith, ◌∙◌}
+use Rattle.std.proofs.Common.{◌≡◌, ◌<◌, ◌*◌, length, map, drop, Some, refl, arith, ◌∙◌}
 use Rattle.std.specs.Prelude.{option_map}
 use Rattle.std.specs.List.{slice_get}
 use Rattle.std.proofs.lemmas.Option.{slice_get_read}
@@ -50,7 +50,7 @@ pub places-init : goal.places-init
 places-init g c =
     let folder = option_map (λ s. s.now) c.args.dir in
     let disks = map g.B.Disk.seen c.args.disks.now.items in
-    (stay_in_same folder disks, refl, named_none folder disks, falls_same disks)
+    (stay_in_same folder disks, refl {a = drop (2 * c.args.nodes) c.args.disks.now.items}, named_none folder disks, falls_same disks)
 
 pub places-preserved : goal.places-preserved
 places-preserved g c =

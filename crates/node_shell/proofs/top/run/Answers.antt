@@ -1,21 +1,24 @@
-use Rattle.std.proofs.Common.{◌≡◌, inl, inr, ◌*◌, length, map, drop, refl, sym, ◌∙◌, ap, subst, arith}
-use Rattle.std.specs.Prelude.{string_bytes, Some, None}
+use Rattle.std.proofs.Common.{◌≡◌, inl, inr, ◌*◌, length, map, drop, refl, sym, ◌∙◌, ap, subst, arith, ℕ, List, Option}
+use Rattle.std.specs.Prelude.{string_bytes, option_map, Some, None}
 use Rattle.net_model.specs.Environment.{meaning}
 use Rattle.shell_words.specs.Program.{network_of_words, dir_of_words}
 use Rattle.node_shell.specs.declared.statuses.Status.TheVariants as status
-use Rattle.node_shell.specs.Runs.{AllStay, StayIn, IsPlayedNumber}
+use Rattle.node_shell.specs.Runs.{AllStay, StayIn, NamesDisks, IsPlayedNumber}
 use Rattle.node_shell.proofs.Readying.{stay_same, falls_same, stay_in_same}
 use Rattle.node_shell.proofs.Opening.{asked_only, not_refused}
-use Rattle.node_shell.proofs.Unread.{still_story, still_went, still_seconds, still_played}
+use Rattle.node_shell.proofs.Unread.{still_story, still_went, still_seconds, still_played, not_played}
 use Rattle.node_shell.proofs.top.run.Goals as goal
 
+named_by : (P : Option (List ℕ) → Type 0) (a b : Option (List ℕ)) → P b → a ≡ b → P a
+named_by P a b h same = subst P (sym same) h
+
 -- in memory
-pub returns-in-Ok-in-None : goal.returns-in-Ok-in-None
-returns-in-Ok-in-None g c =
+pub returns-in-None : goal.returns-in-None
+returns-in-None g c =
     let words = map (λ s. string_bytes s) c.args.words.now in
     let k = c.in-Ok.asked.network in
     let asked : network_of_words words ≡ Some k = c.in-Ok.ensures.network in
-    let memory : dir_of_words words ≡ None = c.in-Ok.ensures.dir in
+    let memory : dir_of_words words ≡ None = c.in-Ok.ensures.dir ∙ ap (λ dir. option_map (λ s. string_bytes s) dir) c.in-None.is in
     let e = c.run_in_memory.ensures in
     record {
       run = record {
@@ -43,26 +46,41 @@ returns-in-Ok-in-None g c =
     }
 
 -- on the files of a folder
-pub returns-in-Ok-in-Some : goal.returns-in-Ok-in-Some
-returns-in-Ok-in-Some g c =
+pub returns-in-Some : goal.returns-in-Some
+returns-in-Some g c =
     let words = map (λ s. string_bytes s) c.args.words.now in
     let k = c.in-Ok.asked.network in
     let asked : network_of_words words ≡ Some k = c.in-Ok.ensures.network in
-    let folder : dir_of_words words ≡ Some (string_bytes c.in-Ok-in-Some.dir) = c.in-Ok.ensures.dir in
+    let folder : dir_of_words words ≡ Some (string_bytes c.in-Some.dir) = c.in-Ok.ensures.dir ∙ ap (λ dir. option_map (λ s. string_bytes s) dir) c.in-Some.is in
     let e = c.run_in_folder.ensures in
+    let seen = g.B.Disk.seen in
+    let named : NamesDisks (dir_of_words words) k.nodes (map seen c.args.disks.items) (map seen c.run_in_folder.result.disks.items) c.run_in_folder.result.bytes_read c.run_in_folder.result.status =
+    named_by (λ (f : Option (List ℕ)). NamesDisks f k.nodes (map seen c.args.disks.items) (map seen c.run_in_folder.result.disks.items) c.run_in_folder.result.bytes_read c.run_in_folder.result.status) (dir_of_words words) _ e.named (c.in-Ok.ensures.dir ∙ (rw c.in-Some.is refl)) in
     record {
       run = record {
-        story = λ none. let bad : Some (string_bytes c.in-Ok-in-Some.dir) ≡ None = sym folder ∙ none in absurd cc;
-        went = λ none. let bad : Some (string_bytes c.in-Ok-in-Some.dir) ≡ None = sym folder ∙ none in absurd cc;
+        story = λ none. let bad : Some (string_bytes c.in-Some.dir) ≡ None = sym folder ∙ none in absurd cc;
+        went = λ none. let bad : Some (string_bytes c.in-Some.dir) ≡ None = sym folder ∙ none in absurd cc;
         causes = record {
           read_fault = e.ends.read_fault;
           write_fault = e.ends.write_fault;
-          disk_fault = λ is none. let bad : Some (string_bytes c.in-Ok-in-Some.dir) ≡ None = sym folder ∙ none in absurd cc;
-          bad_journal = λ is none. let bad : Some (string_bytes c.in-Ok-in-Some.dir) ≡ None = sym folder ∙ none in absurd cc;
-          own = λ is none. let bad : Some (string_bytes c.in-Ok-in-Some.dir) ≡ None = sym folder ∙ none in absurd cc;
+          disk_fault = λ is none. let bad : Some (string_bytes c.in-Some.dir) ≡ None = sym folder ∙ none in absurd cc;
+          bad_journal = λ is none. let bad : Some (string_bytes c.in-Some.dir) ≡ None = sym folder ∙ none in absurd cc;
+          own = λ is none. let bad : Some (string_bytes c.in-Some.dir) ≡ None = sym folder ∙ none in absurd cc;
         };
-        seconds = λ none. let bad : Some (string_bytes c.in-Ok-in-Some.dir) ≡ None = sym folder ∙ none in absurd cc;
-        files = λ path some. asked_only words k _ asked e.files;
+        seconds = λ none. let bad : Some (string_bytes c.in-Some.dir) ≡ None = sym folder ∙ none in absurd cc;
+        files = λ path some. asked_only words k _ asked (record {
+          ready = e.files.ready;
+          none_falls = e.files.none_falls;
+          played = record {
+            story = e.files.played.story;
+            went = e.files.played.went;
+            bad_journal = e.files.played.bad_journal;
+            own = e.files.played.own;
+            seconds = e.files.played.seconds;
+            attached = e.files.played.attached;
+          };
+          disk_fault = e.files.disk_fault;
+        });
         words = λ is. absurd (e.ends.words is);
         refused = λ none. absurd (not_refused words k asked none);
         untouched = λ none. absurd (not_refused words k asked none);
@@ -70,7 +88,7 @@ returns-in-Ok-in-Some g c =
         few = e.ends.few;
         disks = e.ends.disks;
         others = asked_only words k _ asked e.ends.others;
-        named = asked_only words k _ asked (rw folder e.named);
+        named = asked_only words k _ asked named;
         later = e.ends.later;
       };
     }
@@ -78,7 +96,7 @@ returns-in-Ok-in-Some g c =
 pub returns-in-Err-Refused : goal.returns-in-Err-Refused
 returns-in-Err-Refused g c =
     let words = map (λ s. string_bytes s) c.args.words.now in
-    let refused : network_of_words words ≡ None = c.program_words.ensures.refused c.in-Err-Refused.is in
+    let refused : network_of_words words ≡ None = c.in-Err-Refused.ensures.refused c.in-Err-Refused.field-0-is in
     let end = c.end_with.ensures in
     let same = ap (λ v. v.items) end.1 in
     record {
@@ -112,14 +130,14 @@ returns-in-Err-Memory g c =
     let m = meaning g.F.FlowSet.machine g.F.Spelt.reading (g.J.Judge.judges c.args.contracts.now) in
     let seen = g.B.Disk.seen in
     let words = map (λ s. string_bytes s) c.args.words.now in
-    let end = c.end_with-2.ensures in
+    let end = c.end_with-in-Err-Memory.ensures in
     let same = ap (λ v. v.items) end.1 in
     let olds = map seen c.args.disks.items in
     let left = g.S.Source.left c.args.source.now in
     let written = g.K.Sink.written c.args.sink.now in
     let a0 = g.S.Source.faults c.args.source.now in
     let b0 = g.K.Sink.faults c.args.sink.now in
-    let stay : AllStay olds (map seen c.end_with-2.result.disks.items) = subst (λ l. AllStay olds (map seen l)) (sym same) (stay_same olds) in
+    let stay : AllStay olds (map seen c.end_with-in-Err-Memory.result.disks.items) = subst (λ l. AllStay olds (map seen l)) (sym same) (stay_same olds) in
     record {
       run = record {
         story = λ none n is. still_story m seen words _ _ left written a0 b0 _ _ n status.NoMemory tt end.0 end.2 stay;
@@ -129,7 +147,7 @@ returns-in-Err-Memory g c =
           write_fault = λ h. let bad : 7 ≡ 5 = sym end.0 ∙ h in absurd cc;
           disk_fault = λ h. let bad : 7 ≡ 6 = sym end.0 ∙ h in absurd cc;
           bad_journal = λ h. let bad : 7 ≡ 8 = sym end.0 ∙ h in absurd cc;
-          own = λ h. let bad : IsPlayedNumber 7 = subst IsPlayedNumber end.0 h in absurd cc;
+          own = λ h. absurd (not_played 7 (inr refl) (subst IsPlayedNumber end.0 h));
         };
         seconds = λ none n is. still_seconds m seen words _ _ left written a0 b0 _ _ n status.NoMemory tt end.0 end.2 stay;
         files = λ path some n is. record {

@@ -1,4 +1,6 @@
-use Rattle.std.proofs.Common.{◌≡◌, inl, inr, ◌*◌, length, map, drop, None, ◌+◌, refl, sym, ◌∙◌, ap, subst, arith}
+use Rattle.std.proofs.Common.{◌≡◌, inl, inr, ◌*◌, length, map, drop, [], None, ◌+◌, refl, sym, ◌∙◌, ap, subst, arith}
+use Rattle.std.specs.Prelude.{Err}
+use Rattle.node_shell.specs.declared.statuses.Status.{Status}
 use Rattle.net_model.specs.Environment.{meaning, party}
 use Rattle.net_base.proofs.Lists.{get_beside}
 use Rattle.node_shell.specs.Pairs.{first_disks}
@@ -26,14 +28,14 @@ returns-in-Err g c =
     let a0 = g.S.Source.faults c.args.source.now in
     let b0 = g.K.Sink.faults c.args.sink.now in
     record {
-      story = still_story m seen _ _ _ left written a0 b0 _ _ n s kind end.0 end.2 stay;
-      went = still_went m seen _ _ _ left written a0 b0 _ _ n s kind end.0 end.2 stay;
-      disk_fault = λ six. subst (OneFails (2 * n.nodes) olds) (ap (map seen) (sym same)) (c.in-Err.ensures.cause refl (is_disk_fault s (sym end.0 ∙ six)));
-      bad_journal = still_told m seen _ _ _ left written a0 b0 _ _ n s kind end.0 end.2 stay;
-      own = still_own m seen _ _ _ left written a0 b0 _ _ n s kind end.0 end.2 stay;
-      seconds = still_seconds m seen _ _ _ left written a0 b0 _ _ n s kind end.0 end.2 stay;
+      story = still_story m seen [] _ _ left written a0 b0 _ _ n s kind end.0 end.2 stay;
+      went = still_went m seen [] _ _ left written a0 b0 _ _ n s kind end.0 end.2 stay;
+      disk_fault = λ six. subst (OneFails (2 * n.nodes) olds) (ap (map seen) (sym same)) (c.in-Err.ensures.cause refl (ap (λ (x : Status). Err x) (is_disk_fault s (sym end.0 ∙ six))));
+      bad_journal = still_told m seen [] _ _ left written a0 b0 _ _ n s kind end.0 end.2 stay;
+      own = still_own m seen [] _ _ left written a0 b0 _ _ n s kind end.0 end.2 stay;
+      seconds = still_seconds m seen [] _ _ left written a0 b0 _ _ n s kind end.0 end.2 stay;
       named = inr (record { named = inl (subst (StopsNaming None (2 * n.nodes) olds) (ap (map seen) (sym same)) c.in-Err.ensures.stopped); stay = stay; none = end.2; status_is = opening_number s _ kind end.0 });
-      ends = still_ends m seen _ _ _ left written a0 b0 _ _ n s kind end.0 end.2 (ap length same ∙ kept_count seen c.args.disks.items c.attach_all.new.disks.items a.none_falls ∙ c.requires.disks) (ap (λ l. drop (2 * n.nodes) l) same ∙ a.rest);
+      ends = still_ends m seen [] _ _ left written a0 b0 _ _ n s kind end.0 end.2 (ap length same ∙ kept_count seen c.args.disks.items c.attach_all.new.disks.items a.none_falls ∙ c.requires.disks) (ap (λ l. drop (2 * n.nodes) l) same ∙ a.rest);
     }
 
 pub returns-in-Ok : goal.returns-in-Ok
