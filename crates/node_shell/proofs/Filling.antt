@@ -1,0 +1,65 @@
+-- The words of a start with the ids put in.
+use Rattle.std.proofs.Common.{◌≡◌, ℕ, Bool, true, false, ◌||◌, List, [], ◌∷◌, map, Option, Some, None, refl, sym, ap, ◌∙◌}
+use Rattle.std.specs.Prelude.{option_and_then, is_some}
+use Rattle.std.specs.List.{slice_get}
+use Rattle.std.specs.Option.{option_map_or}
+use Rattle.net_base.specs.Numbers.{number_of}
+use Rattle.net_base.specs.declared.values.Hash32.{Hash32}
+use Rattle.net_base.specs.declared.values.Party.{Party}
+use Rattle.ledger_types.specs.declared.tx.SignedTx.{SignedTx}
+use Rattle.ledger_tables.specs.Ledgers.{Ledger}
+use Rattle.node_ledger.specs.Ledgered.{HoldsLedger, ledger_in}
+use Rattle.node_tables.specs.Journals.{Reads, state_of}
+use Rattle.node_core.specs.Seen.{NodeSeen}
+use Rattle.network_core.specs.Worlds.{NetSeen}
+use Rattle.shell_words.specs.Script.{after_hash, is_number, has_mark, mark_of}
+use Rattle.shell_words.specs.declared.commands.TxName.TheVariants as name
+use Rattle.node_shell.specs.Serve.{named_in, digits_or, put_in, recorded_by}
+use Rattle.node_shell.specs.Responds.{recorded_seen}
+
+-- ---- what the network shows that a node recorded
+
+module _ {F : Type 0} (f : Reads F) (net : NetSeen) (p : ℕ) where
+  abbrev recorded_of : Option NodeSeen → List (Hash32 × SignedTx)
+  recorded_of n = option_map_or (recorded_by f) (option_and_then (λ (x : NodeSeen). x.journal) n) []
+
+  pub seen_none : slice_get net.nodes p ≡ None → [] ≡ recorded_seen f net p
+  seen_none none = sym (ap recorded_of none)
+
+  pub seen_down : (n : NodeSeen) → slice_get net.nodes p ≡ Some n → n.journal ≡ None → [] ≡ recorded_seen f net p
+  seen_down n at down = sym (ap recorded_of at ∙ ap (λ j. option_map_or (recorded_by f) j []) down)
+
+  pub seen_up : (n : NodeSeen) (bodies : List (List ℕ)) (me : Party) (tables : Ledger) → slice_get net.nodes p ≡ Some n → n.journal ≡ Some bodies → HoldsLedger me (ledger_in (state_of f bodies)) tables
+      → tables.store.list ≡ recorded_seen f net p
+  seen_up n bodies me tables at up holds = holds.store ∙ sym (ap recorded_of at ∙ ap (λ j. option_map_or (recorded_by f) j []) up)
+
+-- ---- words that stay as they are
+
+-- where nothing is recorded
+nothing_put_in : (word : List ℕ) (mark : Option ℕ) → digits_or word (option_and_then (λ k. named_in (name.Place k) []) mark) ≡ word
+nothing_put_in word None = refl
+nothing_put_in word (Some k) = refl
+
+pub none_put_in : (words : List (List ℕ)) → map (put_in []) words ≡ words
+none_put_in [] = refl
+none_put_in (word ∷ words) = ap (λ w. w ∷ map (put_in []) words) (nothing_put_in word (mark_of word)) ∙ ap (λ ws. word ∷ ws) (none_put_in words)
+
+-- where there is no mark
+neither : (a b : Bool) → (a || b) ≡ false → (a ≡ false) × (b ≡ false)
+neither true b h = cc
+neither false b h = (refl, h)
+
+no_mark : (bytes : Option (List ℕ)) → is_number bytes ≡ false → option_and_then number_of bytes ≡ None
+no_mark None h = refl
+no_mark (Some bytes) h = no_number (number_of bytes) h
+  where
+    no_number : (n : Option ℕ) → is_some n ≡ false → n ≡ None
+    no_number None h = refl
+    no_number (Some n) h = cc
+
+pub unmarked_stay : (recorded : List (Hash32 × SignedTx)) (words : List (List ℕ)) → has_mark words ≡ false → map (put_in recorded) words ≡ words
+unmarked_stay recorded [] h = refl
+unmarked_stay recorded (word ∷ words) h =
+    let both = neither _ _ h in
+    let stays = ap (λ k. digits_or word (option_and_then (λ k. named_in (name.Place k) recorded) k)) (no_mark (after_hash word) both.0) in
+    ap (λ w. w ∷ map (put_in recorded) words) stays ∙ ap (λ ws. word ∷ ws) (unmarked_stay recorded words both.1)
