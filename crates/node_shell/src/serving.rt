@@ -150,12 +150,15 @@ fn started_by<B: Bay, F: FlowSet>(
     ensures { GivesWords result (started_by F.machine (recorded_seen F.reading net.entry.now place) (map (λ s. string_bytes s) words.now)) }
 {
     let args = &words[3..];
+    if !has_mark(args) {
+        return named_by::<F>(alloc, words[2].as_str(), args);
+    }
     match store_of(net, place) {
-        Some(store) if has_mark(args) => {
+        None => named_by::<F>(alloc, words[2].as_str(), args),
+        Some(store) => {
             let filled = put_in_all(alloc, store, args)?;
             named_by::<F>(alloc, words[2].as_str(), filled.as_slice())
         }
-        _ => named_by::<F>(alloc, words[2].as_str(), args),
     }
 }
 
