@@ -1,20 +1,19 @@
 -- The words of a start with the ids put in.
-use Rattle.std.proofs.Common.{◌≡◌, ℕ, Bool, true, false, ◌||◌, List, [], ◌∷◌, map, Option, Some, None, refl, sym, ap, ◌∙◌}
+use Rattle.std.proofs.Common.{◌≡◌, ℕ, map, drop, subst, take, length, ◌-◌, ◌<◌, Bool, true, false, ◌||◌, List, [], ◌∷◌, Option, Some, None, refl, sym, ap, ◌∙◌}
 use Rattle.std.specs.Prelude.{option_and_then, is_some}
 use Rattle.std.specs.List.{slice_get}
+use Rattle.std.proofs.lemmas.List.{take_rest, drop-map, get_or-map}
 use Rattle.std.specs.Option.{option_map_or}
 use Rattle.net_base.specs.Numbers.{number_of}
 use Rattle.net_base.specs.declared.values.Hash32.{Hash32}
-use Rattle.net_base.specs.declared.values.Party.{Party}
 use Rattle.ledger_types.specs.declared.tx.SignedTx.{SignedTx}
-use Rattle.ledger_tables.specs.Ledgers.{Ledger}
-use Rattle.node_ledger.specs.Ledgered.{HoldsLedger, ledger_in}
-use Rattle.node_tables.specs.Journals.{Reads, state_of}
-use Rattle.node_core.specs.Seen.{NodeSeen}
-use Rattle.network_core.specs.Worlds.{NetSeen}
+use Rattle.std.specs.Prelude.{Result, slice_index_or}
+use Rattle.flow_machine.specs.declared.flow_set.WordFault.{WordFault}
+use Rattle.flow_machine.specs.Flows.{GivesWords}
+use Rattle.flow_machine.specs.Machine.{Machine}
 use Rattle.shell_words.specs.Script.{after_hash, is_number, has_mark, mark_of}
 use Rattle.shell_words.specs.declared.commands.TxName.TheVariants as name
-use Rattle.node_shell.specs.Serve.{named_in, digits_or, put_in, recorded_by}
+use Rattle.node_shell.specs.Serve.{named_in, digits_or, put_in, named_by, started_by, recorded_by}
 use Rattle.node_shell.specs.Responds.{recorded_seen}
 
 -- ---- what the network shows that a node recorded
@@ -63,3 +62,20 @@ unmarked_stay recorded (word ∷ words) h =
     let both = neither _ _ h in
     let stays = ap (λ k. digits_or word (option_and_then (λ k. named_in (name.Place k) recorded) k)) (no_mark (after_hash word) both.0) in
     ap (λ w. w ∷ map (put_in recorded) words) stays ∙ ap (λ ws. word ∷ ws) (unmarked_stay recorded words both.1)
+
+-- ---- a start
+
+module _ {F S : Type 0} (m : Machine F) (bytes : S → List ℕ) (words : List S) where
+  abbrev args : List (List ℕ)
+  args = map bytes (take (length words - 3) (drop 3 words))
+
+  behind : args ≡ drop 3 (map bytes words)
+  behind = ap (map bytes) (take_rest words 3) ∙ sym (drop-map bytes 3 words)
+
+  -- what words name that are those with the ids put in is what the start asks for
+  pub starts_as : (recorded : List (Hash32 × SignedTx)) (filled : List (List ℕ)) (d word : S) (class : List ℕ) (result : Result (ℕ × List ℕ) WordFault) → 2 < length words → word ≡ slice_index_or words 2 d → class ≡ bytes word
+      → filled ≡ map (put_in recorded) args → GivesWords result (named_by m class filled) → GivesWords result (started_by m recorded (map bytes words))
+  starts_as recorded filled d word class result some at is same given =
+      let named : class ≡ slice_index_or (map bytes words) 2 [] = is ∙ ap bytes at ∙ sym (get_or-map bytes words 2 d [] some) in
+      let all : filled ≡ map (put_in recorded) (drop 3 (map bytes words)) = same ∙ ap (map (put_in recorded)) behind in
+      subst (λ (a : List (List ℕ)). GivesWords result (named_by m (slice_index_or (map bytes words) 2 []) a)) all (subst (λ (w : List ℕ). GivesWords result (named_by m w filled)) named given)
