@@ -1,13 +1,18 @@
 -- The words of a start with the ids put in.
 use Rattle.std.proofs.Common.{◌≡◌, ℕ, map, drop, subst, take, length, ◌-◌, ◌<◌, Bool, true, false, ◌||◌, List, [], ◌∷◌, Option, Some, None, refl, sym, ap, ◌∙◌}
-use Rattle.std.specs.Prelude.{option_and_then, is_some}
+use Rattle.std.specs.Prelude.{Result, option_and_then, is_some, slice_index_or}
 use Rattle.std.specs.List.{slice_get}
 use Rattle.std.proofs.lemmas.List.{take_rest, drop-map, get_or-map}
 use Rattle.std.specs.Option.{option_map_or}
 use Rattle.net_base.specs.Numbers.{number_of}
 use Rattle.net_base.specs.declared.values.Hash32.{Hash32}
+use Rattle.net_base.specs.declared.values.Party.{Party}
 use Rattle.ledger_types.specs.declared.tx.SignedTx.{SignedTx}
-use Rattle.std.specs.Prelude.{Result, slice_index_or}
+use Rattle.ledger_tables.specs.Ledgers.{Ledger}
+use Rattle.node_ledger.specs.Ledgered.{HoldsLedger, ledger_in}
+use Rattle.node_tables.specs.Journals.{Reads, state_of}
+use Rattle.node_core.specs.Seen.{NodeSeen}
+use Rattle.network_core.specs.Worlds.{NetSeen}
 use Rattle.flow_machine.specs.declared.flow_set.WordFault.{WordFault}
 use Rattle.flow_machine.specs.Flows.{GivesWords}
 use Rattle.flow_machine.specs.Machine.{Machine}
