@@ -14,7 +14,7 @@ use Rattle.shell_words.specs.declared.commands.Command.TheVariants as command
 use Rattle.shell_words.specs.Script.{command_of, words_of, has_no_answer, is_readable}
 use Rattle.node_shell.specs.declared.replies.Reply.{Reply}
 use Rattle.node_shell.specs.declared.replies.Reply.TheVariants.{Told}
-use Rattle.node_shell.specs.Serve.{step_of, start_step, started_by, recorded_in, place_of, Answers, Comes, LineComes, StepComes, Serves, Leaves}
+use Rattle.node_shell.specs.Serve.{step_of, start_step, started_by, recorded_in, place_of, Answers, Comes, LineComes, StepComes, Makes, Serves, Leaves}
 use Rattle.node_shell.specs.Responds.{recorded_seen, StartsNone, IsShown, StepResponds, Responds, CommandResponds, LineResponds, given}
 use Rattle.node_shell.proofs.Shown.{shown_answers, step_shown}
 
@@ -109,7 +109,7 @@ module _ {F : Type 0} (m : Meaning F) where
   unstarted net node ws fault reply is shown id w shows coherent =
       let e = environment m id in
       let none : step_of m.machine (recorded_in e w) (command.Start node) ws ≡ None = sym (step_shown e net w shows (command.Start node) ws) ∙ ap (λ x. start_step (place_of node) x) is in
-      (w, shows, coherent, rw none (shown_answers m id net w shows coherent (command.Start node) ws reply (none_shown net node ws fault reply is shown), refl))
+      (w, shows, coherent, subst (λ (s : Option Step). Makes e w s (command.Start node) ws reply w) (sym none) (shown_answers m id net w shows coherent (command.Start node) ws reply (none_shown net node ws fault reply is shown), refl))
 
   -- ---- over any network
 
