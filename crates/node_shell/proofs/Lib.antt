@@ -3,6 +3,7 @@ pub mod Going
 pub mod Shown
 pub mod TxLines
 pub mod Asked
+pub mod Filling
 pub mod Together
 pub mod Reached
 pub mod Weaving

@@ -14,7 +14,7 @@ use Rattle.node_shell.specs.declared.replies.Reply.TheVariants.{Silence, Told}
 use Rattle.node_shell.specs.declared.statuses.Status.{Status}
 use Rattle.node_shell.specs.declared.statuses.Status.TheVariants as status
 use Rattle.node_shell.specs.Serve.{step_of}
-use Rattle.node_shell.specs.Responds.{StepResponds, Responds, CommandResponds, LineResponds, NetLink, NetShort}
+use Rattle.node_shell.specs.Responds.{recorded_seen, StepResponds, Responds, CommandResponds, LineResponds, NetLink, NetShort}
 use Rattle.node_shell.specs.Story.{Story, begins, goes_on, CutOff, LeftOff, EndsWith, ScriptRun}
 
 module _ {F : Type 0} (m : Meaning F) where
@@ -38,7 +38,7 @@ module _ {F : Type 0} (m : Meaning F) where
     where
       by : (blank plain : Bool) → MatchBool blank ((reply ≡ Some Silence) × (b ≡ a)) (MatchBool plain (CommandResponds m (command_of (words_of line)) (words_of line) a reply b) ((reply ≡ Some (Told (outcome.Refused 1))) × (b ≡ a))) → Keeps a b
       by true plain h = unmoved a b h.1
-      by false true h = responds (step_of m.machine (command_of (words_of line)) (words_of line)) (command_of (words_of line)) (words_of line) a b reply h
+      by false true h = responds (step_of m.machine (recorded_seen m.frame_at a) (command_of (words_of line)) (words_of line)) (command_of (words_of line)) (words_of line) a b reply h
       by false false h = unmoved a b h.1
 
   link_keeps : (a b : NetSeen) (line text : List ℕ) → NetLink m a line text b → Keeps a b

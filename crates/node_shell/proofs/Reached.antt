@@ -11,7 +11,7 @@ use Rattle.node_shell.specs.declared.replies.Reply.{Reply}
 use Rattle.node_shell.specs.declared.replies.Reply.TheVariants.{Silence}
 use Rattle.node_shell.specs.declared.statuses.Status.{Status}
 use Rattle.node_shell.specs.declared.statuses.Status.TheVariants as status
-use Rattle.node_shell.specs.Serve.{step_of, IsRefused, Makes, Serves, RepliesTo, Link, Leaves, RunsShort}
+use Rattle.node_shell.specs.Serve.{step_of, recorded_in, IsRefused, Makes, Serves, RepliesTo, Link, Leaves, RunsShort}
 use Rattle.node_shell.specs.Story.{Story, begins, goes_on, CutOff, LeftOff, EndsWith, ScriptRun}
 
 module _ {F : Type 0} (e : Environment F) (start : World) where
@@ -27,7 +27,7 @@ module _ {F : Type 0} (e : Environment F) (start : World) where
     where
       by : (blank plain : Bool) → MatchBool blank ((reply ≡ Silence) × (v ≡ w)) (MatchBool plain (Serves e w (command_of (words_of line)) (words_of line) reply v) (IsRefused 1 reply × (v ≡ w))) → Reaches e start v
       by true plain h = unmoved w v before h.1
-      by false true h = makes_reaches w v (step_of e.machine (command_of (words_of line)) (words_of line)) (command_of (words_of line)) (words_of line) reply before h
+      by false true h = makes_reaches w v (step_of e.machine (recorded_in e w) (command_of (words_of line)) (words_of line)) (command_of (words_of line)) (words_of line) reply before h
       by false false h = unmoved w v before h.1
 
   link_reaches : (w v : World) (line text : List ℕ) → Reaches e start w → Link e w line text v → Reaches e start v
@@ -45,7 +45,7 @@ module _ {F : Type 0} (e : Environment F) (start : World) where
   leaves_reaches w v (Some s) before (inr serve) = by_step s None before serve
 
   short_reaches : (w v : World) (line : List ℕ) → Reaches e start w → RunsShort e w line v → Reaches e start v
-  short_reaches w v line before (inl leaves) = leaves_reaches w v (step_of e.machine (asked_by line) (words_of line)) before leaves
+  short_reaches w v line before (inl leaves) = leaves_reaches w v (step_of e.machine (recorded_in e w) (asked_by line) (words_of line)) before leaves
   short_reaches w v line before (inr (text, link)) = link_reaches w v line text before link
 
   module _ {written0 written1 : Option (List ℕ)} {lines : List (List ℕ)} {w : World} where

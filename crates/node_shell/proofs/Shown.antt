@@ -15,6 +15,7 @@ use Rattle.net_base.proofs.Lists.{get_beside, get_map, map_both, drop_get}
 use Rattle.flow_machine.specs.declared.flows.FlowState.{FlowState}
 use Rattle.flow_machine.specs.declared.flow_set.WordFault.{WordFault}
 use Rattle.flow_machine.specs.declared.flow_set.WordFault.TheVariants as word
+use Rattle.flow_machine.specs.Machine.{Machine}
 use Rattle.net_model.specs.Environment.{Environment, environment, Meaning, party}
 use Rattle.net_model.specs.Runs.{merged, network_of}
 use Rattle.net_model.specs.State.{NodeState}
@@ -33,8 +34,8 @@ use Rattle.shell_words.specs.declared.commands.Command.TheVariants as command
 use Rattle.shell_words.specs.declared.commands.TxName.{TxName}
 use Rattle.shell_words.specs.declared.commands.TxName.TheVariants as name
 use Rattle.node_shell.specs.declared.replies.Reply.{Reply}
-use Rattle.node_shell.specs.Serve.{AtNode, AsksFlow, AsksTx, named_in, tx_query, record_of, AsksHistory, RefusesWords, Answers, IsRefused, causes_in, place_of, flow_of, started_by, reply_text}
-use Rattle.node_shell.specs.Responds.{AtSeen, OfSeen, PrintsVault, PrintsBalance, PrintsBook, PrintsTx, notary_seen, StartsNone, PrintsFlows, PrintsFlow, PrintsHistory, IsShown, causes_up}
+use Rattle.node_shell.specs.Serve.{AtNode, AsksFlow, AsksTx, named_in, tx_query, record_of, AsksHistory, RefusesWords, Answers, IsRefused, causes_in, place_of, flow_of, started_by, start_step, step_of, recorded_by, recorded_up, recorded_in, reply_text}
+use Rattle.node_shell.specs.Responds.{recorded_seen, AtSeen, OfSeen, PrintsVault, PrintsBalance, PrintsBook, PrintsTx, notary_seen, StartsNone, PrintsFlows, PrintsFlow, PrintsHistory, IsShown, causes_up}
 
 -- ---- lists
 
@@ -53,6 +54,18 @@ module _ {F : Type 0} (e : Environment F) (net : NetSeen) (w : World) (shows : S
 
   pub shows_each : (p : ℕ) (n : NodeSeen) (x : NodeWorld) → slice_get net.nodes p ≡ Some n → slice_get w.nodes p ≡ Some x → ShowsJournal n.journal x
   shows_each p n x at here = (shows.each p n x at here).journal
+
+  -- what a node recorded it recorded in the world
+  pub recorded_shown : (p : ℕ) → recorded_seen e.frame_at net p ≡ recorded_in e w p
+  recorded_shown p = by (slice_get net.nodes p) refl
+    where
+      up_or_down : (x : NodeWorld) (journal : Option (List (List ℕ))) → ShowsJournal journal x → option_map_or (recorded_by e.frame_at) journal [] ≡ recorded_up e.frame_at x
+      up_or_down x None down = rw down refl
+      up_or_down x (Some bodies) s = rw s.0 (ap (recorded_by e.frame_at) (sym s.1))
+
+      by : (o : Option NodeSeen) → slice_get net.nodes p ≡ o → option_map_or (recorded_by e.frame_at) (option_and_then (λ n. n.journal) o) [] ≡ recorded_in e w p
+      by None none = sym (ap (λ (x : Option NodeWorld). option_map_or (recorded_up e.frame_at) x []) (none_beside net.nodes w.nodes p (sym shows.count) none))
+      by (Some n) at = let x = stands p n at in up_or_down x.0 n.journal x.2.journal ∙ sym (ap (λ (y : Option NodeWorld). option_map_or (recorded_up e.frame_at) y []) x.1)
 
   -- what is shown of a node is so of it in the world
   pub at_node : (p : ℕ) (reply : Reply) (asks : List (List ℕ) → Type 0) (goal : NodeWorld → Type 0) → ((x : NodeWorld) → slice_get w.nodes p ≡ Some x → asks x.journal → goal x) → AtSeen net p reply asks → AtNode w p reply goal
@@ -77,6 +90,32 @@ module _ {F : Type 0} (e : Environment F) (net : NetSeen) (w : World) (shows : S
       by : (o : Option NodeSeen) → slice_get net.nodes p ≡ o → MatchOption o (IsRefused 2 reply) (λ n. MatchOption n.journal (IsRefused 3 reply) (asks n.identity.party)) → AtNode w p reply goal
       by None none is = inl (none_beside net.nodes w.nodes p (sym shows.count) none, is)
       by (Some n) at is = let x = stands p n at in up_or_down x.0 x.1 n.identity.party (ap (λ i. i.party) x.2.identity_is) n.journal x.2.journal is
+
+-- the step that a command makes depends on what the nodes recorded, and on no more of them
+pub same_step : {F : Type 0} (m : Machine F) (f g : ℕ → List (Hash32 × SignedTx)) → ((p : ℕ) → f p ≡ g p) → (asked : Command) (ws : List (List ℕ)) → step_of m f asked ws ≡ step_of m g asked ws
+same_step m f g same (command.Start node) ws = ap (λ recorded. start_step (place_of node) (started_by m recorded ws)) (same (place_of node))
+same_step m f g same (command.Clock to) ws = refl
+same_step m f g same (command.Turn node pick) ws = refl
+same_step m f g same (command.Post node) ws = refl
+same_step m f g same (command.Deliver node at) ws = refl
+same_step m f g same (command.Repeat node at) ws = refl
+same_step m f g same (command.Lose node at) ws = refl
+same_step m f g same (command.Cut node calls kind) ws = refl
+same_step m f g same (command.Boot node) ws = refl
+same_step m f g same command.Drain ws = refl
+same_step m f g same (command.Flows node) ws = refl
+same_step m f g same (command.Flow node flow) ws = refl
+same_step m f g same (command.Vault node) ws = refl
+same_step m f g same (command.Balance node) ws = refl
+same_step m f g same command.Book ws = refl
+same_step m f g same (command.TxLine node named) ws = refl
+same_step m f g same command.History ws = refl
+same_step m f g same command.Quit ws = refl
+same_step m f g same command.Unknown ws = refl
+
+-- so a network's is that of each world that it shows
+pub step_shown : {F : Type 0} (e : Environment F) (net : NetSeen) (w : World) → Shows e net w → (asked : Command) (ws : List (List ℕ)) → step_of e.machine (recorded_seen e.frame_at net) asked ws ≡ step_of e.machine (recorded_in e w) asked ws
+step_shown e net w shows asked ws = same_step e.machine (recorded_seen e.frame_at net) (recorded_in e w) (recorded_shown e net w shows) asked ws
 
 -- ---- what is printed of a coherent world
 
@@ -334,7 +373,10 @@ module _ {F : Type 0} (m : Meaning F) (id : Identity) (net : NetSeen) (w : World
   meant = environment m id
 
   pub shown_answers : (asked : Command) (ws : List (List ℕ)) (reply : Reply) → IsShown m net asked ws reply → Answers meant w asked ws reply
-  shown_answers (command.Start node) ws reply h = start_answers meant net w shows coherent (place_of node) (started_by m.machine ws) reply h
+  shown_answers (command.Start node) ws reply h =
+      let p = place_of node in
+      subst (λ recorded. RefusesWords w p (started_by m.machine recorded ws) reply) (recorded_shown meant net w shows p)
+      (start_answers meant net w shows coherent p (started_by m.machine (recorded_seen m.frame_at net p) ws) reply h)
   shown_answers (command.Flows node) ws reply h = flows_answer meant net w shows coherent (place_of node) reply h
   shown_answers (command.Flow node flow) ws reply h = flow_answers meant net w shows coherent (place_of node) (flow_of flow) reply h
   shown_answers (command.Vault node) ws reply h = vault_answers meant net w shows coherent (place_of node) reply h

@@ -19,11 +19,11 @@ use Rattle.node_shell.specs.declared.replies.Reply.{Reply}
 use Rattle.node_shell.specs.declared.replies.Reply.TheVariants.{Silence, Told}
 use Rattle.node_shell.specs.declared.statuses.Status.{Status}
 use Rattle.node_shell.specs.declared.statuses.Status.TheVariants as status
-use Rattle.node_shell.specs.Serve.{step_of, IsRefused, Makes, Serves, RepliesTo, Link, Leaves, RunsShort}
-use Rattle.node_shell.specs.Responds.{Responds, CommandResponds, LineResponds, NetLink, NetShort}
+use Rattle.node_shell.specs.Serve.{step_of, recorded_in, IsRefused, Makes, Serves, RepliesTo, Link, Leaves, RunsShort}
+use Rattle.node_shell.specs.Responds.{recorded_seen, Responds, CommandResponds, LineResponds, NetLink, NetShort}
 use Rattle.node_shell.specs.Story.{Story, begins, goes_on, Answered, CutOff, LeftOff, EndsWith, ScriptRun}
 use Rattle.node_shell.specs.Together.{Goes, LineGoes, PairLink, PairShort, InPair, ComesBy, EndComesBy, LeadsOn, ScriptsAreWays, ScriptsAreBoth}
-use Rattle.node_shell.proofs.Shown.{shown_answers}
+use Rattle.node_shell.proofs.Shown.{shown_answers, step_shown}
 
 -- ---- a line, from each coherent world that the network shows
 
@@ -46,15 +46,22 @@ module _ {F : Type 0} (m : Meaning F) (id : Identity) (old : NetSeen) (w : World
   responds_in None asked ws reply new (shown, is) =
       unmoved (λ b. Makes e w None asked ws reply b.world × Goes m id None (Some reply) a b) new is ((shown_answers m id old w shows coherent asked ws reply shown, refl), refl)
 
+  -- so of what words ask for: the step is the same by what the network shows and by what the world has
+  served_in : (asked : Command) (ws : List (List ℕ)) (reply : Reply) (new : NetSeen) → CommandResponds m asked ws old (Some reply) new
+      → InPair e new (λ b. Serves e w asked ws reply b.world × Goes m id (step_of m.machine (recorded_seen m.frame_at old) asked ws) (Some reply) a b)
+  served_in asked ws reply new h =
+      let s = step_of m.machine (recorded_seen m.frame_at old) asked ws in
+      subst (λ (t : Option Step). InPair e new (λ b. Makes e w t asked ws reply b.world × Goes m id s (Some reply) a b)) (step_shown e old w shows asked ws) (responds_in s asked ws reply new h)
+
   pub line_in : (line : List ℕ) (reply : Reply) (new : NetSeen) → LineResponds m line old (Some reply) new → InPair e new (λ b. RepliesTo e w line reply b.world × LineGoes m id line (Some reply) a b)
   line_in line reply new h = by (has_no_answer line) (is_readable line) h
     where
       by : (blank plain : Bool)
           → MatchBool blank ((Some reply ≡ Some Silence) × (new ≡ old)) (MatchBool plain (CommandResponds m (command_of (words_of line)) (words_of line) old (Some reply) new) ((Some reply ≡ Some (Told (outcome.Refused 1))) × (new ≡ old)))
           → InPair e new (λ b. MatchBool blank ((reply ≡ Silence) × (b.world ≡ w)) (MatchBool plain (Serves e w (command_of (words_of line)) (words_of line) reply b.world) (IsRefused 1 reply × (b.world ≡ w)))
-          × Goes m id (step_of m.machine (if blank || not plain then Unknown else command_of (words_of line)) (words_of line)) (Some reply) a b)
+          × Goes m id (step_of m.machine (recorded_seen m.frame_at old) (if blank || not plain then Unknown else command_of (words_of line)) (words_of line)) (Some reply) a b)
       by true plain h = unmoved (λ b. ((reply ≡ Silence) × (b.world ≡ w)) × (b ≡ a)) new h.1 ((some_eq h.0, refl), refl)
-      by false true h = responds_in (step_of m.machine (command_of (words_of line)) (words_of line)) (command_of (words_of line)) (words_of line) reply new h
+      by false true h = served_in (command_of (words_of line)) (words_of line) reply new h
       by false false h = unmoved (λ b. (IsRefused 1 reply × (b.world ≡ w)) × (b ≡ a)) new h.1 ((some_eq h.0, refl), refl)
 
   -- want of memory
@@ -65,7 +72,13 @@ module _ {F : Type 0} (m : Meaning F) (id : Identity) (old : NetSeen) (w : World
       record { world = b.0; shows = b.1; coherent = b.2; holds = (inr b.3.1, inr b.3) }
   leaves_in None asked ws new h = unmoved (λ b. Leaves e None w b.world × Goes m id None None a b) new h.1 (refl, refl)
 
-  pub left_in : (line : List ℕ) (new : NetSeen) → LineResponds m line old None new → InPair e new (λ b. Leaves e (step_of m.machine (asked_by line) (words_of line)) w b.world × LineGoes m id line None a b)
+  unserved_in : (asked : Command) (ws : List (List ℕ)) (new : NetSeen) → CommandResponds m asked ws old None new
+      → InPair e new (λ b. Leaves e (step_of m.machine (recorded_in e w) asked ws) w b.world × Goes m id (step_of m.machine (recorded_seen m.frame_at old) asked ws) None a b)
+  unserved_in asked ws new h =
+      let s = step_of m.machine (recorded_seen m.frame_at old) asked ws in
+      subst (λ (t : Option Step). InPair e new (λ b. Leaves e t w b.world × Goes m id s None a b)) (step_shown e old w shows asked ws) (leaves_in s asked ws new h)
+
+  pub left_in : (line : List ℕ) (new : NetSeen) → LineResponds m line old None new → InPair e new (λ b. Leaves e (step_of m.machine (recorded_in e w) (asked_by line) (words_of line)) w b.world × LineGoes m id line None a b)
   left_in line new h = by (has_no_answer line) (is_readable line) h
     where
       no_reply : (reply : Reply) → None ≡ Some reply → ⊥
@@ -73,10 +86,10 @@ module _ {F : Type 0} (m : Meaning F) (id : Identity) (old : NetSeen) (w : World
 
       by : (blank plain : Bool)
           → MatchBool blank ((None ≡ Some Silence) × (new ≡ old)) (MatchBool plain (CommandResponds m (command_of (words_of line)) (words_of line) old None new) ((None ≡ Some (Told (outcome.Refused 1))) × (new ≡ old)))
-          → InPair e new (λ b. Leaves e (step_of m.machine (if blank || not plain then Unknown else command_of (words_of line)) (words_of line)) w b.world
-          × Goes m id (step_of m.machine (if blank || not plain then Unknown else command_of (words_of line)) (words_of line)) None a b)
+          → InPair e new (λ b. Leaves e (step_of m.machine (recorded_in e w) (if blank || not plain then Unknown else command_of (words_of line)) (words_of line)) w b.world
+          × Goes m id (step_of m.machine (recorded_seen m.frame_at old) (if blank || not plain then Unknown else command_of (words_of line)) (words_of line)) None a b)
       by true plain h = absurd (no_reply Silence h.0)
-      by false true h = leaves_in (step_of m.machine (command_of (words_of line)) (words_of line)) (command_of (words_of line)) (words_of line) new h
+      by false true h = unserved_in (command_of (words_of line)) (words_of line) new h
       by false false h = absurd (no_reply (Told (outcome.Refused 1)) h.0)
 
 -- ---- a story of networks
@@ -264,10 +277,10 @@ module _ {F : Type 0} (m : Meaning F) (id : Identity) where
   goes_way None reply a b is = stay is
 
   link_way : (a : shown) (line text : List ℕ) (b : shown) → PairLink m id a line text b → Way m id a b
-  link_way a line text b l = goes_way (step_of m.machine (asked_by line) (words_of line)) (Some l.net.reply) a b l.goes
+  link_way a line text b l = goes_way (step_of m.machine (recorded_seen m.frame_at a.net) (asked_by line) (words_of line)) (Some l.net.reply) a b l.goes
 
   short_way : (a : shown) (line : List ℕ) (b : shown) → PairShort m id a line b → Way m id a b
-  short_way a line b (inl l) = goes_way (step_of m.machine (asked_by line) (words_of line)) None a b l.goes
+  short_way a line b (inl l) = goes_way (step_of m.machine (recorded_seen m.frame_at a.net) (asked_by line) (words_of line)) None a b l.goes
   short_way a line b (inr (text, l)) = link_way a line text b l
 
   pub leads_on : (a b : shown) → Way m id a b → LeadsOn m id a b

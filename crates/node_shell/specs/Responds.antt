@@ -28,13 +28,17 @@ use Rattle.shell_words.specs.declared.commands.TxName.{TxName}
 use Rattle.shell_words.specs.Script.{has_no_answer, is_readable, words_of, command_of, asked_by}
 use Rattle.node_shell.specs.declared.replies.Reply.{Reply}
 use Rattle.node_shell.specs.declared.replies.Reply.TheVariants.{Silence, Quit, Told}
-use Rattle.node_shell.specs.Serve.{IsRefused, place_of, flow_of, named_in, started_by, step_of, reply_text, RepliesTo, Leaves}
+use Rattle.node_shell.specs.Serve.{IsRefused, place_of, flow_of, named_in, started_by, step_of, recorded_by, recorded_in, reply_text, RepliesTo, Leaves}
 
 -- ---- answers that change nothing
 
 -- a command at a node: refused where there is no such node, or it is down; of a node that is up it asks so much of its journal
 abbrev pub AtSeen : NetSeen → ℕ → Reply → (List (List ℕ) → Type 0) → Type 0
 AtSeen net p reply asks = MatchOption (slice_get net.nodes p) (IsRefused 2 reply) (λ n. MatchOption n.journal (IsRefused 3 reply) asks)
+
+-- what the node at a place recorded, where it is there and up
+abbrev pub recorded_seen : {F : Type 0} → Reads F → NetSeen → ℕ → List (Hash32 × SignedTx)
+recorded_seen frame_at net p = option_map_or (recorded_by frame_at) (option_and_then (λ n. n.journal) (slice_get net.nodes p)) []
 
 -- the words of a start name no flow; of want of memory nothing is answered
 abbrev pub StartsNone : NetSeen → ℕ → Result (ℕ × List ℕ) WordFault → Reply → Type 0
@@ -96,7 +100,7 @@ notary_seen net = option_map_or (λ n. n.identity.notary.0) (slice_get net.nodes
 
 -- the reply to a command that makes no step, by what the network shows
 abbrev pub IsShown : {F : Type 0} → Meaning F → NetSeen → Command → List (List ℕ) → Reply → Type 0
-IsShown m net (command.Start node) words reply = StartsNone net (place_of node) (started_by m.machine words) reply
+IsShown m net (command.Start node) words reply = StartsNone net (place_of node) (started_by m.machine (recorded_seen m.frame_at net (place_of node)) words) reply
 IsShown m net (command.Flows node) words reply = AtSeen net (place_of node) reply (PrintsFlows m.frame_at reply)
 IsShown m net (command.Flow node flow) words reply = AtSeen net (place_of node) reply (PrintsFlow m.frame_at (flow_of flow) reply)
 IsShown m net (command.Vault node) words reply = OfSeen net (place_of node) reply (PrintsVault m.frame_at reply)
@@ -136,7 +140,7 @@ Responds m None asked words old reply new = IfSome reply (IsShown m old asked wo
 
 -- what a command with its words came to
 abbrev pub CommandResponds : {F : Type 0} → Meaning F → Command → List (List ℕ) → NetSeen → Option Reply → NetSeen → Type 0
-CommandResponds m asked words old reply new = Responds m (step_of m.machine asked words) asked words old reply new
+CommandResponds m asked words old reply new = Responds m (step_of m.machine (recorded_seen m.frame_at old) asked words) asked words old reply new
 
 -- what a line came to
 abbrev pub LineResponds : {F : Type 0} → Meaning F → List ℕ → NetSeen → Option Reply → NetSeen → Type 0
@@ -156,7 +160,7 @@ pub record NetLink {F : Type 0} (m : Meaning F) (old : NetSeen) (line text : Lis
 -- a line was left off for want of memory
 pub record NetLeft {F : Type 0} (m : Meaning F) (old : NetSeen) (line : List ℕ) (new : NetSeen) : Type 0 where
   pub responds : LineResponds m line old None new
-  pub worlds : KeepsWorld m old new (λ e w v. Leaves e (step_of e.machine (asked_by line) (words_of line)) w v)
+  pub worlds : KeepsWorld m old new (λ e w v. Leaves e (step_of e.machine (recorded_in e w) (asked_by line) (words_of line)) w v)
 
 -- a line was left without an answer for want of memory: it was left off, or it was served and its answer could not be spelt
 abbrev pub NetShort : {F : Type 0} → Meaning F → NetSeen → List ℕ → NetSeen → Type 0

@@ -1,5 +1,6 @@
 -- What a line is answered with, and what it makes of the world.
-use Rattle.std.specs.Prelude.{◌≡◌, ◌⊎◌, ℕ, ◌==◌, ◌-◌, ◌^◌, min, List, [], ◌∷◌, ◌++◌, map, Option, Some, None, Result, Ok, Err, Bool, true, false, codes, decimal, MatchBool, drop, slice_get, slice_index_or, string_bytes, if◌then◌else◌, option_map}
+use Rattle.std.specs.Prelude.{◌≡◌, ◌⊎◌, ℕ, ◌==◌, ◌-◌, ◌^◌, min, List, [], ◌∷◌, ◌++◌, map, Option, Some, None, Result, Ok, Err, Bool, true, false, codes, decimal, MatchBool, drop, slice_get, slice_index_or, string_bytes, if◌then◌else◌, option_map, option_and_then}
+use Rattle.std.specs.Option.{option_map_or}
 use Rattle.net_base.specs.declared.causes.Cause.{Cause}
 use Rattle.flow_machine.specs.declared.flows.FlowState.{FlowState}
 use Rattle.flow_machine.specs.declared.flow_set.WordFault.{WordFault}
@@ -10,8 +11,9 @@ use Rattle.net_model.specs.Print.{printed, of_flows, of_flow, of_history}
 use Rattle.net_model.specs.State.{with_ids}
 use Rattle.net_base.specs.declared.values.Hash32.{Hash32}
 use Rattle.ledger_types.specs.declared.tx.SignedTx.{SignedTx}
+use Rattle.shell_report.specs.LedgerText.{hash_text}
 use Rattle.node_shell.specs.LedgerPrint.{LedgerQuery, printed_ledger, of_vault, of_balance, of_book, of_tx, of_tx_at, with_id}
-use Rattle.node_tables.specs.Journals.{causes_of, state_of}
+use Rattle.node_tables.specs.Journals.{Reads, causes_of, state_of}
 use Rattle.network_core.specs.declared.steps.Outcome.{Outcome}
 use Rattle.network_core.specs.declared.steps.Outcome.TheVariants as outcome
 use Rattle.network_core.specs.declared.steps.Step.{Step}
@@ -22,7 +24,7 @@ use Rattle.shell_words.specs.declared.commands.Command.{Command}
 use Rattle.shell_words.specs.declared.commands.Command.TheVariants as command
 use Rattle.shell_words.specs.declared.commands.TxName.{TxName}
 use Rattle.shell_words.specs.declared.commands.TxName.TheVariants as name
-use Rattle.shell_words.specs.Script.{has_no_answer, is_readable, words_of, command_of, asked_by, has_mark}
+use Rattle.shell_words.specs.Script.{has_no_answer, is_readable, words_of, command_of, asked_by, mark_of, has_mark}
 use Rattle.node_shell.specs.declared.replies.Reply.{Reply}
 use Rattle.node_shell.specs.declared.replies.Reply.TheVariants.{Silence, Quit, Told, Printed}
 
@@ -95,42 +97,76 @@ flow_of n = min n (2 ^ 32 - 1)
 abbrev pub frame_of : ℕ → ℕ
 frame_of n = min n (2 ^ 32 - 1)
 
--- a class and arguments; an argument that names a recorded transaction by its place is not taken yet
+-- a place of a recorded transaction, where it is too great the greatest that names one: no node records so many
+abbrev pub record_of : ℕ → ℕ
+record_of k = min k (2 ^ 32 - 1)
+
+-- the recorded transaction that is named
+abbrev pub named_in : TxName → List (Hash32 × SignedTx) → Option (Hash32 × SignedTx)
+named_in (name.Id id) recorded = with_id id recorded
+named_in (name.Place k) recorded = slice_get recorded (record_of k)
+
+-- the digits of the id of a recorded transaction; where there is none the word as it is
+abbrev pub digits_or : List ℕ → Option (Hash32 × SignedTx) → List ℕ
+digits_or word None = word
+digits_or word (Some found) = hash_text found.0
+
+-- an argument of a start: `#k` stands for the 64 digits of the id of the k-th recorded transaction, from 0, where there is one
+abbrev pub put_in : List (Hash32 × SignedTx) → List ℕ → List ℕ
+put_in recorded word = digits_or word (option_and_then (λ k. named_in (name.Place k) recorded) (mark_of word))
+
+-- a class and arguments; an argument that still is `#k` names no recorded transaction, and is refused
 abbrev pub unmarked : Bool → Result (ℕ × List ℕ) WordFault → Result (ℕ × List ℕ) WordFault
 unmarked false words = words
 unmarked true (Ok words) = Err word.BadArgs
 unmarked true (Err fault) = Err fault
 
--- the class and the arguments that the words of a start ask for
-abbrev pub started_by : {F : Type 0} → Machine F → List (List ℕ) → Result (ℕ × List ℕ) WordFault
-started_by m words = unmarked (has_mark (drop 3 words)) (m.worded (slice_index_or words 2 []) (drop 3 words))
+-- the class and the arguments that these words ask for
+abbrev pub named_by : {F : Type 0} → Machine F → List ℕ → List (List ℕ) → Result (ℕ × List ℕ) WordFault
+named_by m class args = unmarked (has_mark args) (m.worded class args)
+
+-- the class and the arguments that the words of a start ask for, at a node that recorded these transactions: those of the words with the ids put in
+abbrev pub started_by : {F : Type 0} → Machine F → List (Hash32 × SignedTx) → List (List ℕ) → Result (ℕ × List ℕ) WordFault
+started_by m recorded words = named_by m (slice_index_or words 2 []) (map (put_in recorded) (drop 3 words))
 
 -- the start of a flow, where words name one
 abbrev pub start_step : ℕ → Result (ℕ × List ℕ) WordFault → Option Step
 start_step node (Ok words) = Some (step.Start node words.0 words.1)
 start_step node (Err fault) = None
 
--- the step that a command makes, if it makes one
-abbrev pub step_of : {F : Type 0} → Machine F → Command → List (List ℕ) → Option Step
-step_of m (command.Clock to) words = Some (step.Clock (record { 0 = to }))
-step_of m (command.Start node) words = start_step (place_of node) (started_by m words)
-step_of m (command.Turn node pick) words = Some (step.Turn (place_of node) (option_map flow_of pick))
-step_of m (command.Post node) words = Some (step.Post (place_of node))
-step_of m (command.Deliver node at) words = Some (step.Deliver (place_of node) (frame_of at))
-step_of m (command.Repeat node at) words = Some (step.Repeat (place_of node) (frame_of at))
-step_of m (command.Lose node at) words = Some (step.Lose (place_of node) (frame_of at))
-step_of m (command.Cut node calls kind) words = Some (step.Cut (place_of node) calls kind)
-step_of m (command.Boot node) words = Some (step.Boot (place_of node))
-step_of m command.Drain words = Some step.Drain
-step_of m (command.Flows node) words = None
-step_of m (command.Flow node flow) words = None
-step_of m (command.Vault node) words = None
-step_of m (command.Balance node) words = None
-step_of m command.Book words = None
-step_of m (command.TxLine node name) words = None
-step_of m command.History words = None
-step_of m command.Quit words = None
-step_of m command.Unknown words = None
+-- the step that a command makes, if it makes one, by what each node recorded
+abbrev pub step_of : {F : Type 0} → Machine F → (ℕ → List (Hash32 × SignedTx)) → Command → List (List ℕ) → Option Step
+step_of m recorded (command.Clock to) words = Some (step.Clock (record { 0 = to }))
+step_of m recorded (command.Start node) words = start_step (place_of node) (started_by m (recorded (place_of node)) words)
+step_of m recorded (command.Turn node pick) words = Some (step.Turn (place_of node) (option_map flow_of pick))
+step_of m recorded (command.Post node) words = Some (step.Post (place_of node))
+step_of m recorded (command.Deliver node at) words = Some (step.Deliver (place_of node) (frame_of at))
+step_of m recorded (command.Repeat node at) words = Some (step.Repeat (place_of node) (frame_of at))
+step_of m recorded (command.Lose node at) words = Some (step.Lose (place_of node) (frame_of at))
+step_of m recorded (command.Cut node calls kind) words = Some (step.Cut (place_of node) calls kind)
+step_of m recorded (command.Boot node) words = Some (step.Boot (place_of node))
+step_of m recorded command.Drain words = Some step.Drain
+step_of m recorded (command.Flows node) words = None
+step_of m recorded (command.Flow node flow) words = None
+step_of m recorded (command.Vault node) words = None
+step_of m recorded (command.Balance node) words = None
+step_of m recorded command.Book words = None
+step_of m recorded (command.TxLine node name) words = None
+step_of m recorded command.History words = None
+step_of m recorded command.Quit words = None
+step_of m recorded command.Unknown words = None
+
+-- the transactions that the records of a journal store, with their ids, in order
+abbrev pub recorded_by : {F : Type 0} → Reads F → List (List ℕ) → List (Hash32 × SignedTx)
+recorded_by frame_at bodies = with_ids (state_of frame_at bodies).stored
+
+-- what a node of a world recorded, where it is up; none where it is down, so that no word of a start at it stands for an id
+abbrev pub recorded_up : {F : Type 0} → Reads F → NodeWorld → List (Hash32 × SignedTx)
+recorded_up frame_at x = if x.up then recorded_by frame_at x.journal else []
+
+-- what the node at a place recorded, where it is there and up
+abbrev pub recorded_in : {F : Type 0} → Environment F → World → ℕ → List (Hash32 × SignedTx)
+recorded_in e w p = option_map_or (recorded_up e.frame_at) (slice_get w.nodes p) []
 
 -- ---- answers that change nothing
 
@@ -161,15 +197,6 @@ AsksFlow {F} e w p f reply x =
     ((slice_get (state_of e.frame_at x.journal).flows f ≡ None) × IsRefused 11 reply)
     ⊎ (((flow : FlowState F) × (slice_get (state_of e.frame_at x.journal).flows f ≡ Some flow)) × (reply_text reply ≡ printed e (causes_in e w) (of_flow p f)))
 
--- a place of a recorded transaction, where it is too great the greatest that names one: no node records so many
-abbrev pub record_of : ℕ → ℕ
-record_of k = min k (2 ^ 32 - 1)
-
--- the recorded transaction that is named
-abbrev pub named_in : TxName → List (Hash32 × SignedTx) → Option (Hash32 × SignedTx)
-named_in (name.Id id) recorded = with_id id recorded
-named_in (name.Place k) recorded = slice_get recorded (record_of k)
-
 -- the query of a transaction of a node
 abbrev pub tx_query : ℕ → TxName → LedgerQuery
 tx_query p (name.Id id) = of_tx p id
@@ -189,7 +216,7 @@ AsksHistory e w reply =
 
 -- the reply to a command that makes no step
 abbrev pub Answers : {F : Type 0} → Environment F → World → Command → List (List ℕ) → Reply → Type 0
-Answers e w (command.Start node) words reply = RefusesWords w (place_of node) (started_by e.machine words) reply
+Answers e w (command.Start node) words reply = RefusesWords w (place_of node) (started_by e.machine (recorded_in e w (place_of node)) words) reply
 Answers e w (command.Flows node) words reply = AtNode w (place_of node) reply (λ x. reply_text reply ≡ printed e (causes_in e w) (of_flows (place_of node)))
 Answers e w (command.Flow node flow) words reply = AtNode w (place_of node) reply (AsksFlow e w (place_of node) (flow_of flow) reply)
 Answers e w (command.Vault node) words reply = AtNode w (place_of node) reply (λ x. reply_text reply ≡ printed_ledger e (causes_in e w) (of_vault (place_of node)))
@@ -218,7 +245,7 @@ Makes e w None asked words reply v = Answers e w asked words reply × (v ≡ w)
 
 -- the reply to a command with its words, and the world after it
 abbrev pub Serves : {F : Type 0} → Environment F → World → Command → List (List ℕ) → Reply → World → Type 0
-Serves e w asked words reply v = Makes e w (step_of e.machine asked words) asked words reply v
+Serves e w asked words reply v = Makes e w (step_of e.machine (recorded_in e w) asked words) asked words reply v
 
 -- the reply to a line, and the world after it
 abbrev pub RepliesTo : {F : Type 0} → Environment F → World → List ℕ → Reply → World → Type 0
@@ -241,17 +268,17 @@ Leaves e (Some step) w v = (v ≡ w) ⊎ Serve e step w None v
 
 -- a line was left without an answer for want of memory: it was left off, or it was served and its answer could not be spelt
 abbrev pub RunsShort : {F : Type 0} → Environment F → World → List ℕ → World → Type 0
-RunsShort e w line v = Leaves e (step_of e.machine (asked_by line) (words_of line)) w v ⊎ ((text : List ℕ) × Link e w line text v)
+RunsShort e w line v = Leaves e (step_of e.machine (recorded_in e w) (asked_by line) (words_of line)) w v ⊎ ((text : List ℕ) × Link e w line text v)
 
 -- what a command came to: its reply, or want of memory
 abbrev pub Comes : {F E : Type 0} → Environment F → World → Command → List (List ℕ) → Result Reply E → World → Type 0
 Comes e w asked words (Ok reply) v = Serves e w asked words reply v
-Comes e w asked words (Err fault) v = Leaves e (step_of e.machine asked words) w v
+Comes e w asked words (Err fault) v = Leaves e (step_of e.machine (recorded_in e w) asked words) w v
 
 -- what a line came to: its reply, or want of memory
 abbrev pub LineComes : {F E : Type 0} → Environment F → World → List ℕ → Result Reply E → World → Type 0
 LineComes e w line (Ok reply) v = RepliesTo e w line reply v
-LineComes e w line (Err fault) v = Leaves e (step_of e.machine (asked_by line) (words_of line)) w v
+LineComes e w line (Err fault) v = Leaves e (step_of e.machine (recorded_in e w) (asked_by line) (words_of line)) w v
 
 -- what a step came to: its outcome, told, or want of memory
 abbrev pub StepComes : {F E : Type 0} → Environment F → World → Step → Result Reply E → World → Type 0

@@ -20,8 +20,8 @@ use Rattle.node_shell.specs.declared.replies.Reply.{Reply}
 use Rattle.node_shell.specs.declared.replies.Reply.TheVariants.{Told}
 use Rattle.node_shell.specs.declared.statuses.Status.{Status}
 use Rattle.node_shell.specs.declared.statuses.Status.TheVariants as status
-use Rattle.node_shell.specs.Serve.{step_of, RepliesTo, Leaves, Link, RunsShort}
-use Rattle.node_shell.specs.Responds.{NetLink, NetLeft, NetShort}
+use Rattle.node_shell.specs.Serve.{step_of, recorded_in, RepliesTo, Leaves, Link, RunsShort}
+use Rattle.node_shell.specs.Responds.{recorded_seen, NetLink, NetLeft, NetShort}
 use Rattle.node_shell.specs.Story.{Story, begins, goes_on, EndsWith, ScriptRun}
 
 -- ---- a line
@@ -40,7 +40,7 @@ Goes m id None reply a b = b ≡ a
 
 abbrev pub LineGoes : {F : Type 0} (m : Meaning F) (id : Identity)
     → List ℕ → Option Reply → Pair (environment m id) → Pair (environment m id) → Type 0
-LineGoes m id line reply a b = Goes m id (step_of m.machine (asked_by line) (words_of line)) reply a b
+LineGoes m id line reply a b = Goes m id (step_of m.machine (recorded_seen m.frame_at a.net) (asked_by line) (words_of line)) reply a b
 
 -- one link of a story of networks together with worlds: it is one of the networks and, with the same reply, one of the worlds, and what the line made it
 -- made of both at once
@@ -54,7 +54,8 @@ pub record PairLink {F : Type 0} (m : Meaning F) (id : Identity) (a : Pair (envi
 pub record PairLeft {F : Type 0} (m : Meaning F) (id : Identity) (a : Pair (environment m id))
     (line : List ℕ) (b : Pair (environment m id)) : Type 0 where
   pub net : NetLeft m a.net line b.net
-  pub leaves : Leaves (environment m id) (step_of m.machine (asked_by line) (words_of line)) a.world b.world
+  pub leaves : Leaves (environment m id)
+      (step_of m.machine (recorded_in (environment m id) a.world) (asked_by line) (words_of line)) a.world b.world
   pub goes : LineGoes m id line None a b
 
 -- a line was left without an answer for want of memory: it was left off, or it was served and its answer could not be spelt

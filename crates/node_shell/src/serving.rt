@@ -1,13 +1,14 @@
 //! What the words of a line do to the network.
 
 ghost use Rattle.net_model.specs.Environment.{meaning};
-ghost use Rattle.std.specs.Prelude.{◌≡◌, ◌<◌, IfOk, map, string_bytes, min, ◌-◌, length, drop, slice_index_or, [], Option, Some, None, option_map, false};
+ghost use Rattle.std.specs.Prelude.{◌≡◌, ◌<◌, IfOk, map, string_bytes, min, ◌-◌, length, [], Option, Some, None, option_map, false};
+ghost use Rattle.std.specs.Option.{option_map_or};
 ghost use Rattle.network_core.specs.Worlds.{KeepsWorld};
-ghost use Rattle.shell_words.specs.Script.{command_of, is_quit, has_mark};
+ghost use Rattle.shell_words.specs.Script.{command_of, is_quit};
 ghost use Rattle.shell_words.specs.declared.commands.Command.TheVariants as command;
 ghost use Rattle.flow_machine.specs.Flows.{GivesWords};
-ghost use Rattle.node_shell.specs.Serve.{Comes, LineComes, StepComes, IsRefused, unmarked, place_of, flow_of, frame_of, record_of, is_end, is_quit_command};
-ghost use Rattle.node_shell.specs.Responds.{AtSeen, PrintsFlows, PrintsFlow, OfSeen, PrintsVault, PrintsBalance, PrintsBook, PrintsTx, IsLineOf, notary_seen, PrintsHistory, StepResponds, CommandResponds, LineResponds, causes_up, given};
+ghost use Rattle.node_shell.specs.Serve.{Comes, LineComes, StepComes, IsRefused, put_in, named_by, started_by, place_of, flow_of, frame_of, record_of, is_end, is_quit_command};
+ghost use Rattle.node_shell.specs.Responds.{recorded_seen, AtSeen, PrintsFlows, PrintsFlow, OfSeen, PrintsVault, PrintsBalance, PrintsBook, PrintsTx, IsLineOf, notary_seen, PrintsHistory, StepResponds, CommandResponds, LineResponds, causes_up, given};
 
 use super::replies::Reply;
 use contract_verify::Judge;
@@ -20,7 +21,9 @@ use shell_report::{
     balance_text, book_text, copy_causes, flow_text, flows_text, history_text, tx_text_at,
     tx_text_of, vault_text,
 };
-use shell_words::{Command, TxName, command_of, has_mark, has_no_answer, is_readable, words_of};
+use shell_words::{
+    Command, TxName, command_of, has_mark, has_no_answer, is_readable, mark_of, words_of,
+};
 use std::alloc::{AllocError, Global};
 use tx_store::Store;
 
@@ -84,16 +87,78 @@ fn make<B: Bay, F: FlowSet, J: Judge>(
     Ok(Reply::Told(net.apply(alloc, step, contracts)?))
 }
 
-/// The class and the arguments that the words of a start ask for.
-fn started_by<F: FlowSet>(alloc: Global, words: &[String]) -> Result<(u16, ByteList), WordFault>
-    requires { 2 < length words.now }
-    ensures { let ws = map (λ s. string_bytes s) words.now in GivesWords result (unmarked (has_mark (drop 3 ws)) (F.machine.worded (slice_index_or ws 2 []) (drop 3 ws))) }
+/// What the node at a place recorded, where it is there and up.
+fn store_of<B: Bay, F: FlowSet>(net: &Net<B, F>, place: u8) -> Option<&Store>
+    ensures { option_map_or (λ store. store.now.list) result [] ≡ recorded_seen F.reading net.entry.now place }
 {
-    let args = &words[3..];
-    match F::read_words(alloc, words[2].as_str(), args) {
+    match net.nodes().get(place as usize) {
+        None => None,
+        Some(node) => match node.ledger() {
+            None => None,
+            Some(ledger) => Some(ledger.store()),
+        },
+    }
+}
+
+/// An argument of a start, `#k` replaced by the digits of the id of the transaction at place k, where there is one.
+fn put_in(alloc: Global, store: &Store, word: &str) -> Result<String, AllocError>
+    ensures { IfOk result (λ digits. string_bytes digits ≡ put_in store.now.list word.now) }
+{
+    match mark_of(word) {
+        None => String::from_str(alloc, word),
+        Some(k) => match store.at(record_of(k)) {
+            None => String::from_str(alloc, word),
+            Some((id, _)) => hex::encode(alloc, id.0),
+        },
+    }
+}
+
+/// The arguments of a start, each `#k` that names a recorded transaction replaced so.
+fn put_in_all(alloc: Global, store: &Store, args: &[String]) -> Result<Vec<String>, AllocError>
+    ensures { IfOk result (λ filled. map (λ s. string_bytes s) filled.items ≡ map (put_in store.now.list) (map (λ s. string_bytes s) args.now)) }
+{
+    let mut filled = Vec::with_capacity(alloc, args.len())?;
+    for word in args {
+        filled.push(put_in(alloc, store, word.as_str())?)?;
+    }
+    Ok(filled)
+}
+
+/// The class and the arguments that these words ask for; a word that still is `#k` names no recorded transaction.
+fn named_by<F: FlowSet>(
+    alloc: Global,
+    class: &str,
+    args: &[String],
+) -> Result<(u16, ByteList), WordFault>
+    ensures { GivesWords result (named_by F.machine class.now (map (λ s. string_bytes s) args.now)) }
+{
+    match F::read_words(alloc, class, args) {
         Ok(_) if has_mark(args) => Err(WordFault::BadArgs),
         Ok(named) => Ok(named),
         Err(fault) => Err(fault),
+    }
+}
+
+/// The class and the arguments that the words of a start ask for.
+fn started_by<B: Bay, F: FlowSet>(
+    alloc: Global,
+    net: &Net<B, F>,
+    place: u8,
+    words: &[String],
+) -> Result<(u16, ByteList), WordFault>
+    requires { 2 < length words.now }
+    ensures { GivesWords result (started_by F.machine (recorded_seen F.reading net.entry.now place) (map (λ s. string_bytes s) words.now)) }
+{
+    let args = &words[3..];
+    if !has_mark(args) {
+        return named_by::<F>(alloc, words[2].as_str(), args);
+    }
+    match store_of(net, place) {
+        None => named_by::<F>(alloc, words[2].as_str(), args),
+        Some(store) => {
+            let filled = put_in_all(alloc, store, args)?;
+            named_by::<F>(alloc, words[2].as_str(), filled.as_slice())
+        }
     }
 }
 
@@ -123,7 +188,7 @@ fn start<B: Bay, F: FlowSet, J: Judge>(
     ensures goes_on { IfOk result (λ reply. is_end reply ≡ false) }
 {
     let place = place_of(node);
-    match started_by::<F>(alloc, words) {
+    match started_by(alloc, net, place, words) {
         Ok((class, args)) => {
             let step = Step::Start {
                 node: place,
