@@ -4,7 +4,9 @@
 #![tactic(auto)]
 
 mod calls;
+mod heap;
 mod set;
 
 pub use calls::{CallFrames, Called, CountFrame, FinalityFrame};
+pub use heap::OnHeap;
 pub use set::{Answering, App, AppFlow, AppSet, Cash, Deals, Talking};
