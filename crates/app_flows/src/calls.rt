@@ -4,7 +4,7 @@ ghost use Rattle.std.specs.Prelude.{◌≡◌};
 ghost use Rattle.flow_forms.specs.declared.forms.Sum.TheVariants as of;
 ghost use Rattle.app_flows.specs.Frames.{none};
 
-use crate::heap::OnHeap;
+use crate::beside::Beside;
 use finality_flows::{Finality, FinalityPlace};
 use flow_forms::{ByCall, ByWords, Call, Flows, Frame, Opens, Sum};
 use notary_flows::{Client, ClientFrame};
@@ -20,7 +20,7 @@ pub type FinalityFrame = Frame<FinalityPlace, Finality, ByCall>;
 
 /// The frames that calls may be: machine 31, the notary client; 32, resolving; 30, finality; and 1, the counting flow, which stands for a
 /// call that no machine makes. All but that one stand on the heap.
-pub type Called = Sum<CountFrame, OnHeap<Sum<ClientFrame, Sum<ResolveFrame, FinalityFrame>>>>;
+pub type Called = Beside<CountFrame, Sum<ClientFrame, Sum<ResolveFrame, FinalityFrame>>>;
 
 /// The frame of each call, before it started. For a call to give or to take, which no machine makes, there stands a counting flow that
 /// wakes once and returns 0.
@@ -32,7 +32,7 @@ fn wakes_once() -> Called
     ensures { result ≡ of.First none }
 {
     let fields = Count { left: 0, all: 0 };
-    Sum::First(Frame::asking(CountPlace::Sleeping, fields))
+    Beside::first(Frame::asking(CountPlace::Sleeping, fields))
 }
 
 impl Opens<Called> for CallFrames {
@@ -47,17 +47,17 @@ impl Opens<Called> for CallFrames {
         Ok(match call {
             Call::Client { request } => {
                 let frame = Frame::called(Client::new(request));
-                Sum::Second(OnHeap::new(alloc, Sum::First(frame))?)
+                Beside::second(alloc, Sum::First(frame))?
             }
             Call::Resolve { key, stx } => {
                 let fields = Resolve::new(alloc, key, stx);
                 let frame = Sum::Second(Sum::First(Frame::called(fields)));
-                Sum::Second(OnHeap::new(alloc, frame)?)
+                Beside::second(alloc, frame)?
             }
             Call::Finality { tx, peers } => {
                 let fields = Finality::new(alloc, tx, peers)?;
                 let frame = Sum::Second(Sum::Second(Frame::called(fields)));
-                Sum::Second(OnHeap::new(alloc, frame)?)
+                Beside::second(alloc, frame)?
             }
             Call::Give {
                 key: _key,
