@@ -4,6 +4,7 @@ ghost use Rattle.std.specs.Prelude.{◌≡◌};
 ghost use Rattle.flow_forms.specs.declared.forms.Sum.TheVariants as of;
 ghost use Rattle.app_flows.specs.Frames.{none};
 
+use crate::beside::Beside;
 use finality_flows::{Finality, FinalityPlace};
 use flow_forms::{ByCall, ByWords, Call, Flows, Frame, Opens, Sum};
 use notary_flows::{Client, ClientFrame};
@@ -18,8 +19,8 @@ pub type CountFrame = Frame<CountPlace, Count, ByWords>;
 pub type FinalityFrame = Frame<FinalityPlace, Finality, ByCall>;
 
 /// The frames that calls may be: machine 31, the notary client; 32, resolving; 30, finality; and 1, the counting flow, which stands for a
-/// call that no machine makes.
-pub type Called = Sum<CountFrame, Sum<ClientFrame, Sum<ResolveFrame, FinalityFrame>>>;
+/// call that no machine makes. All but that one stand on the heap.
+pub type Called = Beside<CountFrame, Sum<ClientFrame, Sum<ResolveFrame, FinalityFrame>>>;
 
 /// The frame of each call, before it started. For a call to give or to take, which no machine makes, there stands a counting flow that
 /// wakes once and returns 0.
@@ -31,7 +32,7 @@ fn wakes_once() -> Called
     ensures { result ≡ of.First none }
 {
     let fields = Count { left: 0, all: 0 };
-    Sum::First(Frame::asking(CountPlace::Sleeping, fields))
+    Beside::first(Frame::asking(CountPlace::Sleeping, fields))
 }
 
 impl Opens<Called> for CallFrames {
@@ -45,15 +46,18 @@ impl Opens<Called> for CallFrames {
     fn open(alloc: Global, call: Call) -> Result<Called, AllocError> {
         Ok(match call {
             Call::Client { request } => {
-                Sum::Second(Sum::First(Frame::called(Client::new(request))))
+                let frame = Frame::called(Client::new(request));
+                Beside::second(alloc, Sum::First(frame))?
             }
             Call::Resolve { key, stx } => {
                 let fields = Resolve::new(alloc, key, stx);
-                Sum::Second(Sum::Second(Sum::First(Frame::called(fields))))
+                let frame = Sum::Second(Sum::First(Frame::called(fields)));
+                Beside::second(alloc, frame)?
             }
             Call::Finality { tx, peers } => {
                 let fields = Finality::new(alloc, tx, peers)?;
-                Sum::Second(Sum::Second(Sum::Second(Frame::called(fields))))
+                let frame = Sum::Second(Sum::Second(Frame::called(fields)));
+                Beside::second(alloc, frame)?
             }
             Call::Give {
                 key: _key,

@@ -1,5 +1,6 @@
 //! The flow set of all machines.
 
+use crate::beside::Beside;
 use crate::calls::{CallFrames, Called};
 use cash_flows::{ExitFrame, IssueFrame, PayFrame, SpendFrame};
 use deal_flows::{FactFrame, IouFrame, RefactFrame};
@@ -11,21 +12,22 @@ use shipped_flows::{Echo, EchoPlace, Ping, PingPlace, Probe, ProbePlace};
 
 /// The machines that answer an Init: 11, the echo; 20, the notary service; 21, the receiver; and 22, which signs what a lender agrees to.
 pub type Answering = Sum<
-    Sum<Frame<EchoPlace, Echo, ByInit>, ServiceFrame>,
-    Sum<ReceiverFrame, AgreeFrame>,
+    Beside<Frame<EchoPlace, Echo, ByInit>, ServiceFrame>,
+    Beside<ReceiverFrame, AgreeFrame>,
 >;
 
 /// The machines of cash: 3 issues it, 4 pays, 5 takes it out, and 8 spends a state of it that is named.
 pub type Cash = Sum<Sum<IssueFrame, PayFrame>, Sum<ExitFrame, SpendFrame>>;
 
-/// The machines of agreements: 6 states a fact, 7 changes one, and 9 makes a debt.
-pub type Deals = Sum<FactFrame, Sum<RefactFrame, IouFrame>>;
-
 /// The machines that talk for the sake of it: 2 pings, and 10 probes.
 pub type Talking = Sum<Frame<PingPlace, Ping, ByWords>, Frame<ProbePlace, Probe, ByWords>>;
 
-/// All machines. The sums are as flat as can be: what the prover computes of a sum grows with how deep it is.
-pub type App = Sum<Called, Sum<Sum<Answering, Cash>, Sum<Deals, Talking>>>;
+/// The machines of agreements: 6 states a fact, 7 changes one, and 9 makes a debt.
+pub type Deals = Sum<FactFrame, Sum<RefactFrame, IouFrame>>;
+
+/// All machines. The sums are as flat as can be: what the prover computes of a sum grows with how deep it is. The frames of machines that
+/// keep much stand on the heap (`Beside`), since each frame is as large as the largest, and a step moves it some ten times.
+pub type App = Sum<Called, Sum<Beside<Answering, Cash>, Beside<Talking, Deals>>>;
 
 /// The frames of calls are those of `CallFrames`.
 #[derive(Clone, Copy)]
