@@ -4,7 +4,7 @@
 //! they are in memory.
 #![tactic(auto)]
 
-ghost use Rattle.std.specs.Prelude.{◌≡◌, ◌⊎◌, ⊥, IfOk, length, map, string_bytes, All, [], true, None};
+ghost use Rattle.std.specs.Prelude.{◌≡◌, ◌⊎◌, IfOk, length, map, string_bytes, All, [], true, None};
 ghost use Rattle.std.specs.IoError.{error_kind};
 ghost use Rattle.std.specs.declared.io.ErrorKind.TheVariants.{OutOfMemory};
 ghost use Rattle.outside.specs.Disk.{DiskView, clean};
