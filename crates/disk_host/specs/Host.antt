@@ -3,7 +3,8 @@ use Rattle.std.specs.Prelude.{◌-◌, ◌^◌, ℕ, [], Option, Some, None, tru
 use Rattle.outside.specs.Disk.{Attached, DiskView, clean}
 use Rattle.disk_mem.specs.Mem.{MemView, disk_of}
 
--- a file tells nothing of its content, is never calm, and has no fuse; no place and no number of writes is past its room
+-- a file tells nothing of its content, is never calm, and has no fuse; no place and no number
+-- of writes is past its room
 abbrev pub file_view : ℕ → Option Attached → DiskView
 file_view faults attached = record {
   tells = false;
@@ -18,7 +19,8 @@ file_view faults attached = record {
   room_writes = 2 ^ 32 - 1;
 }
 
--- a disk without a file is its disk in memory, with a count of faults of its own; one with a file is that file
+-- a disk without a file is its disk in memory, with a count of faults of its own; one with a
+-- file is that file
 abbrev pub host_of : {F : Type 0} → Option F → MemView → ℕ → DiskView
 host_of None memory faults = record (disk_of memory) { faults = faults }
 host_of (Some file) memory faults = file_view faults memory.attached

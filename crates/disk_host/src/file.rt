@@ -12,15 +12,16 @@ use std::rt::Files;
 #[derive(Drop)]
 pub struct LockedFile {
     file: File,
-    // A sync failed. The kernel may have dropped what was to be written and yet report the next sync as done, so nothing
-    // that this open file says is trusted any more.
+    // A sync failed. The kernel may have dropped what was to be written and yet report the next
+    // sync as done, so nothing that this open file says is trusted any more.
     is_lost: bool,
 }
 
 /// Opens the file for reading and writing, and makes it where it is missing.
 ///
-/// The file and its folder are synced, so that what is read is on the device, also the name of a file that was just made. Pages that a
-/// failed sync of an earlier process may have left otherwise than the device has them are dropped.
+/// The file and its folder are synced, so that what is read is on the device, also the name of
+/// a file that was just made. Pages that a failed sync of an earlier process may have left
+/// otherwise than the device has them are dropped.
 fn open_locked<R: Files<File = File>>(rt: &R, dir: &str, path: &str) -> io::Result<File> {
     if !fs::metadata(rt, dir)?.is_dir() {
         return Err(ErrorKind::NotADirectory.into());
@@ -39,7 +40,8 @@ fn open_locked<R: Files<File = File>>(rt: &R, dir: &str, path: &str) -> io::Resu
 }
 
 impl LockedFile {
-    /// Opens the file of this name in a folder, and makes it where it is missing. The folder has to be there.
+    /// Opens the file of this name in a folder, and makes it where it is missing. The folder
+    /// has to be there.
     pub fn open<R: Files<File = File>>(
         rt: &R,
         alloc: Global,

@@ -13,13 +13,15 @@ use std::rt::Files;
 
 /// A disk in memory, or, once it was attached to a folder, over a file.
 ///
-/// In memory it is a [`MemDisk`]. Over a file it tells nothing of its content and is never calm: whether a real file keeps
-/// what was written no contract can say. What is promised of it is that it answers [`Failed`] only where its count of faults
-/// rose, that it has no fuse, and that it stays a file.
+/// In memory it is a [`MemDisk`]. Over a file it tells nothing of its content and is never
+/// calm: whether a real file keeps what was written no contract can say. What is promised of it
+/// is that it answers [`Failed`] only where its count of faults rose, that it has no fuse, and
+/// that it stays a file.
 #[derive(Drop)]
 pub struct HostDisk<'a, R: Files<File = File>> {
     rt: &'a R,
-    // The disk where there is no file. Beside a file it is empty of use but for what the bay was attached as.
+    // The disk where there is no file. Beside a file nothing of it is read but what the bay was
+    // attached as.
     memory: MemDisk,
     file: Option<LockedFile>,
     faults: u64,
@@ -35,7 +37,8 @@ impl<'a, R: Files<File = File>> Model for HostDisk<'a, R> {
 }
 
 impl<'a, R: Files<File = File>> HostDisk<'a, R> {
-    /// An empty disk in memory, with power and no fuse. Takes no memory. Files are opened by way of `rt`.
+    /// An empty disk in memory, with power and no fuse. Takes no memory. Files are opened by
+    /// way of `rt`.
     pub fn new(alloc: Global, rt: &'a R) -> HostDisk<'a, R>
         ensures state { result.state ≡ record { kept = []; now = clean []; past = [] } }
         ensures tells { result.tells ≡ true }

@@ -3,7 +3,8 @@ ghost use Rattle.std.specs.Prelude.{◌≡◌};
 use outside::{Failed, Sink, Source};
 use std::io::{Read, Write};
 
-/// A source over a reader. It tells of the bytes that are left what the reader tells, and counts the reads that failed.
+/// A source over a reader. It tells of the bytes that are left what the reader tells, and
+/// counts the reads that failed.
 #[derive(Drop)]
 pub struct StdSource<R> {
     inner: R,
@@ -39,7 +40,8 @@ impl<R: Read> Source for StdSource<R> {
     }
 }
 
-/// A sink over a writer. It tells of the bytes that were written what the writer tells, and counts the writes that failed.
+/// A sink over a writer. It tells of the bytes that were written what the writer tells, and
+/// counts the writes that failed.
 #[derive(Drop)]
 pub struct StdSink<W> {
     inner: W,

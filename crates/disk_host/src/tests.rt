@@ -21,7 +21,10 @@ fn a_file_keeps_its_bytes(rt: HostRuntime) -> Result<(), Fail> {
     disk.sync()?;
     assert_eq!(rt; disk.cut_power(0, 1), Err(NoFuse));
     let mut other = HostDisk::new(alloc, &rt);
-    assert_eq!(rt; other.attach(alloc, Some(FOLDER), "a"), Err(AttachFault::Failed));
+    assert_eq!(rt;
+        other.attach(alloc, Some(FOLDER), "a"),
+        Err(AttachFault::Failed)
+    );
     assert!(rt; !other.is_file());
     drop(disk);
     other.attach(alloc, Some(FOLDER), "a")?;
