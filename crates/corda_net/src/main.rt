@@ -46,6 +46,13 @@ fn status_of(fault: &io::Error) -> u8
     }
 }
 
+/// An empty disk in memory.
+fn empty_disk<'a, R: Files<File = File>>(alloc: Global, rt: &'a R) -> HostDisk<'a, R>
+    ensures { (result.state ≡ record { kept = []; now = clean []; past = [] }) × (result.calm ≡ true) × (result.power ≡ true) × (result.fuse ≡ None) × (result.faults ≡ 0) }
+{
+    HostDisk::new(alloc, rt)
+}
+
 /// The disks of a run, all empty and in memory. A run opens those that it uses as files where the words name a folder.
 fn empty_disks<'a, R: Files<File = File>>(
     alloc: Global,
@@ -56,7 +63,7 @@ fn empty_disks<'a, R: Files<File = File>>(
 {
     let mut disks = Vec::new(alloc);
     'disks: for _ in 0..32u8 {
-        disks.push(HostDisk::new(alloc, rt))?;
+        disks.push(empty_disk(alloc, rt))?;
     }
     Ok(disks)
 }

@@ -2,7 +2,7 @@
 use Rattle.std.proofs.Common.{arith}
 use Rattle.net_base.specs.Names.{IsIdentity}
 use Rattle.net_model.specs.Environment.{Meaning}
-use Rattle.shell_words.specs.Script.{IsNetwork}
+use Rattle.shell_words.specs.Program.{IsNetwork}
 use Rattle.shell_words.specs.declared.program.NetworkWords.{NetworkWords}
 use Rattle.node_shell.proofs.Together.{scripts_are_ways}
 use Rattle.ledger_laws.specs.Places.{Fact, InWorlds, OnWays}

@@ -8,7 +8,7 @@ use Rattle.network_core.specs.Drains.{Pair}
 use Rattle.network_core.specs.Moments.{Instant, IsChoice}
 use Rattle.network_core.specs.Ways.{Way, IsOn}
 use Rattle.network_core.specs.Worlds.{Choice}
-use Rattle.shell_words.specs.Script.{IsNetwork}
+use Rattle.shell_words.specs.Program.{IsNetwork}
 use Rattle.shell_words.specs.declared.program.NetworkWords.{NetworkWords}
 use Rattle.node_shell.specs.declared.statuses.Status.{Status}
 use Rattle.node_shell.specs.Story.{ScriptRun}
