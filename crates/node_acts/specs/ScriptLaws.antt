@@ -1,6 +1,7 @@
 -- The laws of the flow set that performs a list of acts.
 use Rattle.std.proofs.Common.{◌≡◌, ◌+◌, ◌*◌, ◌≤◌, ◌<◌, ◌^◌, ℕ, zero, suc, arith, Bool, true, false, List, [], ◌∷◌, ◌++◌, length, Option, Some, None, Result, Ok, Err, refl, sym, ap, subst, ◌∙◌, length-append}
 use Rattle.std.specs.Prelude.{nat_le, nat_eq, ◌==◌, ◌%◌, min, if◌then◌else◌, get_or, IfOk}
+use Rattle.std.specs.Int.{w16}
 use Rattle.std.specs.List.{list_all, AllByRecursion}
 use Rattle.std.proofs.lemmas.Bool.{leb-true}
 use Rattle.net_base.specs.declared.values.Hash32.{Hash32}
@@ -121,7 +122,7 @@ goes_fall (mark ∷ acts) with e = omega (arith, steps_fall acts with)
 pub falls : Falls script
 falls frame with here going = goes_fall frame.0 with going
 
-answer_with : Script × Act Script → Option (Script × Act Script)
+abbrev answer_with : Script × Act Script → Option (Script × Act Script)
 answer_with g = Some g
 
 same_answer : (a g : Script × Act Script) → answer_with a ≡ answer_with g → a ≡ g

@@ -1,6 +1,6 @@
 //! A flow set of one machine, which performs a list of acts that it is handed.
 
-ghost use Rattle.std.specs.Prelude.{◌≡◌, ◌≤◌, ◌∷◌, length, IfOk};
+ghost use Rattle.std.specs.Prelude.{◌≡◌, ◌≤◌, ◌<◌, ◌^◌, ◌∷◌, length, IfOk};
 ghost use Rattle.flow_machine.specs.Tags.{answer_tags, resumed_tags, value_tags};
 ghost use Rattle.node_acts.specs.Script.{act_cost, asked, called, fails, filled, follows, ids_shown, load, number_shown, paid, shown, steps, tagged, verdict_number};
 
@@ -227,20 +227,21 @@ fn filled(alloc: Global, act: Act<Script>, tags: TagList) -> Result<Act<Script>,
 }
 
 /// What an Init of a class may cause.
-fn load(class: u16) -> u64
+fn load(class: u16) -> u128
     ensures { result ≡ load class }
 {
     if class == 2 { 8 } else { 0 }
 }
 
 /// What an act may cause.
-fn act_cost(act: &Act<Script>) -> u64
-    ensures { result ≡ act_cost act.now }
+fn act_cost(act: &Act<Script>) -> u128
+    ensures cost { result ≡ act_cost act.now }
+    ensures small { result < 2 ^ 70 }
 {
     match act {
         Act::Open { class, .. } => load(*class) + 6,
         Act::Send { .. } => 2,
-        Act::Sub { frame } => 7 * frame.0.len() as u64 + 1,
+        Act::Sub { frame } => 7 * frame.0.len() as u128 + 1,
         _ => 1,
     }
 }
@@ -277,7 +278,7 @@ fn paid(alloc: Global, left: usize, rest: &[u8], act: Act<Script>) -> Result<Nex
     requires { left ≤ 32768 }
     ensures { IfOk result (λ g. g ≡ paid left rest.now act) }
 {
-    if 7 * rest.len() as u64 + act_cost(&act) <= 7 * left as u64 {
+    if 7 * rest.len() as u128 + act_cost(&act) <= 7 * left as u128 {
         follows(alloc, rest, act)
     } else {
         Ok(fails(alloc, 73))
