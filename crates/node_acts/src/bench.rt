@@ -5,16 +5,17 @@ ghost use Rattle.node_core.specs.Seen.{IsBy};
 ghost use Rattle.node_acts.specs.Script.{script_at};
 ghost use Rattle.ledger_acts.specs.Jobs.{IsJob};
 
+use super::answers::{settle_text, taken_text};
 use super::held::Held;
 use super::script::Script;
-use super::telling::{flow_text, ledger_text, settle_text, taken_text};
+use super::telling::{flow_text, ledger_text};
 use anyhow::{Context, Result, bail, ensure};
 use contract_verify::Judge;
 use disk_mem::MemDisk;
 use ledger_acts::Job;
 use net_base::{Boxed, ByteList, Identity, ListOf, Moment, Party};
 use node_core::{Node, SharedNode, SharedTurn, Turned};
-use std::alloc::{AllocError, Global};
+use std::alloc::Global;
 use std::mem;
 
 type TheNode = SharedNode<MemDisk, Script>;

@@ -5,6 +5,7 @@
 //! printed, and at the end how many lines passed and how many failed.
 #![tactic(auto)]
 
+mod answers;
 mod bench;
 mod held;
 mod lines;
