@@ -30,6 +30,15 @@ pub struct Bench {
     other: Option<Held>,
 }
 
+/// Lets a value go. What holds a node or a job is let go of by this call, at one exit of a function: there a value of its own type would
+/// have the proof look at each kind of value that may stand in it.
+pub fn let_go<T: Drop>(_value: T) {}
+
+/// Puts a value where another one was, which is let go.
+fn put<T: Drop>(place: &mut T, value: T) {
+    *place = value;
+}
+
 /// A node over an empty disk, which is down.
 fn new_node(alloc: Global, party: u8) -> TheNode
     requires { party < 3 }
@@ -77,7 +86,7 @@ impl Bench {
     /// Puts another node there, over an empty disk. The jobs that are out stay.
     fn put_node(&mut self, alloc: Global, party: u8) -> Result<String> {
         ensure!(party < 3, "no node of that number");
-        self.node = new_node(alloc, party);
+        put(&mut self.node, new_node(alloc, party));
         self.clock = 0;
         self.boot(alloc)
     }
@@ -108,7 +117,8 @@ impl Bench {
     fn hold(&mut self, job: Boxed<Job>)
         requires { IsJob job }
     {
-        self.other = mem::replace(&mut self.held, Some(Held::new(job)));
+        let before = mem::replace(&mut self.held, Some(Held::new(job)));
+        put(&mut self.other, before);
     }
 
     /// A turn.
@@ -127,7 +137,10 @@ impl Bench {
 
     /// Runs the job that was handed out last, and settles it.
     fn settle<J: Judge>(&mut self, alloc: Global, contracts: &J) -> Result<String> {
-        let done = self.held.take().context("no job is out")?.run(contracts);
+        let Some(held) = self.held.take() else {
+            bail!("no job is out")
+        };
+        let done = held.run(contracts);
         let now = moment(&self.node, self.clock);
         match self.node.settle(alloc, now, done, contracts) {
             Ok(flow) => Ok(format!(in alloc; "settled {flow}")?),

@@ -14,7 +14,7 @@ mod script;
 mod telling;
 
 use anyhow::Result;
-use bench::Bench;
+use bench::{Bench, let_go};
 use cash_contract::Cash;
 use contract_verify::{BoxedContract, ContractBook, Judge};
 use lines::Line;
@@ -63,15 +63,19 @@ fn asks(line: &str) -> bool {
 }
 
 /// Goes through all lines, and tells how many passed and how many failed.
-fn play<J: Judge>(rt: &(impl Print + AllocGlobal), text: &str, contracts: &J) -> Result<()> {
+fn go_through<J: Judge>(
+    rt: &(impl Print + AllocGlobal),
+    bench: &mut Bench,
+    text: &str,
+    contracts: &J,
+) -> Result<()> {
     let mut names = Names::new(rt.alloc());
-    let mut bench = Bench::new(rt.alloc());
     let mut passed = 0u64;
     let mut failed = 0u64;
     for line in text.lines().filter(|line| asks(line)) {
         if let Some(naming) = line.strip_prefix("name ") {
             names.add(rt.alloc(), naming)?;
-        } else if passes(rt, &mut bench, &names, line, contracts)? {
+        } else if passes(rt, bench, &names, line, contracts)? {
             passed = passed.saturating_add(1);
         } else {
             failed = failed.saturating_add(1);
@@ -79,6 +83,14 @@ fn play<J: Judge>(rt: &(impl Print + AllocGlobal), text: &str, contracts: &J) ->
     }
     println!(rt; "{passed} passed, {failed} failed")?;
     Ok(())
+}
+
+/// Has a bench do what the lines say.
+fn play<J: Judge>(rt: &(impl Print + AllocGlobal), text: &str, contracts: &J) -> Result<()> {
+    let mut bench = Bench::new(rt.alloc());
+    let answer = go_through(rt, &mut bench, text, contracts);
+    let_go(bench);
+    answer
 }
 
 fn main(rt: HostRuntime) -> Result<()> {
