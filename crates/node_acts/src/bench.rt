@@ -3,7 +3,6 @@
 ghost use Rattle.std.specs.Prelude.{◌<◌};
 ghost use Rattle.node_core.specs.Seen.{IsBy};
 ghost use Rattle.node_acts.specs.Script.{script_at};
-ghost use Rattle.ledger_acts.specs.Jobs.{IsJob};
 
 use super::answers::{settle_text, taken_text};
 use super::held::Held;
@@ -12,9 +11,8 @@ use super::telling::{flow_text, ledger_text};
 use anyhow::{Context, Result, bail, ensure};
 use contract_verify::Judge;
 use disk_mem::MemDisk;
-use ledger_acts::Job;
-use net_base::{Boxed, ByteList, Identity, ListOf, Moment, Party};
-use node_core::{Node, SharedNode, SharedTurn, Turned};
+use net_base::{ByteList, Identity, ListOf, Moment, Party};
+use node_core::{Node, SharedNode, SharedTurn, TurnFault, Turned};
 use std::alloc::Global;
 use std::mem;
 
@@ -56,6 +54,34 @@ fn moment(node: &TheNode, clock: u64) -> Moment
     ensures { IsBy script_at node.now.node.journal result.0 }
 {
     Moment(node.node().last_moment().0.max(clock))
+}
+
+/// What a turn did.
+#[derive(Drop)]
+enum Handed {
+    Idle,
+    Moved { flow: u32 },
+    /// A job was handed out.
+    Job { held: Held },
+}
+
+/// A turn.
+fn turned(
+    node: &mut TheNode,
+    alloc: Global,
+    now: Moment,
+    pick: Option<u32>,
+) -> Result<Handed, TurnFault>
+    requires { IsBy script_at node.old.node.journal now.0 }
+{
+    match node.turn(alloc, now, pick) {
+        Ok(SharedTurn::Idle) => Ok(Handed::Idle),
+        Ok(SharedTurn::Moved { flow }) => Ok(Handed::Moved { flow }),
+        Ok(SharedTurn::Job { job }) => Ok(Handed::Job {
+            held: Held::new(job),
+        }),
+        Err(why) => Err(why),
+    }
 }
 
 /// The bytes of words in hexadecimal.
@@ -114,22 +140,20 @@ impl Bench {
     }
 
     /// Keeps a job that was handed out, and the one before it.
-    fn hold(&mut self, job: Boxed<Job>)
-        requires { IsJob job }
-    {
-        let before = mem::replace(&mut self.held, Some(Held::new(job)));
+    fn hold(&mut self, held: Held) {
+        let before = mem::replace(&mut self.held, Some(held));
         put(&mut self.other, before);
     }
 
     /// A turn.
     fn turn(&mut self, alloc: Global, pick: Option<u32>) -> Result<String> {
         let now = moment(&self.node, self.clock);
-        match self.node.turn(alloc, now, pick)? {
-            SharedTurn::Idle => word(alloc, "idle"),
-            SharedTurn::Moved { flow } => Ok(format!(in alloc; "moved {flow}")?),
-            SharedTurn::Job { job } => {
-                let flow = job.get().flow;
-                self.hold(job);
+        match turned(&mut self.node, alloc, now, pick)? {
+            Handed::Idle => word(alloc, "idle"),
+            Handed::Moved { flow } => Ok(format!(in alloc; "moved {flow}")?),
+            Handed::Job { held } => {
+                let flow = held.flow();
+                self.hold(held);
                 Ok(format!(in alloc; "job {flow}")?)
             }
         }
@@ -148,12 +172,17 @@ impl Bench {
         }
     }
 
+    /// A whole turn, before which the claims are ended; whether a flow went on.
+    fn work<J: Judge>(&mut self, alloc: Global, contracts: &J) -> Result<bool> {
+        self.node.unclaim();
+        let now = moment(&self.node, self.clock);
+        Ok(self.node.work(alloc, now, None, contracts)? != Turned::Idle)
+    }
+
     /// Whole turns until no flow can go on.
     fn drain<J: Judge>(&mut self, alloc: Global, contracts: &J) -> Result<String> {
-        self.node.unclaim();
         for _ in 0..100u8 {
-            let now = moment(&self.node, self.clock);
-            if self.node.work(alloc, now, None, contracts)? == Turned::Idle {
+            if !self.work(alloc, contracts)? {
                 break;
             }
         }

@@ -7,8 +7,8 @@ ghost use Rattle.node_acts.specs.Script.{act_cost, asked, called, fails, filled,
 use flow_machine::{Act, FlowSet, MakeFault, Place, Resumed, WordFault};
 use ledger_types::{NotaryAnswer, Request, SignedTx, TagList, Value, Verdict};
 use net_base::{
-    Boxed, ByteList, Hash32, Key, ListOf, PartFault, Reader, Spelt, Tag, TryCopy, Writer, read_bytes16,
-    write_bytes16,
+    Boxed, ByteList, Hash32, Key, ListOf, PartFault, Reader, Spelt, Tag, TryCopy, Writer,
+    read_bytes16, write_bytes16,
 };
 use std::alloc::{AllocError, Global};
 
@@ -168,11 +168,7 @@ fn tagged(alloc: Global, value: Value, tags: TagList) -> Result<Value, AllocErro
 }
 
 /// A request with the first of these tags in place of its own.
-fn asked(
-    alloc: Global,
-    request: Boxed<Request>,
-    tags: &[Tag],
-) -> Result<Act<Script>, AllocError>
+fn asked(alloc: Global, request: Boxed<Request>, tags: &[Tag]) -> Result<Act<Script>, AllocError>
     ensures { IfOk result (λ a. a ≡ asked tags.now request) }
 {
     match tags {

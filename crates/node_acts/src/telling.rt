@@ -31,7 +31,10 @@ fn conflict_text(alloc: Global, list: &[ConflictItem]) -> Result<String, AllocEr
     for item in list {
         let id = hex::encode(alloc, &item.reference.id.0)?;
         let consumer = hex::encode(alloc, &item.consumer_hash.0)?;
-        let (index, kind) = (item.reference.index, u8::from(item.kind == RefKind::Reference));
+        let (index, kind) = (
+            item.reference.index,
+            u8::from(item.kind == RefKind::Reference),
+        );
         text.push_str(format!(in alloc; " {id} {index} {consumer} {kind}")?.as_str())?;
     }
     Ok(text)
