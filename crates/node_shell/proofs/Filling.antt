@@ -27,9 +27,6 @@ module _ {F : Type 0} (f : Reads F) (net : NetSeen) (p : ℕ) where
   abbrev recorded_of : Option NodeSeen → List (Hash32 × SignedTx)
   recorded_of n = option_map_or (recorded_by f) (option_and_then (λ (x : NodeSeen). x.journal) n) []
 
-  pub seen_none : slice_get net.nodes p ≡ None → [] ≡ recorded_seen f net p
-  seen_none none = sym (ap recorded_of none)
-
   pub seen_down : (n : NodeSeen) → slice_get net.nodes p ≡ Some n → n.journal ≡ None → [] ≡ recorded_seen f net p
   seen_down n at down = sym (ap recorded_of at ∙ ap (λ j. option_map_or (recorded_by f) j []) down)
 
