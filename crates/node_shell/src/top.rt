@@ -130,9 +130,7 @@ fn run_in_memory<S: Source, K: Sink, B: Bay, F: FlowSet, J: Judge>(
     let mut disks = disks;
     match attach_all(alloc, None, &mut disks, network.nodes as usize) {
         Err(status) => end_with(status, disks, 0),
-        Ok(()) => run_ready::<S, K, B, F, J>(
-            alloc, network, source, sink, disks, contracts,
-        ),
+        Ok(()) => run_ready::<S, K, B, F, J>(alloc, network, source, sink, disks, contracts),
     }
 }
 
@@ -162,9 +160,7 @@ fn run_at_path<S: Source, K: Sink, B: Bay, F: FlowSet, J: Judge>(
     let mut disks = disks;
     match attach_all(alloc, Some(dir), &mut disks, network.nodes as usize) {
         Err(status) => end_with(status, disks, 0),
-        Ok(()) => run_ready::<S, K, B, F, J>(
-            alloc, network, source, sink, disks, contracts,
-        ),
+        Ok(()) => run_ready::<S, K, B, F, J>(alloc, network, source, sink, disks, contracts),
     }
 }
 
@@ -191,15 +187,7 @@ fn run_in_folder<S: Source, K: Sink, B: Bay, F: FlowSet, J: Judge>(
       status = result.status;
     }) network }
 {
-    run_at_path::<S, K, B, F, J>(
-        alloc,
-        dir.as_str(),
-        network,
-        source,
-        sink,
-        disks,
-        contracts,
-    )
+    run_at_path::<S, K, B, F, J>(alloc, dir.as_str(), network, source, sink, disks, contracts)
 }
 
 /// Runs a script over a network of 1 to 16 nodes, line by line, and writes the answers.
