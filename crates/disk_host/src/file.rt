@@ -4,7 +4,6 @@ use outside::{AttachFault, Failed};
 use std::alloc::Global;
 use std::fs::{self, File, OpenOptions};
 use std::io::{self, ErrorKind};
-use std::os::fd::AsRawFd;
 use std::os::unix::fs::FileExt;
 use std::rt::Files;
 
@@ -20,8 +19,7 @@ pub struct LockedFile {
 /// Opens the file for reading and writing, and makes it where it is missing.
 ///
 /// The file and its folder are synced, so that what is read is on the device, also the name of
-/// a file that was just made. Pages that a failed sync of an earlier process may have left
-/// otherwise than the device has them are dropped.
+/// a file that was just made.
 fn open_locked<R: Files<File = File>>(rt: &R, dir: &str, path: &str) -> io::Result<File> {
     if !fs::metadata(rt, dir)?.is_dir() {
         return Err(ErrorKind::NotADirectory.into());
@@ -31,10 +29,6 @@ fn open_locked<R: Files<File = File>>(rt: &R, dir: &str, path: &str) -> io::Resu
     let file = how.open(rt, path)?;
     file.try_lock()?;
     file.sync_all()?;
-    let refused = libc::posix_fadvise(file.as_raw_fd(), 0, 0, libc::POSIX_FADV_DONTNEED);
-    if refused != 0 {
-        return Err(io::Error::from_raw_os_error(refused));
-    }
     File::open(rt, dir)?.sync_all()?;
     Ok(file)
 }
