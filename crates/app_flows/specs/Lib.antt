@@ -1,3 +1,5 @@
 pub mod Opening
 pub mod Frames
 pub mod Machines
+pub mod Words
+pub mod Table

@@ -1,9 +1,9 @@
 //! Two parts of a flow set, the frames of the second on the heap.
 
-ghost use Rattle.std.specs.Prelude.{◌≡◌, IfOk};
+ghost use Rattle.std.specs.Prelude.{◌≡◌, IfOk, ◌++◌};
 ghost use Rattle.flow_forms.specs.declared.forms.Sum.TheVariants as of;
 
-use flow_forms::{Call, Flows, Sum};
+use flow_forms::{Call, Flows, Sum, Tabled};
 use flow_machine::{Act, MakeFault, Place, Resumed, WordFault};
 use net_base::{Boxed, ByteList, Key, PartFault, Reader, Writer};
 use std::alloc::{AllocError, Global};
@@ -167,4 +167,16 @@ impl<A: Flows, B: Flows> Flows for Beside<A, B> {
             Err(fault) => Err(fault),
         }
     }
+}
+
+impl<A: Tabled, B: Tabled> Tabled for Beside<A, B> {
+    ghost use Rattle.flow_forms.specs.TableLaws.{put_both, take_both, both_tables};
+
+    ghost table = { A.table ++ B.table };
+
+    ghost put = { put_both A.table B.table A.put B.put };
+
+    ghost take = { take_both A.table B.table A.take B.take };
+
+    ghost tabled = { both_tables A.table B.table A.put A.take B.put B.take A.tabled B.tabled };
 }

@@ -9,4 +9,7 @@ mod set;
 
 pub use beside::Beside;
 pub use calls::{CallFrames, Called, CountFrame, FinalityFrame};
-pub use set::{Answering, App, AppFlow, AppSet, Cash, Deals, Talking};
+pub use set::{
+    Answering, App, AppFlow, AppSet, Cash, Deals, Talking, answering_means_its_table,
+    called_means_its_table, cash_means_its_table, deals_means_its_table, talking_means_its_table,
+};

@@ -9,7 +9,7 @@ use crate::words::AmountArgs;
 use flow_forms::{ByWords, Call, Fields, Frame, Goes, Machine, Numbered, Worded};
 use flow_machine::{Act, Place, Resumed};
 use flow_txs::{Code, Concludes, alone, concluded, made};
-use ledger_types::{Deed, Held, Tx};
+use ledger_types::{Deed, Held, Tx, WireTx};
 use net_base::{Boxed, Hash32, ListOf, PartFault, Reader, Spelt, Writer};
 use std::alloc::{AllocError, Global};
 
@@ -73,7 +73,7 @@ impl Exit {
         ensures { IfOk result (λ g. g ≡ exits self coins.now here.entry.now) }
     {
         let frame = Call::Finality {
-            tx: Boxed::new(alloc, redemption(alloc, &self, coins, here)?)?,
+            tx: Boxed::new(alloc, WireTx::new(redemption(alloc, &self, coins, here)?))?,
             peers: ListOf::new(alloc),
         };
         Ok(Goes::on(ExitPlace::Exiting, self, Act::Sub { frame }))

@@ -9,7 +9,7 @@ use crate::words::AmountArgs;
 use flow_forms::{ByWords, Call, Fields, Frame, Goes, Machine, Numbered, Worded};
 use flow_machine::{Act, Place, Resumed};
 use flow_txs::{Code, Concludes, alone, concluded, made};
-use ledger_types::{Deed, RefList, Tx};
+use ledger_types::{Deed, RefList, Tx, WireTx};
 use net_base::{Boxed, Hash32, ListOf, PartFault, Reader, Spelt, Writer};
 use std::alloc::{AllocError, Global};
 
@@ -61,7 +61,7 @@ impl Issue {
         ensures { IfOk result (λ g. g ≡ issues self here.entry.now) }
     {
         let frame = Call::Finality {
-            tx: Boxed::new(alloc, issuance(alloc, &self, here)?)?,
+            tx: Boxed::new(alloc, WireTx::new(issuance(alloc, &self, here)?))?,
             peers: ListOf::new(alloc),
         };
         Ok(Goes::on(IssuePlace::Issuing, self, Act::Sub { frame }))

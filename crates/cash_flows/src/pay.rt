@@ -9,7 +9,7 @@ use crate::payment::payment;
 use flow_forms::{ByWords, Call, Fields, Frame, Goes, Machine, Numbered, Then, Worded, is_peer};
 use flow_machine::{Act, Place, Resumed};
 use flow_txs::{Code, Concludes, concluded};
-use ledger_types::{Held, Window};
+use ledger_types::{Held, Window, WireTx};
 use net_base::{Boxed, Hash32, ListOf, PartFault, Party, Reader, Spelt, StateRef, Token, Writer};
 use std::alloc::{AllocError, Global};
 
@@ -90,7 +90,7 @@ impl Pay {
         ensures { IfOk result (λ g. g ≡ pays self coins.now here.entry.now) }
     {
         let frame = Call::Finality {
-            tx: Boxed::new(alloc, payment(alloc, &self, coins, here)?)?,
+            tx: Boxed::new(alloc, WireTx::new(payment(alloc, &self, coins, here)?))?,
             peers: ListOf::from_slice(alloc, &[self.to])?,
         };
         Ok(Goes::on(PayPlace::Paying, self, Act::Sub { frame }))

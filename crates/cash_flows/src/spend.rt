@@ -10,7 +10,7 @@ use flow_forms::{
 };
 use flow_machine::{Act, Place, Resumed};
 use flow_txs::{Concludes, TxId, alone, concluded, free_output, made};
-use ledger_types::{Deed, StateData, Tx, TxState};
+use ledger_types::{Deed, StateData, Tx, TxState, WireTx};
 use net_base::{Boxed, Hash32, ListOf, PartFault, Party, Reader, Spelt, StateRef, Token, Writer};
 use std::alloc::{AllocError, Global};
 
@@ -111,7 +111,7 @@ impl Spend {
         ensures { IfOk result (λ g. g ≡ spends self (Some coin) here.entry.now) }
     {
         let frame = Call::Finality {
-            tx: Boxed::new(alloc, handover(alloc, &self, coin, here)?)?,
+            tx: Boxed::new(alloc, WireTx::new(handover(alloc, &self, coin, here)?))?,
             peers: ListOf::from_slice(alloc, &[self.to])?,
         };
         Ok(Goes::on(SpendPlace::Spending, self, Act::Sub { frame }))

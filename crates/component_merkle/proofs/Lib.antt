@@ -1,2 +1,3 @@
 mod Folding
+mod Padding
 pub mod Rooted

@@ -2,7 +2,7 @@
 
 ghost use Rattle.std.specs.Prelude.{◌≡◌, ℕ, ◌+◌, ◌*◌, ◌/◌, ◌%◌, ◌<◌, ◌≤◌, ◌^◌, [], length, slice_index_or};
 ghost use Rattle.component_merkle.specs.Merkle.{root_of, group_of};
-ghost use Rattle.component_merkle.specs.Levels.{tree, pair_at};
+ghost use Rattle.component_merkle.specs.Levels.{tree, pair_at, IsPadAbove};
 
 use crate::digests::node;
 
@@ -24,8 +24,18 @@ fn fold_pairs(leaves: &mut [[u8; 32]], pad: &[u8; 32])
     }
 }
 
-/// The root of the leaves, padded by `pad` up to the next power of two. One level above, what lacks is the node over
-/// two pads. It leaves unstated bytes in the slice.
+/// The pad one level above: the node over two pads. Over a power of two of hashes no level lacks one, so there it is any pad.
+fn pad_above(pad: &[u8; 32], half: usize) -> [u8; 32]
+    ensures { IsPadAbove half pad.now result }
+{
+    if half.is_power_of_two() {
+        *pad
+    } else {
+        node(pad, pad)
+    }
+}
+
+/// The root of the leaves, padded by `pad` up to the next power of two. It leaves unstated bytes in the slice.
 fn root_padded(leaves: &mut [[u8; 32]], pad: &[u8; 32]) -> [u8; 32]
     requires { 0 < length leaves.old }
     ensures { (d : ℕ) → length leaves.old ≤ 2 ^ d → 2 ^ d < 2 * length leaves.old → result ≡ tree d pad.now leaves.old }
@@ -36,7 +46,7 @@ fn root_padded(leaves: &mut [[u8; 32]], pad: &[u8; 32]) -> [u8; 32]
     }
     fold_pairs(leaves, pad);
     let half = count / 2 + count % 2;
-    let above = node(pad, pad);
+    let above = pad_above(pad, half);
     root_padded(&mut leaves[..half], &above)
 }
 

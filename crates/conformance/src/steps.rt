@@ -4,7 +4,7 @@ use anyhow::Result;
 use contract_verify::ContractBook;
 use disk_mem::MemDisk;
 use net_base::Party;
-use network_core::{Net, Outcome, Step};
+use network_core::{Net, Outcome, Refusal, Step};
 use shipped_flows::ShippedFlow;
 use std::alloc::Global;
 
@@ -23,7 +23,9 @@ pub fn are_answered_in_order(alloc: Global, contracts: &ContractBook) -> Result<
             let all = net.apply_all(alloc, steps.as_slice(), &mut outcomes, contracts);
             let wanted = [
                 Outcome::Drained { full: false },
-                Outcome::Refused { code: 4 },
+                Outcome::Refused {
+                    why: Refusal::NodeUp,
+                },
             ];
             Ok(all && outcomes.as_slice() == wanted.as_slice())
         }

@@ -9,7 +9,7 @@ use flow_forms::{
 };
 use flow_machine::{Act, Place, Resumed};
 use flow_txs::{Concludes, alone, concluded, made, plain};
-use ledger_types::{Deed, RefList, StateData, Tx};
+use ledger_types::{Deed, RefList, StateData, Tx, WireTx};
 use net_base::{Boxed, Hash32, ListOf, PartFault, Party, Reader, Spelt, Writer};
 use std::alloc::{AllocError, Global};
 
@@ -79,7 +79,7 @@ impl Fact {
         ensures { IfOk result (λ g. g ≡ tells self here.entry.now) }
     {
         let frame = Call::Finality {
-            tx: Boxed::new(alloc, statement(alloc, &self, here)?)?,
+            tx: Boxed::new(alloc, WireTx::new(statement(alloc, &self, here)?))?,
             peers: ListOf::from_slice(alloc, &[self.to])?,
         };
         Ok(Goes::on(FactPlace::Telling, self, Act::Sub { frame }))

@@ -9,7 +9,7 @@ use flow_forms::{
 };
 use flow_machine::{Act, Place, Resumed};
 use flow_txs::{Code, Concludes, both, concluded, made, plain};
-use ledger_types::{Deed, RefList, StateData, Tx};
+use ledger_types::{Deed, RefList, StateData, Tx, WireTx};
 use net_base::{Boxed, Hash32, ListOf, PartFault, Party, Reader, Spelt, Token, Writer};
 use std::alloc::{AllocError, Global};
 
@@ -93,7 +93,7 @@ impl Iou {
         ensures { IfOk result (λ g. g ≡ borrows self here.entry.now) }
     {
         let frame = Call::Finality {
-            tx: Boxed::new(alloc, debt(alloc, &self, here)?)?,
+            tx: Boxed::new(alloc, WireTx::new(debt(alloc, &self, here)?))?,
             peers: ListOf::from_slice(alloc, &[self.lender])?,
         };
         Ok(Goes::on(IouPlace::Borrowing, self, Act::Sub { frame }))

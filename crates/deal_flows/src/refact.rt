@@ -7,7 +7,7 @@ ghost use Rattle.deal_flows.specs.RefactLaws.{is_form, begins_within};
 use flow_forms::{ByWords, Call, End, Fields, Frame, Goes, Machine, Numbered, Then, Worded};
 use flow_machine::{Act, Place, Resumed};
 use flow_txs::{Concludes, TxId, alone, concluded, free_output, made, plain};
-use ledger_types::{Deed, StateData, Tx, TxState};
+use ledger_types::{Deed, StateData, Tx, TxState, WireTx};
 use net_base::{Boxed, Hash32, ListOf, PartFault, Party, Reader, Spelt, StateRef, Writer};
 use std::alloc::{AllocError, Global};
 
@@ -98,7 +98,7 @@ impl Refact {
         ensures { IfOk result (λ g. g ≡ changes self (Some name) here.entry.now) }
     {
         let frame = Call::Finality {
-            tx: Boxed::new(alloc, change(alloc, &self, name, here)?)?,
+            tx: Boxed::new(alloc, WireTx::new(change(alloc, &self, name, here)?))?,
             peers: ListOf::new(alloc),
         };
         Ok(Goes::on(RefactPlace::Changing, self, Act::Sub { frame }))

@@ -8,7 +8,7 @@ ghost use Rattle.finality_flows.specs.AgreeLaws.{is_form, answers_within};
 
 use flow_forms::{Answers, ByInit, Fields, Frame, Goes, Machine, Numbered, copy_option};
 use flow_machine::{Act, Place, Resumed};
-use ledger_types::{StateData, Tx, TxState, Value, Verdict};
+use ledger_types::{StateData, Tx, TxState, Value, Verdict, WireTx};
 use net_base::{Boxed, Hash32, Key, ListOf, PartFault, Party, Reader, Spelt, Tag, TryCopy, Writer};
 use std::alloc::{AllocError, Global};
 
@@ -36,7 +36,7 @@ pub struct Agree {
     /// The session.
     pub key: Key,
     /// The transaction without its tags, once it came and is one to agree to.
-    pub tx: Option<Boxed<Tx>>,
+    pub tx: Option<Boxed<WireTx>>,
     /// This party's tag, once it was made.
     pub tag: Option<Tag>,
 }
@@ -73,7 +73,7 @@ fn only_lends(me: Party, tx: &Tx) -> bool
 }
 
 /// The id of a transaction that may be absent.
-fn id_of(tx: &Option<Boxed<Tx>>) -> Option<Hash32>
+fn id_of(tx: &Option<Boxed<WireTx>>) -> Option<Hash32>
     requires { IfSome tx.now IsTx }
     ensures { result ≡ option_map tx_id tx.now }
 {
@@ -91,7 +91,7 @@ impl Agree {
         Goes::on(AgreePlace::Receiving, self, act)
     }
 
-    fn judges(self, alloc: Global, tx: &Tx) -> Moved
+    fn judges(self, alloc: Global, tx: &WireTx) -> Moved
         ensures { IfOk result (λ g. g ≡ judges tx.now self) }
     {
         let tx = Boxed::new(alloc, tx.copy(alloc)?)?;

@@ -9,7 +9,7 @@ ghost use Rattle.finality_flows.specs.FinalityLaws.{kept, numbers, is_form};
 use crate::steps::Moved;
 use flow_forms::{Fields, Machine, Numbered, copy_option};
 use flow_machine::{Place, Resumed};
-use ledger_types::{SignedTx, Tx};
+use ledger_types::{SignedTx, WireTx};
 use net_base::{
     Boxed, Key, ListOf, PartFault, Party, Reader, Spelt, TryCopy, Writer, read_list, write_list,
 };
@@ -72,7 +72,11 @@ impl Finality {
     /// # Errors
     ///
     /// `AllocError` for want of memory.
-    pub fn new(alloc: Global, tx: Boxed<Tx>, peers: ListOf<Party>) -> Result<Finality, AllocError>
+    pub fn new(
+        alloc: Global,
+        tx: Boxed<WireTx>,
+        peers: ListOf<Party>,
+    ) -> Result<Finality, AllocError>
         ensures fields { IfOk result (λ f. f ≡ first tx peers) }
         ensures weight { form.called (first tx peers) ≡ call_weight (call.Finality tx peers) }
     {

@@ -31,13 +31,26 @@ fn tag_stx(alloc: Global, tag: Tag, stx: Boxed<SignedTx>) -> Result<Boxed<Signed
     Boxed::new(alloc, SignedTx { tx, tags })
 }
 
+/// The transaction with its id beside it, which all that follows asks for.
+fn with_id(alloc: Global, stx: Boxed<SignedTx>) -> Result<Boxed<SignedTx>, AllocError>
+    requires { IsTx stx.tx }
+    ensures { IfOk result (λ s. s ≡ stx) }
+{
+    let SignedTx { tx, tags } = stx.into_inner();
+    let tx = tx.with_id();
+    Boxed::new(alloc, SignedTx { tx, tags })
+}
+
 /// Where it goes.
 impl Finality {
     pub(crate) fn begins(self, alloc: Global) -> Moved
+        requires { IsTx self.stx.tx }
         ensures { IfOk result (λ g. g ≡ begins self) }
     {
-        let tx = Boxed::new(alloc, self.stx.get().tx.copy(alloc)?)?;
-        Ok(Goes::on(FinalityPlace::Verifying, self, Act::Verify { tx }))
+        let stx = with_id(alloc, self.stx)?;
+        let tx = Boxed::new(alloc, stx.get().tx.copy(alloc)?)?;
+        let fields = Finality { stx, ..self };
+        Ok(Goes::on(FinalityPlace::Verifying, fields, Act::Verify { tx }))
     }
 
     fn tagged(self, alloc: Global, tag: Tag) -> Result<Finality, AllocError>

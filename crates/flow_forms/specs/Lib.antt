@@ -14,3 +14,5 @@ pub mod Kept
 pub mod Again
 pub mod Ways
 pub mod Usual
+pub mod Tables
+pub mod TableLaws

@@ -14,6 +14,7 @@ mod flows;
 mod forms;
 mod machine;
 mod places;
+mod tables;
 mod words;
 
 pub use arguments::{Argument, Arguments, End, Then};
@@ -25,4 +26,5 @@ pub use fields::Fields;
 pub use flows::Flows;
 pub use forms::{At, Frame, Goes, Sum};
 pub use machine::{Machine, Numbered, is_peer};
+pub use tables::{Tabled, set_means_its_table};
 pub use words::begins_by_its_words;

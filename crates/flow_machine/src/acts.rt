@@ -1,7 +1,7 @@
 ghost use Rattle.std.specs.Prelude.{◌≡◌};
 ghost use Rattle.flow_machine.specs.Unnamed.{unnamed_code};
 
-use ledger_types::{HeldList, IdList, NotaryAnswer, Request, SignedTx, Tx, Value, Verdict};
+use ledger_types::{HeldList, IdList, NotaryAnswer, Request, SignedTx, Value, Verdict, WireTx};
 use net_base::{Boxed, Hash32, Key, Moment, Party, Tag, Token};
 
 /// What a live flow waits on. When the act is performed the flow's top frame is resumed with the result, once.
@@ -22,13 +22,13 @@ pub enum Act<F> {
     /// Calls a subflow, which begins with `Started`; `Refused` with 49, to the frame that asked, where the stack has 8 frames.
     Sub { frame: F },
     /// Has a transaction judged over the states that it names: `Verdict`; `Refused` with 35 where one of them cannot be had.
-    Verify { tx: Boxed<Tx> },
+    Verify { tx: Boxed<WireTx> },
     /// Soft-locks coins of the token that reach the amount: `Coins`, or `Short`.
     Reserve { token: Token, amount: u64 },
     /// Looks for a recorded transaction: `Found`, or `Absent`.
     Lookup { id: Hash32 },
     /// Asks which transactions that this one names are not recorded: `Ids`.
-    Missing { tx: Boxed<Tx> },
+    Missing { tx: Boxed<WireTx> },
     /// Has the node's party sign an id: `Tagged`; `Refused` with 46 at the notary's node.
     Sign { id: Hash32 },
     /// Has the node's book decide a request: `Answer`.

@@ -12,7 +12,7 @@ ghost use Rattle.ledger_acts.specs.Acts.{Does, IsOutcome, done_of, reserving, fi
 use crate::outcome::{LedgerOutcome, resumed};
 use flow_machine::Resumed;
 use ledger_tables::LedgerTables;
-use ledger_types::{Entry, Held, LedgerChange, NotaryAnswer, RefList, Request, Tx, Visible};
+use ledger_types::{Entry, Held, LedgerChange, NotaryAnswer, RefList, Request, Visible, WireTx};
 use net_base::{Boxed, Hash32, Identity, ListOf, Moment, Tag, Token, Unlimited, known_items};
 use notary_book::Decision;
 use signing::{KeyedDigest, Signer};
@@ -92,7 +92,7 @@ pub fn missing(
     alloc: Global,
     ledger: &LedgerTables,
     flow: u32,
-    tx: &Tx,
+    tx: &WireTx,
 ) -> Result<LedgerOutcome, AllocError>
     ensures done { IfOk result (Does ledger.now (lacking tx.now)) }
     ensures limits { IfOk result (IsOutcome flow) }

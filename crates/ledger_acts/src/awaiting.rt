@@ -15,7 +15,7 @@ ghost use Rattle.ledger_acts.specs.Jobs.{tx_job, is_open, record_job, unjudged, 
 use crate::job::Job;
 use crate::outcome::{LedgerOutcome, resumed};
 use flow_machine::{Act, Checkpoint, Resumed};
-use ledger_types::{Resolved, SignedTx, TagList, Tx, same_tags};
+use ledger_types::{Resolved, SignedTx, TagList, Tx, WireTx, same_tags};
 use net_base::{Hash32, Identity, Party, Spelt};
 use std::alloc::{AllocError, Global};
 use tx_store::{ResolveFault, Store};
@@ -38,7 +38,7 @@ fn is_other_notary(named: Option<Party>, notary: Party) -> bool
 }
 
 /// Whether a transaction is open to be recorded: its id is new, and it names no other notary.
-fn is_open(identity: &Identity, store: &Store, tx: &Tx) -> bool
+fn is_open(identity: &Identity, store: &Store, tx: &WireTx) -> bool
     requires { IsTx tx.now }
     ensures { result ≡ is_open identity.now store.now.list tx.now }
 {
@@ -46,7 +46,7 @@ fn is_open(identity: &Identity, store: &Store, tx: &Tx) -> bool
 }
 
 /// Whether recording a transaction waits for a job.
-fn records_by_job(identity: &Identity, store: &Store, tx: &Tx) -> bool
+fn records_by_job(identity: &Identity, store: &Store, tx: &WireTx) -> bool
     requires { IsTx tx.now }
     ensures { result ≡ (is_open identity.now store.now.list tx.now && is_some (resolved_of store.now.list tx.now)) }
 {
@@ -128,7 +128,7 @@ fn tx_job(
     store: &Store,
     flow: u32,
     step: u32,
-    tx: &Tx,
+    tx: &WireTx,
     tags: Option<TagList>,
 ) -> Result<Option<Job>, AllocError>
     ensures job { IfOk result (λ job. job ≡ tx_job identity.now store.now.list flow step tx.now tags) }
@@ -205,14 +205,15 @@ fn is_tx_job(
     store: &Store,
     flow: u32,
     step: u32,
-    tx: &Tx,
+    tx: &WireTx,
     tags: Option<&TagList>,
     job: &Job,
 ) -> bool
     ensures { IsTrue result ↔ (tx_job identity.now store.now.list flow step tx.now (option_copied tags.entry) ≡ Some job.now) }
 {
     (job.node == identity.party && (job.flow == flow && job.step == step))
-        && (*tx == job.tx && (same_some(tags, &job.tags) && store.resolves_to(tx, &job.resolved)))
+        && (*tx.get() == *job.tx.get()
+            && (same_some(tags, &job.tags) && store.resolves_to(tx, &job.resolved)))
 }
 
 /// Whether a job is that of recording a transaction.

@@ -10,7 +10,7 @@ ghost use Rattle.ledger_acts.specs.Jobs.{refusal_of, recorded_by, conclusion, Is
 use crate::job::{Done, Job};
 use crate::outcome::{LedgerOutcome, resumed};
 use flow_machine::Resumed;
-use ledger_types::{LedgerChange, SignedTx, TagList, Tx, Verdict};
+use ledger_types::{LedgerChange, SignedTx, TagList, Verdict, WireTx};
 use net_base::{Boxed, ListOf, PartySet};
 use std::alloc::{AllocError, Global};
 
@@ -38,7 +38,7 @@ fn refusal(verdict: Verdict, missing: PartySet) -> Option<u16>
 fn recorded(
     alloc: Global,
     flow: u32,
-    tx: Tx,
+    tx: WireTx,
     tags: TagList,
     refusal: Option<u16>,
 ) -> Result<LedgerOutcome, AllocError>

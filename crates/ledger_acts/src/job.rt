@@ -8,7 +8,7 @@ ghost use Rattle.tx_store.specs.Stored.{HasEach};
 ghost use Rattle.ledger_acts.specs.Jobs.{missing_in, IsRun};
 
 use contract_verify::Judge;
-use ledger_types::{Resolved, SignedTx, TagList, Tx, Verdict};
+use ledger_types::{Resolved, SignedTx, TagList, Verdict, WireTx};
 use net_base::{Party, PartySet};
 use signing::KeyedDigest;
 use tx_rules::missing_tags;
@@ -20,7 +20,7 @@ pub struct Job {
     pub flow: u32,
     /// The step at which the flow waits.
     pub step: u32,
-    pub tx: Tx,
+    pub tx: WireTx,
     /// Those of a transaction that is to be recorded; `None` of one that is only to be judged.
     pub tags: Option<TagList>,
     /// The states that the transaction names.
@@ -44,7 +44,7 @@ fn nobody() -> PartySet
 }
 
 /// Who has to sign a transaction and has not, nobody where no tags are asked for; and the transaction and its tags again.
-fn missing_of(tx: Tx, tags: Option<TagList>) -> (Tx, Option<TagList>, PartySet)
+fn missing_of(tx: WireTx, tags: Option<TagList>) -> (WireTx, Option<TagList>, PartySet)
     requires { IsTx tx }
     ensures tx { result.0 ≡ tx }
     ensures tags { result.1 ≡ tags }

@@ -34,8 +34,8 @@ fn are_coins(vault: &Vault, recorded: &Option<Boxed<SignedTx>>, refs: &[StateRef
     match recorded {
         None => refs.iter().all(|r| vault.is_coin(r)),
         Some(stx) => {
-            let tx = &stx.get().tx;
-            let id = tx.id();
+            let id = stx.get().tx.id();
+            let tx = stx.get().tx.get();
             refs.iter().all(|r| vault.is_coin_behind(&id, tx, r))
         }
     }

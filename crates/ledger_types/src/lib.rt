@@ -16,6 +16,7 @@ mod torn;
 mod tx;
 mod value;
 mod verdict;
+mod wire;
 
 pub use change::LedgerChange;
 pub use equality::same_tags;
@@ -31,3 +32,4 @@ pub use tx::{
 };
 pub use value::Value;
 pub use verdict::Verdict;
+pub use wire::WireTx;

@@ -7,6 +7,7 @@ ghost use Rattle.ledger_types.specs.Windows.{has_begun, is_before_end, window_ho
 ghost use Rattle.ledger_types.specs.Txs.{IsDeed, deed, deed_at, deed_laws, IsCommand, command, command_at, command_laws, IsWindow, window, window_at, window_laws, IsTx, tx, tx_at, tx_laws, IsSignedTx, signed_tx, signed_tx_at, signed_tx_laws};
 
 use crate::state::TxState;
+use crate::wire::WireTx;
 use net_base::{
     Block, Component, DecodeFault, Hash32, ListOf, Moment, PartFault, Party, PartySet, Reader,
     Spelt, StateRef, Tag, Token, TryCopy, Unlimited, Writer, decode, encode, read_ascending,
@@ -111,7 +112,7 @@ pub struct Tx {
 /// A transaction with tags, at most 16, strictly ascending by party. That they are over its id is not asked of a spelling.
 #[derive(Debug, Drop)]
 pub struct SignedTx {
-    pub tx: Tx,
+    pub tx: WireTx,
     pub tags: TagList,
 }
 

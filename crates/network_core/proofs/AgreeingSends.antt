@@ -146,5 +146,5 @@ module _ {F : Type 0} (e : Environment F) (w : World) (p : ℕ) (x : NodeWorld) 
   pub posts_coherent : (o : Option Outcome) (v : World) → PostsFrom e p w x o v → Coherent e v
   posts_coherent None v h = subst (Coherent e) (sym h.1) coherent
   posts_coherent (Some (outcome.Posted count)) v h = posted_coherent e w p x coherent there h.0 count v h
-  posts_coherent (Some (outcome.Refused code)) v h = subst (Coherent e) (sym h.2) coherent
+  posts_coherent (Some (outcome.Refused why)) v h = subst (Coherent e) (sym h.2) coherent
   posts_coherent (Some other) v h = absurd h

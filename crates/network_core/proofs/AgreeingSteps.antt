@@ -153,7 +153,7 @@ module _ {F : Type 0} (e : Environment F) (w : World) (p : ℕ) (x y : NodeWorld
     starts_coherent class args (Some outcome.Fault) h =
         let ev = event.Start (length (state_of e.frame_at x.journal).flows) class args in
         faults_coherent ev None (no_item ev None refl) (λ body pends. none_senders ev body pends) h
-    starts_coherent class args (Some (outcome.Refused code)) h = same_coherent h.1
+    starts_coherent class args (Some (outcome.Refused why)) h = same_coherent h.1
     starts_coherent class args (Some other) h = absurd h
 
     pub turns_coherent : (pick : Option ℕ) (o : Option Outcome) → WorldTurns e p w.now pick x o y → Coherent e (record { nodes = slice_set w.nodes p y; now = w.now })
@@ -161,7 +161,7 @@ module _ {F : Type 0} (e : Environment F) (w : World) (p : ℕ) (x y : NodeWorld
     turns_coherent pick (Some outcome.Idle) h = same_coherent h.2
     turns_coherent pick (Some (outcome.Moved f)) h = commits_coherent h.0 None (no_item h.0 None refl) (λ body pends. none_senders h.0 body pends) h.3
     turns_coherent pick (Some outcome.Fault) h = faults_coherent h.0 None (no_item h.0 None refl) (λ body pends. none_senders h.0 body pends) h.2
-    turns_coherent pick (Some (outcome.Refused code)) h = same_coherent h.1
+    turns_coherent pick (Some (outcome.Refused why)) h = same_coherent h.1
     turns_coherent pick (Some other) h = absurd h
 
     pub cuts_coherent : (calls : ℕ) (o : Option Outcome) → WorldCuts calls x o y → Coherent e (record { nodes = slice_set w.nodes p y; now = w.now })
@@ -171,14 +171,14 @@ module _ {F : Type 0} (e : Environment F) (w : World) (p : ℕ) (x y : NodeWorld
         let other : y.other ≡ x.other = ap (λ (z : NodeWorld). z.other) h.3 in
         down_coherent (ap (λ (z : NodeWorld). z.up) h.3) (λ l may. (l, ⊎_elim (λ is. inl (is ∙ journal)) (λ is. inr (sym other ∙ is)) may, inl refl)) (ap (λ (z : NodeWorld). z.waiting) h.3)
     cuts_coherent calls (Some outcome.Armed) h = stays_coherent (ap (λ (z : NodeWorld). z.up) h.3) (ap (λ (z : NodeWorld). z.journal) h.3) (ap (λ (z : NodeWorld). z.other) h.3) (ap (λ (z : NodeWorld). z.acked) h.3) (λ P all. same_frames P x.waiting y.waiting (ap (λ (z : NodeWorld). z.waiting) h.3) all)
-    cuts_coherent calls (Some (outcome.Refused code)) h = same_coherent h.1
+    cuts_coherent calls (Some (outcome.Refused why)) h = same_coherent h.1
     cuts_coherent calls (Some other) h = absurd h
 
     pub boots_coherent : (o : Option Outcome) → WorldBoots e x o y → Coherent e (record { nodes = slice_set w.nodes p y; now = w.now })
     boots_coherent None h = stays_down_coherent h.0
     boots_coherent (Some outcome.Booted) h = comes_up_coherent h
     boots_coherent (Some outcome.Fault) h = stays_down_coherent h.0
-    boots_coherent (Some (outcome.Refused code)) h = ⊎_elim (λ up. same_coherent up.2) (λ down. stays_down_coherent down.2) h
+    boots_coherent (Some (outcome.Refused why)) h = ⊎_elim (λ up. same_coherent up.2) (λ down. stays_down_coherent down.2) h
     boots_coherent (Some other) h = absurd h
 
     -- without one of them all is still said of each frame
@@ -190,7 +190,7 @@ module _ {F : Type 0} (e : Environment F) (w : World) (p : ℕ) (x y : NodeWorld
     loses_coherent i (Some outcome.Lost) h =
         stays_coherent (ap (λ (z : NodeWorld). z.up) h.1) (ap (λ (z : NodeWorld). z.journal) h.1) (ap (λ (z : NodeWorld). z.other) h.1) (ap (λ (z : NodeWorld). z.acked) h.1)
         (λ P all. same_frames P (without i x.waiting) y.waiting (ap (λ (z : NodeWorld). z.waiting) h.1) (all_without P i x.waiting all))
-    loses_coherent i (Some (outcome.Refused code)) h = same_coherent h.2
+    loses_coherent i (Some (outcome.Refused why)) h = same_coherent h.2
     loses_coherent i (Some other) h = absurd h
 
 -- a step at a place

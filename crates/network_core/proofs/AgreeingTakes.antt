@@ -83,7 +83,7 @@ module _ {F : Type 0} (e : Environment F) (w : World) (p i : ℕ) (x : NodeWorld
         let send = senders e w p x coherent there up i bytes waits from key direction number stamp body judges further y in
         let known = faults_coherent e w p x y coherent there (accepting ss key direction number) (Some (record { body = body; stamp = stamp })) fit (λ more pends. send) h.0 in
         in_silence y b frames h.1 known
-    next_coherent from key direction number stamp body judges further (outcome.Refused code) h = quietly h.2 h.3
+    next_coherent from key direction number stamp body judges further (outcome.Refused why) h = quietly h.2 h.3
     next_coherent from key direction number stamp body judges further other h = absurd h
 
     hears_coherent : (said : Judged) → IsJudged (identity e p) ss bytes said → GoesFurther (identity e p) ss said → (o : Outcome) → Hears e p w.now said x o y frames → Stays

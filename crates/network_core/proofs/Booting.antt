@@ -19,6 +19,7 @@ use Rattle.node_tables.specs.Journals.{Reads, state_of}
 use Rattle.node_tables.specs.Seen.{padded}
 use Rattle.node_core.specs.Disks.{Moves, KeepsForm}
 use Rattle.node_core.specs.Seen.{NodeSeen, BootsAs, Booted, Unbooted, Unopened, Unfit, GaveUp, IsBy, acks_over}
+use Rattle.network_core.specs.declared.refusal.Refusal.TheVariants as refusal
 use Rattle.network_core.specs.declared.steps.Outcome.{Outcome}
 use Rattle.network_core.specs.declared.steps.Outcome.TheVariants as outcome
 use Rattle.network_core.specs.Worlds.{NodeWorld, World, NetSeen, MaySpell, ShowsJournal, NodeShows, NodeCoherent, Shows, Coherent, KeepsWorld}
@@ -208,7 +209,7 @@ module _ {F : Type 0} (e : Environment F) (p : ℕ) (n mid k : NodeSeen) (x : No
       let to = unbooted why none acked id u in
       (to.0, to.1, to.2, (stays_down to.0 to.2 to.3 u.calm, kept_as why u other to.0 to.3))
 
-  foreign : (why : BootFault) → (GaveUp why → ⊥) → (why ≡ boot_fault.Fault → ⊥) → k.journal ≡ None → k.acked ≡ [] → k.identity ≡ mid.identity → Unbooted e.frame_at mid.identity mid.disk why k.disk → Goes e p x k (λ y. WorldBoots e x (Some (outcome.Refused 13)) y)
+  foreign : (why : BootFault) → (GaveUp why → ⊥) → (why ≡ boot_fault.Fault → ⊥) → k.journal ≡ None → k.acked ≡ [] → k.identity ≡ mid.identity → Unbooted e.frame_at mid.identity mid.disk why k.disk → Goes e p x k (λ y. WorldBoots e x (Some (outcome.Refused refusal.Journal)) y)
   foreign why never other none acked id u =
       let to = refused why other none acked id u in
       (to.0, to.1, to.2, inr (refl, false_from_ne_true x.openable (λ on. never (gives_up e p mid k z shows_mid restored.journal fit why u on)), to.3.0, to.3.1))

@@ -13,7 +13,7 @@ use Rattle.node_tables.specs.Journals.{state_of}
 use Rattle.node_core.specs.declared.faults.TakeFault.TheVariants as take_fault
 use Rattle.node_core.specs.Seen.{NodeSeen}
 use Rattle.node_core.specs.Takes.{TakeAnswers, unacked_at}
-use Rattle.network_core.specs.declared.serving.Reply.{Reply}
+use Rattle.network_core.specs.declared.serving.Delivery.{Delivery}
 use Rattle.network_core.specs.declared.steps.Outcome.{Outcome}
 use Rattle.network_core.specs.declared.steps.Outcome.TheVariants as outcome
 use Rattle.network_core.specs.Worlds.{NodeWorld, World, NetSeen, ShowsJournal, NodeShows, Shows, Coherent, KeepsWorld}
@@ -81,7 +81,7 @@ module _ {F : Type 0} (m : Meaning F) (id : Identity) (p : ℕ) (old new : NetSe
         let goes : WorldPosts e p w (Some (outcome.Posted count)) v = inr (x, there, (stands.0, counted, refl, lawful)) in
         let now_is : new ≡ record { nodes = old.nodes; waiting = mailed os old.waiting; now = old.now } = same ∙ ap (λ l. record { nodes = old.nodes; waiting = mailed l old.waiting; now = old.now }) all in
         (v, subst (λ (z : NetSeen). Shows e z v) (sym now_is) (mail_shows e os old w shows), post_coherent e p w v (Some (outcome.Posted count)) coherent goes, goes)
-    post_any (Some (outcome.Refused code)) s = post_stays (Some (outcome.Refused code)) s.2 (s.0, down_of n.journal x s.1 shown.journal, refl)
+    post_any (Some (outcome.Refused why)) s = post_stays (Some (outcome.Refused why)) s.2 (s.0, down_of n.journal x s.1 shown.journal, refl)
     post_any (Some _) s = absurd s
 
 pub post_world : {F E : Type 0} (m : Meaning F) (p : ℕ) (old new : NetSeen) (result : Result Outcome E) → PostServes m.frame_at p old result new → KeepsWorld m old new (λ e w v. WorldPosts e p w (said result) v)
@@ -195,7 +195,7 @@ module _ {F : Type 0} (m : Meaning F) (repeated : Bool) (place at : ℕ) (old ne
       )
 
   -- memory ran out as the node took it
-  pub handed_err : {E G : Type 0} (r : Result Outcome E) (a : Result Reply G) (x : G) (bytes : List ℕ) (k : NodeSeen) → IsErr r → a ≡ Err x → slice_get frames at ≡ Some bytes → TakeServes m old.now bytes n a k
+  pub handed_err : {E G : Type 0} (r : Result Outcome E) (a : Result Delivery G) (x : G) (bytes : List ℕ) (k : NodeSeen) → IsErr r → a ≡ Err x → slice_get frames at ≡ Some bytes → TakeServes m old.now bytes n a k
       → new.nodes ≡ slice_set old.nodes place k → new.waiting ≡ old.waiting → new.now ≡ old.now → HandServes m repeated place at old r new
   handed_err (Ok o) a x bytes k err was found serves nodes waiting now = cc
   handed_err (Err y) a x bytes k err was found (answer, takes, reached_is, sent_is, counted) nodes waiting now =
@@ -222,9 +222,9 @@ module _ {F : Type 0} (m : Meaning F) (repeated : Bool) (place at : ℕ) (old ne
       )
 
   -- the node took it
-  pub handed_done : (E : Type 0) {G : Type 0} (a : Result Reply G) (reply : Reply) (bytes : List ℕ) (k : NodeSeen) (b : Bool) → a ≡ Ok reply → slice_get frames at ≡ Some bytes → TakeServes m old.now bytes n a k → b ≡ waits_on repeated (Some reply.outcome)
-      → new.nodes ≡ slice_set old.nodes place k → new.waiting ≡ mailed (option_to_list reply.ack) (parted b place at frames old.waiting) → new.now ≡ old.now → HandServes {E = E} m repeated place at old (Ok reply.outcome) new
-  handed_done E a reply bytes k b was found (answer, takes, reached_is, sent_is, counted) is nodes waiting now =
+  pub handed_done : (E : Type 0) {G : Type 0} (a : Result Delivery G) (delivery : Delivery) (bytes : List ℕ) (k : NodeSeen) (b : Bool) → a ≡ Ok delivery → slice_get frames at ≡ Some bytes → TakeServes m old.now bytes n a k → b ≡ waits_on repeated (Some delivery.outcome)
+      → new.nodes ≡ slice_set old.nodes place k → new.waiting ≡ mailed (option_to_list delivery.ack) (parted b place at frames old.waiting) → new.now ≡ old.now → HandServes {E = E} m repeated place at old (Ok delivery.outcome) new
+  handed_done E a delivery bytes k b was found (answer, takes, reached_is, sent_is, counted) is nodes waiting now =
       inr (
         n,
         frames,

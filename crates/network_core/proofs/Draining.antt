@@ -1,9 +1,10 @@
 -- Turns, posts and deliveries at places, rounds and drains, put together.
-use Rattle.std.proofs.lemmas.Bool.{eqb-true, eqb-false}
-use Rattle.std.proofs.Common.{◌≡◌, ◌⊎◌, ◌==◌, if◌then◌else◌, inl, inr, ℕ, zero, suc, ◌+◌, ◌<◌, Bool, true, false, ◌||◌, Option, Some, None, Result, Ok, Err, IsErr, refl, sym, ◌∙◌, ap, subst, arith}
+use Rattle.std.proofs.Common.{◌≡◌, ◌⊎◌, inl, inr, ℕ, zero, suc, ◌+◌, ◌<◌, Bool, true, false, ◌||◌, Option, Some, None, Result, Ok, Err, IsErr, refl, sym, ◌∙◌, ap, subst, arith}
 use Rattle.network_core.specs.declared.net.Turning.{Turning}
 use Rattle.network_core.specs.declared.net.Turning.TheVariants as turning
 use Rattle.network_core.specs.declared.net.Hearing.TheVariants as heard_as
+use Rattle.network_core.specs.declared.refusal.Refusal.{Refusal}
+use Rattle.network_core.specs.declared.refusal.Refusal.TheVariants as refusal
 use Rattle.network_core.specs.declared.steps.Outcome.{Outcome}
 use Rattle.network_core.specs.declared.steps.Outcome.TheVariants as outcome
 use Rattle.network_core.specs.Rounds.{DrainSteps, Moves, IsLastTurn, TurnsAt, StopsAt, InOrder, PostsAt, Hands, IsTaken, committed, DeliversAt, HandStops, Round, TurnsStop, PostsStop, HandsStop, RoundStops, Rounds, IsDrained, DrainStops, Turns, turned, heard, joined}
@@ -12,8 +13,8 @@ use Rattle.network_core.specs.Rounds.{DrainSteps, Moves, IsLastTurn, TurnsAt, St
 pub record DrainLaws {W : Type 0} (s : DrainSteps W) : Type 0 where
   pub turn_count : (p : ℕ) (w v : W) (o : Option Outcome) → s.turn p w o v → s.count v ≡ s.count w
   pub post_count : (p : ℕ) (w v : W) (o : Option Outcome) → s.post p w o v → s.count v ≡ s.count w
-  pub turn_last : (p : ℕ) (o : Outcome) (w v : W) → p < s.count w → ((g : ℕ) → o ≡ outcome.Moved g → ⊥) → (o ≡ outcome.Refused 9 → ⊥) → s.turn p w (Some o) v → IsLastTurn o
-  pub hand_over : (p d code : ℕ) (w u v : W) (o : Outcome) → p < s.count u → o ≡ outcome.Refused code → (code ≡ 9 → ⊥) → s.hand p u (Some o) v → s.ends p d w u v
+  pub turn_last : (p : ℕ) (o : Outcome) (w v : W) → p < s.count w → ((g : ℕ) → o ≡ outcome.Moved g → ⊥) → (o ≡ outcome.Refused refusal.Full → ⊥) → s.turn p w (Some o) v → IsLastTurn o
+  pub hand_over : (p d : ℕ) (why : Refusal) (w u v : W) (o : Outcome) → p < s.count u → o ≡ outcome.Refused why → (why ≡ refusal.Full → ⊥) → s.hand p u (Some o) v → s.ends p d w u v
 
 -- as a flag says: with true so many that are not 0, with false none
 abbrev pub Counts : {W : Type 0} → Bool → (ℕ → W → W → Type 0) → W → W → Type 0
@@ -40,7 +41,7 @@ module _ {W E : Type 0} (made : ℕ → W → W → Type 0) (stops : Option Outc
   pub turns_err : (x : E) → r ≡ Err x → Turns r made stops w v → stops None w v
   turns_err x is h = subst (λ (z : Result Turning E). Turns z made stops w v) is h
 
-  pub turns_full : (t : Turning) → r ≡ Ok t → t ≡ turning.Full → Turns r made stops w v → stops (Some (outcome.Refused 9)) w v
+  pub turns_full : (t : Turning) → r ≡ Ok t → t ≡ turning.Full → Turns r made stops w v → stops (Some (outcome.Refused refusal.Full)) w v
   turns_full t is full h = subst (λ (z : Result Turning E). Turns z made stops w v) (is ∙ ap Ok full) h
 
   pub turns_moved : (t : Turning) → r ≡ Ok t → t ≡ turning.Moved → Turns r made stops w v → Counts true made w v
@@ -110,7 +111,7 @@ module _ {W : Type 0} (s : DrainSteps W) where
   hands_took p d g moved w u v o is before hand =
       let one : suc d ≡ d + 1 = omega arith in
       let count : committed o ≡ 1 = ap committed is in
-      let taken : IsTaken o = λ code k. cc in
+      let taken : IsTaken o = λ why k. cc in
       subst (λ (n : ℕ). HandsSo p n true w v) one (by moved count taken before)
     where
       by : (b : Bool) → committed o ≡ 1 → IsTaken o → HandsSo p d b w u → HandsSo p (suc d) true w v
@@ -165,14 +166,14 @@ module _ {W : Type 0} (s : DrainSteps W) where
 
 module _ {W : Type 0} (s : DrainSteps W) (laws : DrainLaws s) where
   -- no flow can go on at a place, or its node is down
-  pub ends_at : (p : ℕ) (moved : Bool) (o : Outcome) (w u v : W) → p < s.count u → ((g : ℕ) → o ≡ outcome.Moved g → ⊥) → (o ≡ outcome.Refused 9 → ⊥) → Counts moved (Moves s p) w u → s.turn p u (Some o) v → Counts moved (TurnsAt s p) w v
+  pub ends_at : (p : ℕ) (moved : Bool) (o : Outcome) (w u v : W) → p < s.count u → ((g : ℕ) → o ≡ outcome.Moved g → ⊥) → (o ≡ outcome.Refused refusal.Full → ⊥) → Counts moved (Moves s p) w u → s.turn p u (Some o) v → Counts moved (TurnsAt s p) w v
   ends_at p true o w u v lt moved full h turn = (h.0, (u, o, h.1, turn, laws.turn_last p o u v lt moved full turn))
   ends_at p false o w u v lt moved full h turn = (u, o, h, turn, laws.turn_last p o u v lt moved full turn)
 
   -- no frame waits at a place, or its node is down
-  pub hands_over : (p d code : ℕ) (moved : Bool) (w u v : W) (o : Outcome) → p < s.count u → o ≡ outcome.Refused code → (code ≡ 9 → ⊥) → Counts moved (Hands s p d) w u → s.hand p u (Some o) v → Counts moved (DeliversAt s p) w v
-  hands_over p d code true w u v o lt is full h hand = (h.0, (d, u, h.1, laws.hand_over p d code w u v o lt is full hand))
-  hands_over p d code false w u v o lt is full h hand = (d, u, h, laws.hand_over p d code w u v o lt is full hand)
+  pub hands_over : (p d : ℕ) (why : Refusal) (moved : Bool) (w u v : W) (o : Outcome) → p < s.count u → o ≡ outcome.Refused why → (why ≡ refusal.Full → ⊥) → Counts moved (Hands s p d) w u → s.hand p u (Some o) v → Counts moved (DeliversAt s p) w v
+  hands_over p d why true w u v o lt is full h hand = (h.0, (d, u, h.1, laws.hand_over p d why w u v o lt is full hand))
+  hands_over p d why false w u v o lt is full h hand = (d, u, h, laws.hand_over p d why w u v o lt is full hand)
 
   -- turns and posts leave the number of nodes as it is
   moves_count : (p n : ℕ) (w v : W) → Moves s p n w v → s.count v ≡ s.count w
@@ -213,24 +214,16 @@ module _ {W : Type 0} (s : DrainSteps W) (laws : DrainLaws s) where
 
 -- ---- by what a turn or a delivery came to
 
-turned_code : (code : ℕ) (b : Bool) → (code == 9) ≡ b → (if b then turning.Full else turning.Quiet) ≡ turning.Full → code ≡ 9
-turned_code code true is h = eqb-true code 9 is
-turned_code code false is h = cc
-
-turned_moved : {o : Outcome} (b : Bool) → (if b then turning.Full else turning.Quiet) ≡ turning.Moved → (g : ℕ) × (o ≡ outcome.Moved g)
-turned_moved true h = cc
-turned_moved false h = cc
-
-pub was_full : (o : Outcome) → turned o ≡ turning.Full → o ≡ outcome.Refused 9
-was_full (outcome.Refused code) h = ap outcome.Refused (turned_code code (code == 9) refl h)
+pub was_full : (o : Outcome) → turned o ≡ turning.Full → o ≡ outcome.Refused refusal.Full
+was_full (outcome.Refused refusal.Full) h = refl
 was_full _ h = cc
 
-pub not_full : (o : Outcome) (t : Turning) → t ≡ turned o → (t ≡ turning.Full → ⊥) → o ≡ outcome.Refused 9 → ⊥
+pub not_full : (o : Outcome) (t : Turning) → t ≡ turned o → (t ≡ turning.Full → ⊥) → o ≡ outcome.Refused refusal.Full → ⊥
 not_full o t is other h = other (is ∙ ap turned h)
 
 pub was_moved : (o : Outcome) → turned o ≡ turning.Moved → (g : ℕ) × (o ≡ outcome.Moved g)
 was_moved (outcome.Moved g) h = (g, refl)
-was_moved (outcome.Refused code) h = turned_moved (code == 9) h
+was_moved (outcome.Refused refusal.Full) h = cc
 was_moved _ h = cc
 
 pub quiet_is_no_move : (t : Turning) → t ≡ turning.Quiet → t ≡ turning.Moved → ⊥
@@ -242,39 +235,25 @@ quiet_is_no_full t a b = cc
 pub not_moved : (o : Outcome) → turned o ≡ turning.Quiet → (g : ℕ) → o ≡ outcome.Moved g → ⊥
 not_moved o h g is = quiet_is_no_move (turned o) h (ap turned is)
 
-heard_code : (code : ℕ) (b : Bool) → (code == 9) ≡ b → (if b then heard_as.Full else heard_as.Over) ≡ heard_as.Full → code ≡ 9
-heard_code code true is h = eqb-true code 9 is
-heard_code code false is h = cc
-
-heard_other : (code : ℕ) (b : Bool) → (code == 9) ≡ b → (if b then heard_as.Full else heard_as.Over) ≡ heard_as.Over → code ≡ 9 → ⊥
-heard_other code true is h nine = cc
-heard_other code false is h nine = eqb-false code 9 is nine
-
-heard_no_took : {P : Type 0} (b : Bool) → (if b then heard_as.Full else heard_as.Over) ≡ heard_as.Took → P
-heard_no_took true h = absurd cc
-heard_no_took false h = absurd cc
-
-heard_no_note : {P : Type 0} (b : Bool) → (if b then heard_as.Full else heard_as.Over) ≡ heard_as.Noted → P
-heard_no_note true h = absurd cc
-heard_no_note false h = absurd cc
-
-pub heard_full : (o : Outcome) → heard o ≡ heard_as.Full → o ≡ outcome.Refused 9
-heard_full (outcome.Refused code) h = ap outcome.Refused (heard_code code (code == 9) refl h)
+pub heard_full : (o : Outcome) → heard o ≡ heard_as.Full → o ≡ outcome.Refused refusal.Full
+heard_full (outcome.Refused refusal.Full) h = refl
 heard_full _ h = cc
 
-pub heard_over : (o : Outcome) → heard o ≡ heard_as.Over → (code : ℕ) × (o ≡ outcome.Refused code) × (code ≡ 9 → ⊥)
-heard_over (outcome.Refused code) h = (code, refl, heard_other code (code == 9) refl h)
+pub heard_over : (o : Outcome) → heard o ≡ heard_as.Over → (why : Refusal) × (o ≡ outcome.Refused why) × (why ≡ refusal.Full → ⊥)
+heard_over (outcome.Refused refusal.Full) h = cc
+heard_over (outcome.Refused why) h = (why, refl, λ full. let was : heard (outcome.Refused why) ≡ heard_as.Full = ap (λ a. heard (outcome.Refused a)) full in cc)
 heard_over _ h = cc
 
 pub heard_took : (o : Outcome) → heard o ≡ heard_as.Took → (g : ℕ) × (o ≡ outcome.Took g)
 heard_took (outcome.Took g) h = (g, refl)
-heard_took (outcome.Refused code) h = heard_no_took (code == 9) h
+heard_took (outcome.Refused refusal.Full) h = cc
 heard_took _ h = cc
 
 pub heard_noted : (o : Outcome) → heard o ≡ heard_as.Noted → IsTaken o × (committed o ≡ 0)
 heard_noted (outcome.Took g) h = cc
-heard_noted (outcome.Refused code) h = heard_no_note (code == 9) h
-heard_noted _ h = (λ code is. cc, refl)
+heard_noted (outcome.Refused refusal.Full) h = cc
+heard_noted (outcome.Refused other) h = cc
+heard_noted other h = (λ why is. cc, refl)
 
 -- where turns and then deliveries moved, one of the two did
 pub joined_moved : (turns deliveries : Turning) → joined turns deliveries ≡ turning.Moved → (turns ≡ turning.Moved) ⊎ (deliveries ≡ turning.Moved)
@@ -290,10 +269,10 @@ module _ {W : Type 0} (s : DrainSteps W) (laws : DrainLaws s) (E : Type 0) where
   round_made turning.Full deliveries w u t v other h posts g = absurd (other refl)
   round_made turning.Moved turning.Quiet w u t v other h posts g = round_of s laws true false w u t v h posts g
   round_made turning.Moved turning.Moved w u t v other h posts g = round_of s laws true true w u t v h posts g
-  round_made turning.Moved turning.Full w u t v other h posts g = round_stops_hands s laws (Some (outcome.Refused 9)) true w u t v h posts g
+  round_made turning.Moved turning.Full w u t v other h posts g = round_stops_hands s laws (Some (outcome.Refused refusal.Full)) true w u t v h posts g
   round_made turning.Quiet turning.Quiet w u t v other h posts g = round_of s laws false false w u t v h posts g
   round_made turning.Quiet turning.Moved w u t v other h posts g = round_of s laws false true w u t v h posts g
-  round_made turning.Quiet turning.Full w u t v other h posts g = round_stops_hands s laws (Some (outcome.Refused 9)) false w u t v h posts g
+  round_made turning.Quiet turning.Full w u t v other h posts g = round_stops_hands s laws (Some (outcome.Refused refusal.Full)) false w u t v h posts g
 
   -- memory ran out at a post
   pub round_short_post : (turns : Turning) (w u v : W) → (turns ≡ turning.Full → ⊥) → Turns {E = E} (Ok turns) (InOrder (TurnsAt s) (s.count w)) (TurnsStop s) w u → PostsStop s None u v → RoundStops s None w v

@@ -13,6 +13,8 @@ use Rattle.node_core.specs.declared.faults.Taken.{Taken}
 use Rattle.node_core.specs.declared.faults.Taken.TheVariants as taken
 use Rattle.node_core.specs.declared.faults.TakeFault.{TakeFault}
 use Rattle.node_core.specs.declared.faults.TakeFault.TheVariants as take_fault
+use Rattle.network_core.specs.declared.refusal.Refusal.{Refusal}
+use Rattle.network_core.specs.declared.refusal.Refusal.TheVariants as refusal
 use Rattle.network_core.specs.declared.steps.Outcome.{Outcome}
 use Rattle.network_core.specs.declared.steps.Outcome.TheVariants as outcome
 use Rattle.network_core.specs.Answers.{said, turn_outcome, take_outcome, AtPlace, TurnServes, Posting, PostServes, Handing, HandServes, answer_of, NetTurn, NetPost, NetHand, net_steps}
@@ -28,14 +30,14 @@ use Rattle.network_core.proofs.QuietingSteps.{post_grows}
 -- ---- the steps of a drain of a world
 
 module _ {F : Type 0} (e : Environment F) where
-  last_of : (p now : ℕ) (x y : NodeWorld) (o : Outcome) → ((g : ℕ) → o ≡ outcome.Moved g → ⊥) → (o ≡ outcome.Refused 9 → ⊥) → WorldTurns e p now None x (Some o) y → IsLastTurn o
+  last_of : (p now : ℕ) (x y : NodeWorld) (o : Outcome) → ((g : ℕ) → o ≡ outcome.Moved g → ⊥) → (o ≡ outcome.Refused refusal.Full → ⊥) → WorldTurns e p now None x (Some o) y → IsLastTurn o
   last_of p now x y outcome.Idle moved full h = inl refl
   last_of p now x y (outcome.Moved g) moved full h = absurd (moved g refl)
   last_of p now x y outcome.Fault moved full h = inr (inl refl)
-  last_of p now x y (outcome.Refused code) moved full h = ⊎_elim (λ s. inr (inr (ap outcome.Refused s.0))) (λ s. absurd (full (ap outcome.Refused s.0))) h.0
+  last_of p now x y (outcome.Refused why) moved full h = ⊎_elim (λ s. inr (inr (ap outcome.Refused s.0))) (λ s. absurd (full (ap outcome.Refused s.0))) h.0
   last_of p now x y other moved full h = absurd h
 
-  is_last : (p : ℕ) (o : Outcome) (w v : World) → p < length w.nodes → ((g : ℕ) → o ≡ outcome.Moved g → ⊥) → (o ≡ outcome.Refused 9 → ⊥) → TurnAt e p w (Some o) v → IsLastTurn o
+  is_last : (p : ℕ) (o : Outcome) (w v : World) → p < length w.nodes → ((g : ℕ) → o ≡ outcome.Moved g → ⊥) → (o ≡ outcome.Refused refusal.Full → ⊥) → TurnAt e p w (Some o) v → IsLastTurn o
   is_last p o w v lt moved full (inl (past, is, same)) = absurd (omega (arith, lt, past))
   is_last p o w v lt moved full (inr (x, y, at, is, turn)) = last_of p w.now x y o moved full turn
 
@@ -48,7 +50,7 @@ module _ {F : Type 0} (e : Environment F) where
     turn_count = turn_count;
     post_count = λ p w v o post. (post_grows e p w v o post).grown.count;
     turn_last = is_last;
-    hand_over = λ p d code w u v o lt is full hand. (o, hand, hands_over_at e p code u v o lt is full hand);
+    hand_over = λ p d why w u v o lt is full hand. (o, hand, hands_over_at e p why u v o lt is full hand);
   }
 
 -- ---- those of a network, over any disks
@@ -82,7 +84,7 @@ pub same_count : {E : Type 0} (p : ℕ) (old new : NetSeen) (result : Result Out
 same_count p old new result serves (inl (past, is, same)) = ap (λ z. length z.nodes) same
 same_count p old new result serves (inr (n, k, at, nodes, waiting, served)) = ap length nodes ∙ set_length old.nodes p k
 
-turn_says : (answer : Result Turned TurnFault) (o : Outcome) → ((g : ℕ) → o ≡ outcome.Moved g → ⊥) → (o ≡ outcome.Refused 9 → ⊥) → Some o ≡ turn_outcome answer → IsLastTurn o
+turn_says : (answer : Result Turned TurnFault) (o : Outcome) → ((g : ℕ) → o ≡ outcome.Moved g → ⊥) → (o ≡ outcome.Refused refusal.Full → ⊥) → Some o ≡ turn_outcome answer → IsLastTurn o
 turn_says (Ok turned.Idle) o moved full so = inl cc
 turn_says (Ok (turned.Moved g)) o moved full so = absurd (moved g cc)
 turn_says (Err turn_fault.NodeDown) o moved full so = inr (inr cc)
@@ -90,24 +92,24 @@ turn_says (Err turn_fault.Full) o moved full so = absurd (full cc)
 turn_says (Err turn_fault.Memory) o moved full so = absurd cc
 turn_says (Err turn_fault.Fault) o moved full so = inr (inl cc)
 
-take_says : (answer : Result Taken TakeFault) (o : Outcome) (code : ℕ) → o ≡ outcome.Refused code → (code ≡ 9 → ⊥) → Some o ≡ take_outcome answer → (o ≡ outcome.Refused 7) ⊎ (o ≡ outcome.Refused 3)
-take_says (Ok taken.Acked) o code is full so = absurd cc
-take_says (Ok (taken.Again expected ack)) o code is full so = absurd cc
-take_says (Ok (taken.Early expected)) o code is full so = absurd cc
-take_says (Ok taken.NoSession) o code is full so = absurd cc
-take_says (Ok (taken.Took upto ack)) o code is full so = absurd cc
-take_says (Err take_fault.NodeDown) o code is full so = inr cc
-take_says (Err take_fault.Garbled) o code is full so = absurd cc
-take_says (Err (take_fault.NotMine to)) o code is full so = absurd cc
-take_says (Err take_fault.Full) o code is full so = absurd (full cc)
-take_says (Err take_fault.Memory) o code is full so = absurd cc
-take_says (Err take_fault.Fault) o code is full so = absurd cc
+take_says : (answer : Result Taken TakeFault) (o : Outcome) (why : Refusal) → o ≡ outcome.Refused why → (why ≡ refusal.Full → ⊥) → Some o ≡ take_outcome answer → (o ≡ outcome.Refused refusal.NoFrame) ⊎ (o ≡ outcome.Refused refusal.NodeDown)
+take_says (Ok taken.Acked) o why is full so = absurd cc
+take_says (Ok (taken.Again expected ack)) o why is full so = absurd cc
+take_says (Ok (taken.Early expected)) o why is full so = absurd cc
+take_says (Ok taken.NoSession) o why is full so = absurd cc
+take_says (Ok (taken.Took upto ack)) o why is full so = absurd cc
+take_says (Err take_fault.NodeDown) o why is full so = inr cc
+take_says (Err take_fault.Garbled) o why is full so = absurd cc
+take_says (Err (take_fault.NotMine to)) o why is full so = absurd cc
+take_says (Err take_fault.Full) o why is full so = absurd (full cc)
+take_says (Err take_fault.Memory) o why is full so = absurd cc
+take_says (Err take_fault.Fault) o why is full so = absurd cc
 
 module _ {F : Type 0} (m : Meaning F) where
   post_same : (n : NodeSeen) (old new : NetSeen) (o : Option Outcome) → Posting m.frame_at n old o new → (new.nodes ≡ old.nodes) × (new.now ≡ old.now)
   post_same n old new None s = (ap (λ z. z.nodes) s.1, ap (λ z. z.now) s.1)
   post_same n old new (Some (outcome.Posted count)) s = (ap (λ z. z.nodes) s.4, ap (λ z. z.now) s.4)
-  post_same n old new (Some (outcome.Refused code)) s = (ap (λ z. z.nodes) s.2, ap (λ z. z.now) s.2)
+  post_same n old new (Some (outcome.Refused why)) s = (ap (λ z. z.nodes) s.2, ap (λ z. z.now) s.2)
   post_same n old new (Some _) s = absurd s
 
   -- a post changes no node, and no moment
@@ -115,22 +117,22 @@ module _ {F : Type 0} (m : Meaning F) where
   post_keeps p old new result (inl (past, is, same)) = (ap (λ z. z.nodes) same, ap (λ z. z.now) same)
   post_keeps p old new result (inr (n, at, posting)) = post_same n old new (said result) posting
 
-  net_last : (p : ℕ) (o : Outcome) (w v : NetSeen) → p < length w.nodes → ((g : ℕ) → o ≡ outcome.Moved g → ⊥) → (o ≡ outcome.Refused 9 → ⊥) → NetTurn m p w (Some o) v → IsLastTurn o
+  net_last : (p : ℕ) (o : Outcome) (w v : NetSeen) → p < length w.nodes → ((g : ℕ) → o ≡ outcome.Moved g → ⊥) → (o ≡ outcome.Refused refusal.Full → ⊥) → NetTurn m p w (Some o) v → IsLastTurn o
   net_last p o w v lt moved full (inl (past, is, same), clock) = absurd (omega (arith, lt, past))
   net_last p o w v lt moved full (inr (n, k, at, nodes, waiting, (answer, answers, so)), clock) = turn_says answer o moved full so
 
-  net_over : (p code : ℕ) (w v : NetSeen) (o : Outcome) → p < length w.nodes → o ≡ outcome.Refused code → (code ≡ 9 → ⊥) → NetHand m p w (Some o) v → (o ≡ outcome.Refused 7) ⊎ (o ≡ outcome.Refused 3)
-  net_over p code w v o lt is full (inl (past, two, same)) = absurd (omega (arith, lt, past))
-  net_over p code w v o lt is full (inr (n, frames, at, waits, inl (none, three, same))) = inr cc
-  net_over p code w v o lt is full (inr (n, frames, at, waits, inr (up, inl (none, seven, same)))) = inl cc
-  net_over p code w v o lt is full (inr (n, frames, at, waits, inr (up, inr h))) = take_says h.answer o code is full h.outcome_is
+  net_over : (p : ℕ) (why : Refusal) (w v : NetSeen) (o : Outcome) → p < length w.nodes → o ≡ outcome.Refused why → (why ≡ refusal.Full → ⊥) → NetHand m p w (Some o) v → (o ≡ outcome.Refused refusal.NoFrame) ⊎ (o ≡ outcome.Refused refusal.NodeDown)
+  net_over p why w v o lt is full (inl (past, two, same)) = absurd (omega (arith, lt, past))
+  net_over p why w v o lt is full (inr (n, frames, at, waits, inl (none, three, same))) = inr cc
+  net_over p why w v o lt is full (inr (n, frames, at, waits, inr (up, inl (none, seven, same)))) = inl cc
+  net_over p why w v o lt is full (inr (n, frames, at, waits, inr (up, inr h))) = take_says h.answer o why is full h.outcome_is
 
   pub net_laws : DrainLaws (net_steps m)
   net_laws = record {
     turn_count = λ p w v o at. same_count p w v (answer_of o) (λ n r k. TurnServes m w.now None n r k) at.0;
     post_count = λ p w v o at. ap length (post_keeps p w v (answer_of o) at).0;
     turn_last = net_last;
-    hand_over = λ p d code w u v o lt is full hand. inl (o, hand, net_over p code u v o lt is full hand);
+    hand_over = λ p d why w u v o lt is full hand. inl (o, hand, net_over p why u v o lt is full hand);
   }
 
   -- ---- those of both
@@ -162,7 +164,7 @@ module _ {F : Type 0} (m : Meaning F) where
       turn_count = λ p a b o h. net_laws.turn_count p a.net b.net o h.0;
       post_count = λ p a b o h. net_laws.post_count p a.net b.net o h.0;
       turn_last = λ p o a b lt moved full h. net_last p o a.net b.net lt moved full h.0;
-      hand_over = λ p d code a c b o lt is full h. inl (o, h, net_over p code c.net b.net o lt is full h.0);
+      hand_over = λ p d why a c b o lt is full h. inl (o, h, net_over p why c.net b.net o lt is full h.0);
     }
 
   -- what is said of worlds follows

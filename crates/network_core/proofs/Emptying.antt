@@ -16,6 +16,8 @@ use Rattle.session_frames.specs.declared.sending.Outgoing.{Outgoing}
 use Rattle.session_frames.specs.Judging.{judge, or_else, is_other, IsJudged, JudgesFrame}
 use Rattle.net_model.specs.Environment.{Environment, identity}
 use Rattle.node_tables.specs.Journals.{state_of}
+use Rattle.network_core.specs.declared.refusal.Refusal.{Refusal}
+use Rattle.network_core.specs.declared.refusal.Refusal.TheVariants as refusal
 use Rattle.network_core.specs.declared.steps.Outcome.{Outcome}
 use Rattle.network_core.specs.declared.steps.Outcome.TheVariants as outcome
 use Rattle.network_core.specs.Worlds.{NodeWorld, World}
@@ -90,7 +92,7 @@ module _ {F : Type 0} (e : Environment F) where
   next_sent : (r now : ℕ) (from : Party) (key : Key) (direction number : ℕ) (item : Sent) (x : NodeWorld) (o : Outcome) (y : NodeWorld) (sent : List Outgoing) (a : Outgoing) → HearsNext e r now from key direction number item x o y sent → Has a sent → a.to ≡ from
   next_sent r now from key direction number item x (outcome.Took upto) y sent a h has = one_has _ a sent h.2 has
   next_sent r now from key direction number item x outcome.Fault y sent a h has = absurd (none_has a sent h.1 has)
-  next_sent r now from key direction number item x (outcome.Refused code) y sent a h has = absurd (none_has a sent h.3 has)
+  next_sent r now from key direction number item x (outcome.Refused why) y sent a h has = absurd (none_has a sent h.3 has)
   next_sent r now from key direction number item x other y sent a h has = absurd h
 
   -- an acknowledgement goes to the party that is answered
@@ -106,7 +108,7 @@ module _ {F : Type 0} (e : Environment F) where
   next_waiting : (r now : ℕ) (from : Party) (key : Key) (direction number : ℕ) (item : Sent) (x : NodeWorld) (o : Outcome) (y : NodeWorld) (sent : List Outgoing) → HearsNext e r now from key direction number item x o y sent → y.waiting ≡ x.waiting
   next_waiting r now from key direction number item x (outcome.Took upto) y sent h = ap (λ (a : NodeWorld). a.waiting) h.1.after
   next_waiting r now from key direction number item x outcome.Fault y sent h = h.0.waiting
-  next_waiting r now from key direction number item x (outcome.Refused code) y sent h = ap (λ (a : NodeWorld). a.waiting) h.2
+  next_waiting r now from key direction number item x (outcome.Refused why) y sent h = ap (λ (a : NodeWorld). a.waiting) h.2
   next_waiting r now from key direction number item x other y sent h = absurd h
 
   hears_waiting : (r now : ℕ) (said : Judged) (x : NodeWorld) (o : Outcome) (y : NodeWorld) (sent : List Outgoing) → Hears e r now said x o y sent → y.waiting ≡ x.waiting
@@ -120,9 +122,9 @@ module _ {F : Type 0} (e : Environment F) where
 
   -- one frame less waits
   pub hand_shorter : (r : ℕ) (w v : World) (o : Outcome) (x : NodeWorld) → IsTaken o → HandAt e r w (Some o) v → slice_get w.nodes r ≡ Some x → (y : NodeWorld) × (slice_get v.nodes r ≡ Some y) × (length x.waiting ≡ suc (length y.waiting))
-  hand_shorter r w v o x taken (inl (past, is, same)) at = absurd (taken 2 cc)
-  hand_shorter r w v o x taken (inr (z, there, inl (down, is, same))) at = absurd (taken 3 cc)
-  hand_shorter r w v o x taken (inr (z, there, inr (up, inl (none, is, same)))) at = absurd (taken 7 cc)
+  hand_shorter r w v o x taken (inl (past, is, same)) at = absurd (taken refusal.UnknownNode cc)
+  hand_shorter r w v o x taken (inr (z, there, inl (down, is, same))) at = absurd (taken refusal.NodeDown cc)
+  hand_shorter r w v o x taken (inr (z, there, inr (up, inl (none, is, same)))) at = absurd (taken refusal.NoFrame cc)
   hand_shorter r w v o x taken (inr (z, there, inr (up, inr (bytes, y, sent, first, takes, same)))) at =
       let one = same_node w.nodes r z x there at in
       let over = handed_over (waits_on false (Some o)) 0 y in
@@ -148,12 +150,12 @@ module _ {F : Type 0} (e : Environment F) where
       by y.0 y.1 none y.0.up refl
     where
       by : (y : NodeWorld) → slice_get v.nodes r ≡ Some y → slice_get y.waiting 0 ≡ None → (b : Bool) → y.up ≡ b → EndsHands (HandAt e) r v v
-      by y there none true up = (outcome.Refused 7, inr (y, there, inr (up, inl (none, refl, refl))), inl refl)
-      by y there none false up = (outcome.Refused 3, inr (y, there, inl (up, refl, refl)), inr refl)
+      by y there none true up = (outcome.Refused refusal.NoFrame, inr (y, there, inr (up, inl (none, refl, refl))), inl refl)
+      by y there none false up = (outcome.Refused refusal.NodeDown, inr (y, there, inl (up, refl, refl)), inr refl)
 
   -- a delivery that is refused, but not by a full journal, finds no frame, or a node that is down
-  pub hands_over_at : (r code : ℕ) (w v : World) (o : Outcome) → r < length w.nodes → o ≡ outcome.Refused code → (code ≡ 9 → ⊥) → HandAt e r w (Some o) v → (o ≡ outcome.Refused 7) ⊎ (o ≡ outcome.Refused 3)
-  hands_over_at r code w v o lt is full (inl (past, two, same)) = absurd (omega (arith, lt, past))
-  hands_over_at r code w v o lt is full (inr (z, there, inl (down, three, same))) = inr cc
-  hands_over_at r code w v o lt is full (inr (z, there, inr (up, inl (none, seven, same)))) = inl cc
-  hands_over_at r code w v o lt is full (inr (z, there, inr (up, inr (bytes, y, sent, first, takes, same)))) = absurd (full (hears_refused e r w.now takes.0 z o y sent code is takes.3))
+  pub hands_over_at : (r : ℕ) (why : Refusal) (w v : World) (o : Outcome) → r < length w.nodes → o ≡ outcome.Refused why → (why ≡ refusal.Full → ⊥) → HandAt e r w (Some o) v → (o ≡ outcome.Refused refusal.NoFrame) ⊎ (o ≡ outcome.Refused refusal.NodeDown)
+  hands_over_at r why w v o lt is full (inl (past, two, same)) = absurd (omega (arith, lt, past))
+  hands_over_at r why w v o lt is full (inr (z, there, inl (down, three, same))) = inr cc
+  hands_over_at r why w v o lt is full (inr (z, there, inr (up, inl (none, seven, same)))) = inl cc
+  hands_over_at r why w v o lt is full (inr (z, there, inr (up, inr (bytes, y, sent, first, takes, same)))) = absurd (full (hears_refused e r w.now takes.0 z o y sent why is takes.3))

@@ -67,7 +67,7 @@ module _ {F : Type 0} (e : Environment F) (p now : ℕ) (x y : NodeWorld) where
   starts_lengthen class args None h = lengthens_same x y h.1
   starts_lengthen class args (Some (outcome.Started f)) h = commits_lengthen _ _ h.1
   starts_lengthen class args (Some outcome.Fault) h = faults_lengthen _ _ h
-  starts_lengthen class args (Some (outcome.Refused code)) h = lengthens_same x y h.1
+  starts_lengthen class args (Some (outcome.Refused why)) h = lengthens_same x y h.1
   starts_lengthen class args (Some other) h = absurd h
 
   pub turns_lengthen : (pick : Option ℕ) (o : Option Outcome) → WorldTurns e p now pick x o y → Lengthens x y
@@ -75,14 +75,14 @@ module _ {F : Type 0} (e : Environment F) (p now : ℕ) (x y : NodeWorld) where
   turns_lengthen pick (Some outcome.Idle) h = lengthens_same x y h.2
   turns_lengthen pick (Some (outcome.Moved f)) h = commits_lengthen h.0 None h.3
   turns_lengthen pick (Some outcome.Fault) h = faults_lengthen h.0 None h.2
-  turns_lengthen pick (Some (outcome.Refused code)) h = lengthens_same x y h.1
+  turns_lengthen pick (Some (outcome.Refused why)) h = lengthens_same x y h.1
   turns_lengthen pick (Some other) h = absurd h
 
   pub cuts_lengthen : (calls : ℕ) (o : Option Outcome) → WorldCuts calls x o y → Lengthens x y
   cuts_lengthen calls None h = absurd h
   cuts_lengthen calls (Some outcome.Down) h = lengthens_kept x y (ap (λ (z : NodeWorld). z.journal) h.3) (ap (λ (z : NodeWorld). z.other) h.3) (ap (λ (z : NodeWorld). z.openable) h.3)
   cuts_lengthen calls (Some outcome.Armed) h = lengthens_kept x y (ap (λ (z : NodeWorld). z.journal) h.3) (ap (λ (z : NodeWorld). z.other) h.3) (ap (λ (z : NodeWorld). z.openable) h.3)
-  cuts_lengthen calls (Some (outcome.Refused code)) h = lengthens_same x y h.1
+  cuts_lengthen calls (Some (outcome.Refused why)) h = lengthens_same x y h.1
   cuts_lengthen calls (Some other) h = absurd h
 
   stays_down_lengthens : StaysDown x y → Lengthens x y
@@ -95,13 +95,13 @@ module _ {F : Type 0} (e : Environment F) (p now : ℕ) (x y : NodeWorld) where
   boots_lengthen None h = stays_down_lengthens h.0
   boots_lengthen (Some outcome.Booted) h = comes_up_lengthens h
   boots_lengthen (Some outcome.Fault) h = stays_down_lengthens h.0
-  boots_lengthen (Some (outcome.Refused code)) h = ⊎_elim (λ up. lengthens_same x y up.2) (λ down. stays_down_lengthens down.2) h
+  boots_lengthen (Some (outcome.Refused why)) h = ⊎_elim (λ up. lengthens_same x y up.2) (λ down. stays_down_lengthens down.2) h
   boots_lengthen (Some other) h = absurd h
 
   pub loses_lengthen : (i : ℕ) (o : Option Outcome) → LosesAt i x o y → Lengthens x y
   loses_lengthen i None h = absurd h
   loses_lengthen i (Some outcome.Lost) h = lengthens_kept x y (ap (λ (z : NodeWorld). z.journal) h.1) (ap (λ (z : NodeWorld). z.other) h.1) (ap (λ (z : NodeWorld). z.openable) h.1)
-  loses_lengthen i (Some (outcome.Refused code)) h = lengthens_same x y h.2
+  loses_lengthen i (Some (outcome.Refused why)) h = lengthens_same x y h.2
   loses_lengthen i (Some other) h = absurd h
 
   -- ---- a frame
@@ -109,7 +109,7 @@ module _ {F : Type 0} (e : Environment F) (p now : ℕ) (x y : NodeWorld) where
   next_lengthens : (from : Party) (key : Key) (direction number : ℕ) (item : Sent) (o : Outcome) (sent : List Outgoing) → HearsNext e p now from key direction number item x o y sent → Lengthens x y
   next_lengthens from key direction number item (outcome.Took upto) sent h = commits_lengthen _ _ h.1
   next_lengthens from key direction number item outcome.Fault sent h = faults_lengthen _ _ h.0
-  next_lengthens from key direction number item (outcome.Refused code) sent h = lengthens_same x y h.2
+  next_lengthens from key direction number item (outcome.Refused why) sent h = lengthens_same x y h.2
   next_lengthens from key direction number item other sent h = absurd h
 
   hears_lengthens : (said : Judged) (o : Outcome) (sent : List Outgoing) → Hears e p now said x o y sent → Lengthens x y

@@ -253,7 +253,7 @@ module _ {F : Type 0} (e : Environment F) (falls : Falls e.machine) (load : Load
           by : (o : Outcome) → HearsNext e p w.now from key direction number item x o y sent → Goes o
           by (outcome.Took upto) h = commits_fall y ev (Some item) its no_start h.1
           by outcome.Fault h = faults_fall y ev (Some item) its no_start h.0
-          by (outcome.Refused code) h = quietly (outcome.Refused code) (ap (λ (z : NodeWorld). z.journal) h.2) refl
+          by (outcome.Refused why) h = quietly (outcome.Refused why) (ap (λ (z : NodeWorld). z.journal) h.2) refl
           by other h = absurd h
 
       hears_falls : (said : Judged) → IsJudged (identity e p) ss bytes said → GoesFurther (identity e p) ss said → (o : Outcome) → Hears e p w.now said x o y sent → Goes o
@@ -296,7 +296,7 @@ module _ {F : Type 0} (e : Environment F) (falls : Falls e.machine) (load : Load
       by (Some outcome.Fault) h =
           let c = h.2 in
           placed w p x coherent there c.was_up lists choice y 0 (faults_fall w p x coherent there c.was_up lists choice y h.0 None (its c.was_up h.0 c.body c.pends) (turn_no_start e w.now x.journal h.0 h.1) c)
-      by (Some (outcome.Refused code)) h = still h.1
+      by (Some (outcome.Refused why)) h = still h.1
       by (Some other) h = absurd h
 
   turn_lowers : (p : ℕ) (w v : World) (o : Option Outcome) → TurnAt e p w o v → Lowers e (takes o) w v

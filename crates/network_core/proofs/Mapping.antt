@@ -1,5 +1,6 @@
 -- A drain over states of one kind is one over states of another kind, of which each step is one.
 use Rattle.std.proofs.Common.{◌≡◌, inl, inr, ℕ, zero, suc, ◌<◌, true, false, Option, Some, None, sym, ap, subst}
+use Rattle.network_core.specs.declared.refusal.Refusal.TheVariants as refusal
 use Rattle.network_core.specs.declared.steps.Outcome.{Outcome}
 use Rattle.network_core.specs.declared.steps.Outcome.TheVariants as outcome
 use Rattle.network_core.specs.Rounds.{DrainSteps, Moves, TurnsAt, StopsAt, InOrder, PostsAt, Hands, DeliversAt, HandStops, Round, TurnsStop, PostsStop, HandsStop, RoundStops, Rounds, DrainStops, DrainsTo, DoesAt}
@@ -76,7 +77,7 @@ module _ {W V : Type 0} (s : DrainSteps W) (t : DrainSteps V) (g : W → V) (map
 
   pub drains_map : (w : W) (o : Option Outcome) (v : W) → DrainsTo s w o v → DrainsTo t (g w) o (g v)
   drains_map w None v h = stopped_map None w v h
-  drains_map w (Some (outcome.Drained true)) v h = stopped_map (Some (outcome.Refused 9)) w v h
+  drains_map w (Some (outcome.Drained true)) v h = stopped_map (Some (outcome.Refused refusal.Full)) w v h
   drains_map w (Some (outcome.Drained false)) v (r, u, before, round) = (r, g u, rounds_map r w u before, round_map 0 u v round)
   drains_map w (Some other) v h = absurd h
 
@@ -125,6 +126,6 @@ module _ {W : Type 0} (s : DrainSteps W) (R : W → W → Type 0) (stay : (w v :
 
   pub drains_go : (w : W) (o : Option Outcome) (v : W) → DrainsTo s w o v → R w v
   drains_go w None v (r, u, before, stop) = round_stops_go None w u v (rounds_go r w u before) stop
-  drains_go w (Some (outcome.Drained true)) v (r, u, before, stop) = round_stops_go (Some (outcome.Refused 9)) w u v (rounds_go r w u before) stop
+  drains_go w (Some (outcome.Drained true)) v (r, u, before, stop) = round_stops_go (Some (outcome.Refused refusal.Full)) w u v (rounds_go r w u before) stop
   drains_go w (Some (outcome.Drained false)) v (r, u, before, round) = round_go w 0 u v (rounds_go r w u before) round
   drains_go w (Some other) v h = absurd h

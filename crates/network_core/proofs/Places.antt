@@ -5,6 +5,7 @@ use Rattle.net_base.specs.declared.names.Identity.{Identity}
 use Rattle.net_base.proofs.Lists.{map_set, set_length, set_own, get_beside, get_set}
 use Rattle.net_model.specs.Environment.{Environment, environment, Meaning}
 use Rattle.node_core.specs.Seen.{NodeSeen}
+use Rattle.network_core.specs.declared.refusal.Refusal.TheVariants as refusal
 use Rattle.network_core.specs.declared.steps.Outcome.{Outcome}
 use Rattle.network_core.specs.declared.steps.Outcome.TheVariants as outcome
 use Rattle.network_core.specs.Worlds.{NodeWorld, World, NetSeen, NodeShows, NodeCoherent, Shows, Coherent, KeepsWorld}
@@ -119,9 +120,9 @@ module _ {F : Type 0} (m : Meaning F) where
 
   -- a cut with an outcome within its range
   pub cut_within : {E : Type 0} (p : ℕ) (old new : NetSeen) (result : Result Outcome E) (calls kind : ℕ) → kind ≤ 3 → new.now ≡ old.now → AtPlace p old result new (λ n r k. CutServes calls kind n r k)
-      → KeepsWorld m old new (λ e w v. ((3 < kind) × (said result ≡ Some (outcome.Refused 1)) × (v ≡ w)) ⊎ ((kind ≤ 3) × WorldPlace p w (said result) v (λ x o y. WorldCuts calls x o y)))
+      → KeepsWorld m old new (λ e w v. ((3 < kind) × (said result ≡ Some (outcome.Refused refusal.Syntax)) × (v ≡ w)) ⊎ ((kind ≤ 3) × WorldPlace p w (said result) v (λ x o y. WorldCuts calls x o y)))
   cut_within p old new result calls kind le clock at =
-      keeps_map old new (λ e w v. WorldPlace p w (said result) v (λ x o y. WorldCuts calls x o y)) (λ e w v. ((3 < kind) × (said result ≡ Some (outcome.Refused 1)) × (v ≡ w)) ⊎ ((kind ≤ 3) × WorldPlace p w (said result) v (λ x o y. WorldCuts calls x o y))) (λ e w v h. inr (le, h)) (cut_world p old new result calls kind clock at)
+      keeps_map old new (λ e w v. WorldPlace p w (said result) v (λ x o y. WorldCuts calls x o y)) (λ e w v. ((3 < kind) × (said result ≡ Some (outcome.Refused refusal.Syntax)) × (v ≡ w)) ⊎ ((kind ≤ 3) × WorldPlace p w (said result) v (λ x o y. WorldCuts calls x o y))) (λ e w v h. inr (le, h)) (cut_world p old new result calls kind clock at)
 
   -- ---- a frame is lost
 

@@ -4,6 +4,8 @@ use Rattle.std.proofs.lemmas.Option.{slice_get_within}
 use Rattle.net_base.proofs.Lists.{set_length}
 use Rattle.session_frames.specs.declared.sending.Outgoing.{Outgoing}
 use Rattle.net_model.specs.Environment.{Environment}
+use Rattle.network_core.specs.declared.refusal.Refusal.{Refusal}
+use Rattle.network_core.specs.declared.refusal.Refusal.TheVariants as refusal
 use Rattle.network_core.specs.declared.steps.Outcome.{Outcome}
 use Rattle.network_core.specs.declared.steps.Outcome.TheVariants as outcome
 use Rattle.network_core.specs.Worlds.{NodeWorld, World}
@@ -11,19 +13,20 @@ use Rattle.network_core.specs.Serves.{WorldTakes, waits_on, handed_over, without
 use Rattle.network_core.specs.Drains.{HandAt, world_steps}
 use Rattle.network_core.specs.Rounds.{InOrder, Hands, DeliversAt, IsTaken, committed}
 use Rattle.network_core.proofs.QuietingFrames.{Has, Keeps, keeps_same, keeps_then, all_grown, get_set}
-use Rattle.network_core.proofs.QuietingSteps.{code_in, order_all, Still, Stayed, stayed_same, stayed_then, waits_taken, rest_has, none_first, handed, same_node, down_not_up, IsNextFor, hears_still, takes_none, hears_refused}
+use Rattle.network_core.proofs.QuietingSteps.{order_all, Still, Stayed, stayed_same, stayed_then, waits_taken, rest_has, none_first, handed, same_node, down_not_up, IsNextFor, hears_still, takes_none, hears_refused}
 
 -- where a delivery ends those at its place
 abbrev pub IsOver : Outcome → Type 0
-IsOver o = (o ≡ outcome.Refused 7) ⊎ (o ≡ outcome.Refused 3)
+IsOver o = (o ≡ outcome.Refused refusal.NoFrame) ⊎ (o ≡ outcome.Refused refusal.NodeDown)
 
 commits_none : (o : Outcome) → IsOver o → committed o ≡ 0
 commits_none o (inl is) = ap committed is
 commits_none o (inr is) = ap committed is
 
-over_code : (o : Outcome) → IsOver o → (o ≡ outcome.Refused (code_in o)) × (code_in o < 9) × (2 < code_in o)
-over_code o (inl is) = let k = ap code_in is in (is ∙ ap outcome.Refused (sym k), omega (arith, k), omega (arith, k))
-over_code o (inr is) = let k = ap code_in is in (is ∙ ap outcome.Refused (sym k), omega (arith, k), omega (arith, k))
+-- it is a refusal, and not by a full journal
+over_why : (o : Outcome) → IsOver o → (why : Refusal) × (o ≡ outcome.Refused why) × (why ≡ refusal.Full → ⊥)
+over_why o (inl is) = (refusal.NoFrame, is, λ full. cc)
+over_why o (inr is) = (refusal.NodeDown, is, λ full. cc)
 
 module _ {F : Type 0} (e : Environment F) where
   -- a frame was handed to the node at a place
@@ -128,10 +131,8 @@ module _ {F : Type 0} (e : Environment F) where
       let one = same_node w.nodes r z x there at in
       none_first b x.waiting (ap (λ (a : NodeWorld). slice_get a.waiting 0) (sym one) ∙ none) has
   over_none r w v o b x over (inr (z, there, inr (on, inr (bytes, y, sent, first, takes, same)))) at up has =
-      let code = over_code o over in
-      let nine = hears_refused e r w.now takes.0 z o y sent (code_in o) code.0 takes.3 in
-      let below = code.1 in
-      omega (arith, nine, below)
+      let why = over_why o over in
+      why.2 (hears_refused e r w.now takes.0 z o y sent why.0 why.1 takes.3)
 
   -- ---- the deliveries at a place
 

@@ -1,13 +1,13 @@
 -- A drain makes turns, posts and deliveries and nothing else.
 use Rattle.std.proofs.Common.{◌≡◌, inl, inr, ⊎_elim, ℕ, zero, suc, length, Option, Some, refl, sym, ap, subst, arith}
 use Rattle.net_model.specs.Environment.{Environment}
+use Rattle.network_core.specs.declared.refusal.Refusal.TheVariants as refusal
 use Rattle.network_core.specs.declared.steps.Outcome.{Outcome}
 use Rattle.network_core.specs.declared.steps.Outcome.TheVariants as outcome
 use Rattle.network_core.specs.Worlds.{NodeWorld, World}
 use Rattle.network_core.specs.Serves.{WorldPosts, PostsFrom}
 use Rattle.network_core.specs.Drains.{world_steps}
 use Rattle.network_core.specs.Rounds.{IsLastTurn, Moves, TurnsAt, PostsAt, Hands, DeliversAt, InOrder, Round, Rounds, RoundStops, TurnsStop, PostsStop, HandsStop, IsDrained, DrainStops, Runs, none, more, RunsTo}
-use Rattle.network_core.proofs.QuietingSteps.{code_in}
 
 module _ {F : Type 0} (e : Environment F) where
   runs_after : (w u v : World) → Runs (world_steps e) w u → Runs (world_steps e) u v → Runs (world_steps e) w v
@@ -20,10 +20,13 @@ module _ {F : Type 0} (e : Environment F) where
   moves_run p zero w v is = none is
   moves_run p (suc n) w v (u, g, before, turn) = more p (outcome.Moved g) (moves_run p n w u before) (inl turn) (λ is. cc)
 
-  down_not_full : (o : Outcome) → o ≡ outcome.Refused 3 → o ≡ outcome.Refused 9 → ⊥
-  down_not_full o down full = absurd (omega (arith, ap code_in down, ap code_in full))
+  down_not_full : (o : Outcome) → o ≡ outcome.Refused refusal.NodeDown → o ≡ outcome.Refused refusal.Full → ⊥
+  down_not_full o down full = cc
 
-  last_not_full : (o : Outcome) → IsLastTurn o → o ≡ outcome.Refused 9 → ⊥
+  none_not_full : (o : Outcome) → o ≡ outcome.Refused refusal.NoFrame → o ≡ outcome.Refused refusal.Full → ⊥
+  none_not_full o empty full = cc
+
+  last_not_full : (o : Outcome) → IsLastTurn o → o ≡ outcome.Refused refusal.Full → ⊥
   last_not_full o (inl idle) is = cc
   last_not_full o (inr (inl fault)) is = cc
   last_not_full o (inr (inr down)) is = down_not_full o down is
@@ -33,15 +36,15 @@ module _ {F : Type 0} (e : Environment F) where
 
   -- ---- posts
 
-  from_not_full : (p : ℕ) (w : World) (x : NodeWorld) (o : Outcome) (v : World) → PostsFrom e p w x (Some o) v → o ≡ outcome.Refused 9 → ⊥
+  from_not_full : (p : ℕ) (w : World) (x : NodeWorld) (o : Outcome) (v : World) → PostsFrom e p w x (Some o) v → o ≡ outcome.Refused refusal.Full → ⊥
   from_not_full p w x (outcome.Posted count) v h is = cc
-  from_not_full p w x (outcome.Refused code) v h is = omega (arith, ap code_in is, h.0)
+  from_not_full p w x (outcome.Refused why) v h is = let down : why ≡ refusal.NodeDown = h.0 in cc
   from_not_full p w x other v h is = h
 
-  post_not_full : (p : ℕ) (w v : World) (o : Outcome) → WorldPosts e p w (Some o) v → o ≡ outcome.Refused 9 → ⊥
+  post_not_full : (p : ℕ) (w v : World) (o : Outcome) → WorldPosts e p w (Some o) v → o ≡ outcome.Refused refusal.Full → ⊥
   post_not_full p w v o (inl (past, two, same)) is =
-      let one : o ≡ outcome.Refused 2 = cc in
-      omega (arith, ap code_in is, ap code_in one)
+      let one : o ≡ outcome.Refused refusal.UnknownNode = cc in
+      cc
   post_not_full p w v o (inr (x, there, from)) is = from_not_full p w x o v from is
 
   posts_run : (p n : ℕ) (w v : World) → PostsAt (world_steps e) p n w v → Runs (world_steps e) w v
@@ -51,11 +54,11 @@ module _ {F : Type 0} (e : Environment F) where
 
   hands_run : (p d n : ℕ) (w v : World) → Hands (world_steps e) p d n w v → Runs (world_steps e) w v
   hands_run p zero n w v (is, same) = none same
-  hands_run p (suc d) n w v (u, k, o, before, hand, taken, sum) = more p o (hands_run p d k w u before) (inr (inr hand)) (taken 9)
+  hands_run p (suc d) n w v (u, k, o, before, hand, taken, sum) = more p o (hands_run p d k w u before) (inr (inr hand)) (taken refusal.Full)
 
   delivers_run : (p n : ℕ) (w v : World) → DeliversAt (world_steps e) p n w v → Runs (world_steps e) w v
   delivers_run p n w v (d, u, before, (o, hand, over)) =
-      more p o (hands_run p d n w u before) (inr (inr hand)) (λ full. ⊎_elim (λ empty. absurd (omega (arith, ap code_in empty, ap code_in full))) (λ down. down_not_full o down full) over)
+      more p o (hands_run p d n w u before) (inr (inr hand)) (λ full. ⊎_elim (λ empty. none_not_full o empty full) (λ down. down_not_full o down full) over)
 
   -- ---- rounds
 

@@ -21,6 +21,8 @@ use Rattle.net_model.specs.Environment.{Environment, party, identity}
 use Rattle.node_tables.specs.Journals.{state_of}
 use Rattle.node_core.specs.Seen.{picked_at}
 use Rattle.node_core.specs.Takes.{unacked_at}
+use Rattle.network_core.specs.declared.refusal.Refusal.{Refusal}
+use Rattle.network_core.specs.declared.refusal.Refusal.TheVariants as refusal
 use Rattle.network_core.specs.declared.steps.Outcome.{Outcome}
 use Rattle.network_core.specs.declared.steps.Outcome.TheVariants as outcome
 use Rattle.network_core.specs.Worlds.{NodeWorld, World}
@@ -28,11 +30,6 @@ use Rattle.network_core.specs.Serves.{WorldTurns, WorldPosts, PostsFrom, HearsNe
 use Rattle.network_core.specs.Drains.{TurnAt}
 use Rattle.network_core.specs.Rounds.{InOrder, IsLastTurn, IsTaken, committed}
 use Rattle.network_core.proofs.QuietingFrames.{Has, Grown, grown_same, grown_then, all_grown, all_sent, get_set, has_mapped, all_has}
-
--- the code of a refusal, 0 of another outcome
-abbrev pub code_in : Outcome → ℕ
-code_in (outcome.Refused code) = code
-code_in _ = 0
 
 -- ---- in the order of places
 
@@ -108,7 +105,7 @@ posted_stayed w v f = record {
 -- ---- what a node is once a frame was handed over
 
 pub waits_taken : (o : Outcome) → IsTaken o → waits_on false (Some o) ≡ false
-waits_taken (outcome.Refused code) taken = absurd (taken code refl)
+waits_taken (outcome.Refused why) taken = absurd (taken why refl)
 waits_taken other taken = refl
 
 pub rest_has : (b c : List ℕ) (xs : List (List ℕ)) → slice_get xs 0 ≡ Some c → Has b xs → (c ≡ b) ⊎ Has b (without 0 xs)
@@ -143,10 +140,13 @@ moved_not_last f (inl is) = cc
 moved_not_last f (inr (inl is)) = cc
 moved_not_last f (inr (inr is)) = cc
 
-refused_last : (code : ℕ) → IsLastTurn (outcome.Refused code) → code ≡ 3
-refused_last code (inl is) = cc
-refused_last code (inr (inl is)) = cc
-refused_last code (inr (inr is)) = ap code_in is
+refused_last : (why : Refusal) → IsLastTurn (outcome.Refused why) → why ≡ refusal.NodeDown
+refused_last why (inl is) = cc
+refused_last why (inr (inl is)) = cc
+refused_last why (inr (inr is)) = cc
+
+pub down_not_full : (why : Refusal) → why ≡ refusal.NodeDown → why ≡ refusal.Full → ⊥
+down_not_full why down full = cc
 
 module _ {F : Type 0} (e : Environment F) where
   -- ---- turns
@@ -154,9 +154,9 @@ module _ {F : Type 0} (e : Environment F) where
   turn_idle : (p now : ℕ) (x y : NodeWorld) (o : Outcome) → IsLastTurn o → WorldTurns e p now None x (Some o) y → y.up ≡ true → picked_at e now None y.journal ≡ None
   turn_idle p now x y outcome.Idle last h lit = rw (h.2) h.1
   turn_idle p now x y outcome.Fault last h lit = absurd (down_not_up y lit h.2.down)
-  turn_idle p now x y (outcome.Refused code) last h lit = ⊎_elim
+  turn_idle p now x y (outcome.Refused why) last h lit = ⊎_elim
       (λ s. absurd (down_not_up x (ap (λ (a : NodeWorld). a.up) (sym h.1) ∙ lit) s.1))
-      (λ s. absurd (let k = refused_last code last in omega (arith, k, s.0)))
+      (λ s. absurd (down_not_full why (refused_last why last) s.0))
       h.0
   turn_idle p now x y (outcome.Moved f) last h lit = absurd (moved_not_last f last)
   turn_idle p now x y other last h lit = absurd h
@@ -187,7 +187,7 @@ module _ {F : Type 0} (e : Environment F) where
       by : (a : Option Outcome) → PostsFrom e p w x a v → Posted w v
       by None h = subst (Posted w) (sym h.1) (posted_same w)
       by (Some (outcome.Posted count)) h = subst (Posted w) (sym h.2) (record { now = refl; grown = all_grown (unacked_at e.frame_at (party p) x.journal x.acked) w.nodes })
-      by (Some (outcome.Refused code)) h = subst (Posted w) (sym h.2) (posted_same w)
+      by (Some (outcome.Refused why)) h = subst (Posted w) (sym h.2) (posted_same w)
       by (Some other) h = absurd h
 
   -- what isn't acknowledged waits at its addressee
@@ -206,7 +206,7 @@ module _ {F : Type 0} (e : Environment F) where
             let after : slice_get (sent_all sent w.nodes) item.peer.0 ≡ Some y = ap (λ (a : World). slice_get a.nodes item.peer.0) (sym h.2) ∙ k in
             all_sent sent (outgoing (party p) item) w.nodes y (has_mapped (outgoing (party p)) item (unacked (party p) (state_of e.frame_at x.journal).sessions x.acked) has) after,
       )
-      by (outcome.Refused code) h = absurd (down_not_up x up h.1)
+      by (outcome.Refused why) h = absurd (down_not_up x up h.1)
       by other h = absurd h
 
   -- ---- deliveries
@@ -236,7 +236,7 @@ module _ {F : Type 0} (e : Environment F) where
   next_still : (q now : ℕ) (from : Party) (key : Key) (direction number : ℕ) (item : Sent) (x : NodeWorld) (o : Outcome) (y : NodeWorld) (sent : List Outgoing) → HearsNext e q now from key direction number item x o y sent → committed o ≡ 0 → y.up ≡ true → Quietly x y
   next_still q now from key direction number item x (outcome.Took upto) y sent h none up = absurd (omega (arith, none))
   next_still q now from key direction number item x outcome.Fault y sent h none up = absurd (down_not_up y up h.0.down)
-  next_still q now from key direction number item x (outcome.Refused code) y sent h none up = quietly_same x y h.2
+  next_still q now from key direction number item x (outcome.Refused why) y sent h none up = quietly_same x y h.2
   next_still q now from key direction number item x other y sent h none up = absurd h
 
   pub hears_still : (q now : ℕ) (said : Judged) (x : NodeWorld) (o : Outcome) (y : NodeWorld) (sent : List Outgoing) → Hears e q now said x o y sent → committed o ≡ 0 → y.up ≡ true → Quietly x y
@@ -252,7 +252,7 @@ module _ {F : Type 0} (e : Environment F) where
   next_none : (q now : ℕ) (from : Party) (key : Key) (direction number : ℕ) (item : Sent) (x : NodeWorld) (o : Outcome) (y : NodeWorld) (sent : List Outgoing) → HearsNext e q now from key direction number item x o y sent → IsTaken o → committed o ≡ 0 → y.up ≡ true → ⊥
   next_none q now from key direction number item x (outcome.Took upto) y sent h taken none up = omega (arith, none)
   next_none q now from key direction number item x outcome.Fault y sent h taken none up = down_not_up y up h.0.down
-  next_none q now from key direction number item x (outcome.Refused code) y sent h taken none up = taken code refl
+  next_none q now from key direction number item x (outcome.Refused why) y sent h taken none up = taken why refl
   next_none q now from key direction number item x other y sent h taken none up = h
 
   pub takes_none : (q now : ℕ) (b : List ℕ) (x : NodeWorld) (o : Outcome) (y : NodeWorld) (sent : List Outgoing) → IsNextFor q x.journal b → WorldTakes e q now b x (Some o) y sent → IsTaken o → committed o ≡ 0 → y.up ≡ true → ⊥
@@ -261,17 +261,17 @@ module _ {F : Type 0} (e : Environment F) where
       next_none q now next.from next.key next.direction next.number (record { body = next.body; stamp = next.stamp }) x o y sent (subst (λ (s : Judged). Hears e q now s x o y sent) (of ∙ next.says) hears) taken none up
 
   -- only a full journal refuses a frame that is handed over
-  next_refused : (q now : ℕ) (from : Party) (key : Key) (direction number : ℕ) (item : Sent) (x : NodeWorld) (o : Outcome) (y : NodeWorld) (sent : List Outgoing) (code : ℕ) → o ≡ outcome.Refused code → HearsNext e q now from key direction number item x o y sent → code ≡ 9
-  next_refused q now from key direction number item x (outcome.Took upto) y sent code is h = cc
-  next_refused q now from key direction number item x outcome.Fault y sent code is h = cc
-  next_refused q now from key direction number item x (outcome.Refused n) y sent code is h = omega (arith, ap code_in is, h.0)
-  next_refused q now from key direction number item x other y sent code is h = absurd h
+  next_refused : (q now : ℕ) (from : Party) (key : Key) (direction number : ℕ) (item : Sent) (x : NodeWorld) (o : Outcome) (y : NodeWorld) (sent : List Outgoing) (why : Refusal) → o ≡ outcome.Refused why → HearsNext e q now from key direction number item x o y sent → why ≡ refusal.Full
+  next_refused q now from key direction number item x (outcome.Took upto) y sent why is h = cc
+  next_refused q now from key direction number item x outcome.Fault y sent why is h = cc
+  next_refused q now from key direction number item x (outcome.Refused other) y sent why is h = let full : other ≡ refusal.Full = h.0 in cc
+  next_refused q now from key direction number item x other y sent why is h = absurd h
 
-  pub hears_refused : (q now : ℕ) (said : Judged) (x : NodeWorld) (o : Outcome) (y : NodeWorld) (sent : List Outgoing) (code : ℕ) → o ≡ outcome.Refused code → Hears e q now said x o y sent → code ≡ 9
-  hears_refused q now judged.Garbled x o y sent code is h = absurd h
-  hears_refused q now (judged.NotMine to) x o y sent code is h = absurd h
-  hears_refused q now judged.NoSession x o y sent code is h = let k = h.0 in cc
-  hears_refused q now (judged.Early expected) x o y sent code is h = let k = h.0 in cc
-  hears_refused q now (judged.Acked key direction upto) x o y sent code is h = let k = h.0 in cc
-  hears_refused q now (judged.Again from key direction expected) x o y sent code is h = let k = h.0 in cc
-  hears_refused q now (judged.Next from key direction number stamp body) x o y sent code is h = next_refused q now from key direction number (record { body = body; stamp = stamp }) x o y sent code is h
+  pub hears_refused : (q now : ℕ) (said : Judged) (x : NodeWorld) (o : Outcome) (y : NodeWorld) (sent : List Outgoing) (why : Refusal) → o ≡ outcome.Refused why → Hears e q now said x o y sent → why ≡ refusal.Full
+  hears_refused q now judged.Garbled x o y sent why is h = absurd h
+  hears_refused q now (judged.NotMine to) x o y sent why is h = absurd h
+  hears_refused q now judged.NoSession x o y sent why is h = let k = h.0 in cc
+  hears_refused q now (judged.Early expected) x o y sent why is h = let k = h.0 in cc
+  hears_refused q now (judged.Acked key direction upto) x o y sent why is h = let k = h.0 in cc
+  hears_refused q now (judged.Again from key direction expected) x o y sent why is h = let k = h.0 in cc
+  hears_refused q now (judged.Next from key direction number stamp body) x o y sent why is h = next_refused q now from key direction number (record { body = body; stamp = stamp }) x o y sent why is h

@@ -2,6 +2,7 @@
 use Rattle.std.proofs.Common.{◌≡◌, ℕ, inl, inr, Bool, true, false, Option, Some, None, slice_set, sym, subst}
 use Rattle.net_model.specs.Environment.{Environment, party}
 use Rattle.node_core.specs.Takes.{unacked_at}
+use Rattle.network_core.specs.declared.refusal.Refusal.TheVariants as refusal
 use Rattle.network_core.specs.declared.steps.Outcome.{Outcome}
 use Rattle.network_core.specs.declared.steps.Outcome.TheVariants as outcome
 use Rattle.network_core.specs.declared.steps.Step.{Step}
@@ -36,7 +37,7 @@ module _ {F : Type 0} (e : Environment F) where
   from_longer : (p : ℕ) (w v : World) (x : NodeWorld) (o : Option Outcome) → PostsFrom e p w x o v → AllLengthen w.nodes v.nodes
   from_longer p w v x None h = same_longer w v h.1
   from_longer p w v x (Some (outcome.Posted count)) h = subst (λ (z : World). AllLengthen w.nodes z.nodes) (sym h.2) (all_sent_on (unacked_at e.frame_at (party p) x.journal x.acked) w.nodes)
-  from_longer p w v x (Some (outcome.Refused code)) h = same_longer w v h.2
+  from_longer p w v x (Some (outcome.Refused why)) h = same_longer w v h.2
   from_longer p w v x (Some other) h = absurd h
 
   post_longer : (p : ℕ) (w v : World) (o : Option Outcome) → WorldPosts e p w o v → AllLengthen w.nodes v.nodes
@@ -82,7 +83,7 @@ module _ {F : Type 0} (e : Environment F) where
 
   drain_leads : (w v : World) (o : Option Outcome) → WorldDrains e w o v → Leads e w v
   drain_leads w v None h = to_leads w v None (stopped_run e w v None h.0)
-  drain_leads w v (Some (outcome.Drained true)) h = to_leads w v (Some (outcome.Refused 9)) (stopped_run e w v (Some (outcome.Refused 9)) h.0)
+  drain_leads w v (Some (outcome.Drained true)) h = to_leads w v (Some (outcome.Refused refusal.Full)) (stopped_run e w v (Some (outcome.Refused refusal.Full)) h.0)
   drain_leads w v (Some (outcome.Drained false)) h = runs_leads w v (drained_run e w v h.0)
   drain_leads w v (Some other) h = absurd h.0
 

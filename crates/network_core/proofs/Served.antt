@@ -35,6 +35,7 @@ use Rattle.node_core.specs.Journals.{is_full}
 use Rattle.node_core.specs.Disks.{OneOf}
 use Rattle.node_core.specs.Seen.{NodeSeen, StartsAs, StartAnswers, TurnsAs, TurnAnswers, CutsAs, CutAnswers, flow_count, picked_at}
 use Rattle.node_core.specs.Takes.{AcceptsAs, Responds, TakesAs, accepting, ack_to}
+use Rattle.network_core.specs.declared.refusal.Refusal.TheVariants as refusal
 use Rattle.network_core.specs.declared.steps.Outcome.{Outcome}
 use Rattle.network_core.specs.declared.steps.Outcome.TheVariants as outcome
 use Rattle.network_core.specs.Worlds.{NodeWorld, NodeShows}
@@ -63,11 +64,11 @@ module _ {F : Type 0} (m : Meaning F) (id : Identity) (p now : ℕ) (n k : NodeS
       (to.0, to.1, to.2, (rw stands.1 s.0, to.3))
   start_up class args bodies here stands (Err start_fault.NodeDown) s = absurd s
   start_up class args bodies here stands (Err start_fault.UnknownClass) s =
-      stays (λ y. RefusesStart e p now class args x 5 × (y ≡ x)) s.1 (inr (stands.0, inl (refl, rw stands.1 (at_home (λ a q. a.machine.made class args (place a q (flow_count a bodies) 0 now) ≡ Err make.UnknownClass) s.0))), refl)
+      stays (λ y. RefusesStart e p now class args x refusal.UnknownClass × (y ≡ x)) s.1 (inr (stands.0, inl (refl, rw stands.1 (at_home (λ a q. a.machine.made class args (place a q (flow_count a bodies) 0 now) ≡ Err make.UnknownClass) s.0))), refl)
   start_up class args bodies here stands (Err start_fault.BadArgs) s =
-      stays (λ y. RefusesStart e p now class args x 6 × (y ≡ x)) s.1 (inr (stands.0, inr (inl (refl, rw stands.1 (at_home (λ a q. a.machine.made class args (place a q (flow_count a bodies) 0 now) ≡ Err make.BadArgs) s.0)))), refl)
+      stays (λ y. RefusesStart e p now class args x refusal.BadArgs × (y ≡ x)) s.1 (inr (stands.0, inr (inl (refl, rw stands.1 (at_home (λ a q. a.machine.made class args (place a q (flow_count a bodies) 0 now) ≡ Err make.BadArgs) s.0)))), refl)
   start_up class args bodies here stands (Err start_fault.Full) s =
-      stays (λ y. RefusesStart e p now class args x 9 × (y ≡ x)) s.2 (inr (stands.0, inr (inr (refl, rw stands.1 (at_home (λ a q. IsOk (a.machine.made class args (place a q (flow_count a bodies) 0 now))) s.0), rw stands.1 s.1))), refl)
+      stays (λ y. RefusesStart e p now class args x refusal.Full × (y ≡ x)) s.2 (inr (stands.0, inr (inr (refl, rw stands.1 (at_home (λ a q. IsOk (a.machine.made class args (place a q (flow_count a bodies) 0 now))) s.0), rw stands.1 s.1))), refl)
   start_up class args bodies here stands (Err start_fault.Memory) s = stays (λ y. (x.up ≡ true) × (y ≡ x)) s (stands.0, refl)
   start_up class args bodies here stands (Err start_fault.Fault) s =
       let to = faults_world m id p now n k x shows bodies here _ _ s in
@@ -76,7 +77,7 @@ module _ {F : Type 0} (m : Meaning F) (id : Identity) (p now : ℕ) (n k : NodeS
   pub start_any : (class : ℕ) (args : List ℕ) (journal : Option (List (List ℕ))) (answer : Result ℕ StartFault) → n.journal ≡ journal → StartAnswers (environment m n.identity) now class args n answer k → Goes e p x k (λ y. WorldStarts e p now class args x (start_outcome answer) y)
   start_any class args None answer here s =
       let q : (answer ≡ Err start_fault.NodeDown) × (k ≡ n) = MatchOption-at_none _ _ here s in
-      rw q.0 (stays (λ y. RefusesStart e p now class args x 3 × (y ≡ x)) q.1 (inl (refl, was_down here), refl))
+      rw q.0 (stays (λ y. RefusesStart e p now class args x refusal.NodeDown × (y ≡ x)) q.1 (inl (refl, was_down here), refl))
   start_any class args (Some bodies) answer here s = start_up class args bodies here (rw here at shows.journal) answer (MatchOption-at_some _ _ bodies here s)
 
   turn_up : (pick : Option ℕ) (bodies : List (List ℕ)) → n.journal ≡ Some bodies → (x.up ≡ true) × (x.journal ≡ bodies) × (x.other ≡ None) → (answer : Result Turned TurnFault) → TurnsAs (environment m n.identity) now pick bodies n answer k → Goes e p x k (λ y. WorldTurns e p now pick x (turn_outcome answer) y)
@@ -85,7 +86,7 @@ module _ {F : Type 0} (m : Meaning F) (id : Identity) (p now : ℕ) (n k : NodeS
       let to = commits_world m id p now n k x shows bodies here _ _ s.3 in
       (to.0, to.1, to.2, (s.0, rw stands.1 s.1, s.2, to.3))
   turn_up pick bodies here stands (Err turn_fault.NodeDown) s = absurd s
-  turn_up pick bodies here stands (Err turn_fault.Full) s = stays (λ y. RefusesTurn e now pick x 9 × (y ≡ x)) s.3 (inr (refl, stands.0, rw stands.1 s.2, s.0, rw stands.1 s.1), refl)
+  turn_up pick bodies here stands (Err turn_fault.Full) s = stays (λ y. RefusesTurn e now pick x refusal.Full × (y ≡ x)) s.3 (inr (refl, stands.0, rw stands.1 s.2, s.0, rw stands.1 s.1), refl)
   turn_up pick bodies here stands (Err turn_fault.Memory) s =
       stays (λ y. (x.up ≡ true) × (is_full e.frame_at 0 x.journal ≡ false) × ((event : Event) × (picked_at e now pick x.journal ≡ Some event)) × (y ≡ x)) s.3 (stands.0, rw stands.1 s.2, (s.0, rw stands.1 s.1), refl)
   turn_up pick bodies here stands (Err turn_fault.Fault) s =
@@ -95,7 +96,7 @@ module _ {F : Type 0} (m : Meaning F) (id : Identity) (p now : ℕ) (n k : NodeS
   pub turn_any : (pick : Option ℕ) (journal : Option (List (List ℕ))) (answer : Result Turned TurnFault) → n.journal ≡ journal → TurnAnswers (environment m n.identity) now pick n answer k → Goes e p x k (λ y. WorldTurns e p now pick x (turn_outcome answer) y)
   turn_any pick None answer here s =
       let q : (answer ≡ Err turn_fault.NodeDown) × (k ≡ n) = MatchOption-at_none _ _ here s in
-      rw q.0 (stays (λ y. RefusesTurn e now pick x 3 × (y ≡ x)) q.1 (inl (refl, was_down here), refl))
+      rw q.0 (stays (λ y. RefusesTurn e now pick x refusal.NodeDown × (y ≡ x)) q.1 (inl (refl, was_down here), refl))
   turn_any pick (Some bodies) answer here s = turn_up pick bodies here (rw here at shows.journal) answer (MatchOption-at_some _ _ bodies here s)
 
   -- where the images spell one journal
@@ -144,12 +145,12 @@ module _ {F : Type 0} (m : Meaning F) (id : Identity) (p now : ℕ) (n k : NodeS
         (omega arith, stands.0, shows.file_is ∙ c.memory, refl),
       )
   cut_up calls kind bodies here stands (Err cut_fault.NodeDown) s = absurd s
-  cut_up calls kind bodies here stands (Err cut_fault.NoFuse) s = stays (λ y. WorldCuts calls x (Some (outcome.Refused 8)) y) s.1 (inr (refl, stands.0, shows.file_is ∙ s.0), refl)
+  cut_up calls kind bodies here stands (Err cut_fault.NoFuse) s = stays (λ y. WorldCuts calls x (Some (outcome.Refused refusal.NoFuse)) y) s.1 (inr (refl, stands.0, shows.file_is ∙ s.0), refl)
 
   pub cut_any : (calls kind : ℕ) (journal : Option (List (List ℕ))) (answer : Result (Unit {0}) CutFault) → n.journal ≡ journal → CutAnswers calls kind n answer k → Goes e p x k (λ y. WorldCuts calls x (cut_outcome calls answer) y)
   cut_any calls kind None answer here s =
       let q : (answer ≡ Err cut_fault.NodeDown) × (k ≡ n) = MatchOption-at_none _ _ here s in
-      rw q.0 (stays (λ y. WorldCuts calls x (Some (outcome.Refused 3)) y) q.1 (inl (refl, was_down here), refl))
+      rw q.0 (stays (λ y. WorldCuts calls x (Some (outcome.Refused refusal.NodeDown)) y) q.1 (inl (refl, was_down here), refl))
   cut_any calls kind (Some bodies) answer here s = cut_up calls kind bodies here (rw here at shows.journal) answer (MatchOption-at_some _ _ bodies here s)
 
   -- ---- frames
@@ -174,7 +175,7 @@ module _ {F : Type 0} (m : Meaning F) (id : Identity) (p now : ℕ) (n k : NodeS
     accepts from key direction number item (Err take_fault.Garbled) counted s = absurd s
     accepts from key direction number item (Err (take_fault.NotMine to)) counted s = absurd s
     accepts from key direction number item (Err take_fault.Full) counted s =
-        stays (λ y. (o : Outcome) × (Some (outcome.Refused 9) ≡ Some o) × HearsNext e p now from key direction number item x o y []) s.1 (outcome.Refused 9, refl, (refl, rw stands.1 s.0, refl, refl))
+        stays (λ y. (o : Outcome) × (Some (outcome.Refused refusal.Full) ≡ Some o) × HearsNext e p now from key direction number item x o y []) s.1 (outcome.Refused refusal.Full, refl, (refl, rw stands.1 s.0, refl, refl))
     accepts from key direction number item (Err take_fault.Memory) counted s = absurd s
     accepts from key direction number item (Err take_fault.Fault) counted s =
         let to = faults_world m id p now n k x shows bodies here _ _ s in

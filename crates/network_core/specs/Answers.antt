@@ -23,7 +23,8 @@ use Rattle.session_table.specs.Tables.{unacked}
 use Rattle.session_frames.specs.declared.sending.Outgoing.{Outgoing}
 use Rattle.session_frames.specs.Sending.{AreMessages}
 use Rattle.waiting_frames.specs.Waiting.{is_waiting, joined}
-use Rattle.network_core.specs.declared.serving.Reply.{Reply}
+use Rattle.network_core.specs.declared.serving.Delivery.{Delivery}
+use Rattle.network_core.specs.declared.refusal.Refusal.TheVariants as refusal
 use Rattle.network_core.specs.declared.steps.Outcome.{Outcome}
 use Rattle.network_core.specs.declared.steps.Outcome.TheVariants as outcome
 use Rattle.network_core.specs.declared.steps.Step.{Step}
@@ -40,10 +41,10 @@ said (Err e) = None
 -- the outcome of a start
 abbrev pub start_outcome : Result ℕ StartFault → Option Outcome
 start_outcome (Ok f) = Some (outcome.Started f)
-start_outcome (Err start_fault.NodeDown) = Some (outcome.Refused 3)
-start_outcome (Err start_fault.UnknownClass) = Some (outcome.Refused 5)
-start_outcome (Err start_fault.BadArgs) = Some (outcome.Refused 6)
-start_outcome (Err start_fault.Full) = Some (outcome.Refused 9)
+start_outcome (Err start_fault.NodeDown) = Some (outcome.Refused refusal.NodeDown)
+start_outcome (Err start_fault.UnknownClass) = Some (outcome.Refused refusal.UnknownClass)
+start_outcome (Err start_fault.BadArgs) = Some (outcome.Refused refusal.BadArgs)
+start_outcome (Err start_fault.Full) = Some (outcome.Refused refusal.Full)
 start_outcome (Err start_fault.Memory) = None
 start_outcome (Err start_fault.Fault) = Some outcome.Fault
 
@@ -51,8 +52,8 @@ start_outcome (Err start_fault.Fault) = Some outcome.Fault
 abbrev pub turn_outcome : Result Turned TurnFault → Option Outcome
 turn_outcome (Ok turned.Idle) = Some outcome.Idle
 turn_outcome (Ok (turned.Moved f)) = Some (outcome.Moved f)
-turn_outcome (Err turn_fault.NodeDown) = Some (outcome.Refused 3)
-turn_outcome (Err turn_fault.Full) = Some (outcome.Refused 9)
+turn_outcome (Err turn_fault.NodeDown) = Some (outcome.Refused refusal.NodeDown)
+turn_outcome (Err turn_fault.Full) = Some (outcome.Refused refusal.Full)
 turn_outcome (Err turn_fault.Memory) = None
 turn_outcome (Err turn_fault.Fault) = Some outcome.Fault
 
@@ -60,16 +61,16 @@ turn_outcome (Err turn_fault.Fault) = Some outcome.Fault
 abbrev pub cut_outcome : {T : Type 0} → ℕ → Result T CutFault → Option Outcome
 cut_outcome zero (Ok _) = Some outcome.Down
 cut_outcome (suc calls) (Ok _) = Some outcome.Armed
-cut_outcome calls (Err cut_fault.NodeDown) = Some (outcome.Refused 3)
-cut_outcome calls (Err cut_fault.NoFuse) = Some (outcome.Refused 8)
+cut_outcome calls (Err cut_fault.NodeDown) = Some (outcome.Refused refusal.NodeDown)
+cut_outcome calls (Err cut_fault.NoFuse) = Some (outcome.Refused refusal.NoFuse)
 
 -- the outcome of a boot
 abbrev pub boot_outcome : Result (Unit {0}) BootFault → Option Outcome
 boot_outcome (Ok u) = Some outcome.Booted
 boot_outcome (Err boot_fault.Fault) = Some outcome.Fault
-boot_outcome (Err boot_fault.NotAJournal) = Some (outcome.Refused 13)
-boot_outcome (Err (boot_fault.WrongNode found)) = Some (outcome.Refused 13)
-boot_outcome (Err (boot_fault.Damaged at)) = Some (outcome.Refused 13)
+boot_outcome (Err boot_fault.NotAJournal) = Some (outcome.Refused refusal.Journal)
+boot_outcome (Err (boot_fault.WrongNode found)) = Some (outcome.Refused refusal.Journal)
+boot_outcome (Err (boot_fault.Damaged at)) = Some (outcome.Refused refusal.Journal)
 boot_outcome (Err boot_fault.Memory) = None
 
 -- a start at a node, and its outcome
@@ -99,18 +100,18 @@ DownBoots frame_at old result new = (mid : NodeSeen) × (answer : Result (Unit {
 -- a boot of a node, and its outcome
 abbrev pub BootServes : {F E : Type 0} → Reads F → NodeSeen → Result Outcome E → NodeSeen → Type 0
 BootServes frame_at old result new =
-    (IsSome old.journal × (said result ≡ Some (outcome.Refused 4)) × (new ≡ old))
+    (IsSome old.journal × (said result ≡ Some (outcome.Refused refusal.NodeUp)) × (new ≡ old))
     ⊎ ((old.journal ≡ None) × DownBoots frame_at old result new)
 
--- a step at one place: refused with 2 where there is none, and nothing else changes
+-- a step at one place: refused where there is no such node, and nothing else changes
 abbrev pub AtPlace : {E : Type 0} → ℕ → NetSeen → Result Outcome E → NetSeen → (NodeSeen → Result Outcome E → NodeSeen → Type 0) → Type 0
 AtPlace place old result new serves =
-    ((length old.nodes ≤ place) × (said result ≡ Some (outcome.Refused 2)) × (new ≡ old))
+    ((length old.nodes ≤ place) × (said result ≡ Some (outcome.Refused refusal.UnknownNode)) × (new ≡ old))
     ⊎ ((n : NodeSeen) × (k : NodeSeen) × (slice_get old.nodes place ≡ Some n) × (new.nodes ≡ slice_set old.nodes place k) × (new.waiting ≡ old.waiting) × serves n result k)
 
 -- the moment becomes the one that was asked for, which isn't before it
 abbrev pub ClockServes : ℕ → NetSeen → Outcome → NetSeen → Type 0
-ClockServes to old result new = ((to < old.now) × (result ≡ outcome.Refused 10) × (new ≡ old)) ⊎ ((old.now ≤ to) × (result ≡ outcome.Fine) × (new ≡ record { nodes = old.nodes; waiting = old.waiting; now = to }))
+ClockServes to old result new = ((to < old.now) × (result ≡ outcome.Refused refusal.Backwards) × (new ≡ old)) ⊎ ((old.now ≤ to) × (result ≡ outcome.Fine) × (new ≡ record { nodes = old.nodes; waiting = old.waiting; now = to }))
 
 -- the moment of the last cause in a node's journal, 0 without one or while the node is down
 abbrev pub last_moment : {F : Type 0} → Reads F → Option (List (List ℕ)) → ℕ
@@ -140,10 +141,10 @@ take_outcome (Ok (taken.Again expected ack)) = Some (outcome.Again expected)
 take_outcome (Ok (taken.Early expected)) = Some (outcome.Early expected)
 take_outcome (Ok taken.NoSession) = Some outcome.NoSession
 take_outcome (Ok (taken.Took upto ack)) = Some (outcome.Took upto)
-take_outcome (Err take_fault.NodeDown) = Some (outcome.Refused 3)
+take_outcome (Err take_fault.NodeDown) = Some (outcome.Refused refusal.NodeDown)
 take_outcome (Err take_fault.Garbled) = Some outcome.NoSession
 take_outcome (Err (take_fault.NotMine to)) = Some outcome.NoSession
-take_outcome (Err take_fault.Full) = Some (outcome.Refused 9)
+take_outcome (Err take_fault.Full) = Some (outcome.Refused refusal.Full)
 take_outcome (Err take_fault.Memory) = None
 take_outcome (Err take_fault.Fault) = Some outcome.Fault
 
@@ -160,17 +161,17 @@ IsCounted (Ok (taken.Took upto ack)) = upto < 2 ^ 32
 IsCounted _ = ⊤
 
 -- the outcome that was reached, none at want of memory
-abbrev pub reached : {E : Type 0} → Result Reply E → Option Outcome
-reached (Ok reply) = Some reply.outcome
+abbrev pub reached : {E : Type 0} → Result Delivery E → Option Outcome
+reached (Ok delivery) = Some delivery.outcome
 reached (Err e) = None
 
 -- the acknowledgement that was made, if there is one
-abbrev pub replied : {E : Type 0} → Result Reply E → List Outgoing
-replied (Ok reply) = option_to_list reply.ack
+abbrev pub replied : {E : Type 0} → Result Delivery E → List Outgoing
+replied (Ok delivery) = option_to_list delivery.ack
 replied (Err e) = []
 
 -- a frame was handed to a node, with its outcome and the acknowledgement that it sends
-abbrev pub TakeServes : {F E : Type 0} → Meaning F → ℕ → List ℕ → NodeSeen → Result Reply E → NodeSeen → Type 0
+abbrev pub TakeServes : {F E : Type 0} → Meaning F → ℕ → List ℕ → NodeSeen → Result Delivery E → NodeSeen → Type 0
 TakeServes m now bytes old result new =
     (answer : Result Taken TakeFault) × TakeAnswers (environment m old.identity) now bytes old answer new × (reached result ≡ take_outcome answer) × (replied result ≡ take_sent answer) × IsCounted answer
 
@@ -211,13 +212,13 @@ Posting frame_at n old (Some (outcome.Posted count)) new =
     × AreMessages n.identity.party (unacked n.identity.party (state_of frame_at bodies).sessions n.acked)
     × (count ≡ count_fresh (unacked_at frame_at n.identity.party bodies n.acked) old.waiting)
     × (new ≡ record { nodes = old.nodes; waiting = mailed (unacked_at frame_at n.identity.party bodies n.acked) old.waiting; now = old.now })
-Posting frame_at n old (Some (outcome.Refused code)) new = (code ≡ 3) × (n.journal ≡ None) × (new ≡ old)
+Posting frame_at n old (Some (outcome.Refused why)) new = (why ≡ refusal.NodeDown) × (n.journal ≡ None) × (new ≡ old)
 Posting frame_at n old (Some _) new = ⊥
 
 -- a post of the node at a place
 abbrev pub PostServes : {F E : Type 0} → Reads F → ℕ → NetSeen → Result Outcome E → NetSeen → Type 0
 PostServes frame_at place old result new =
-    ((length old.nodes ≤ place) × (said result ≡ Some (outcome.Refused 2)) × (new ≡ old))
+    ((length old.nodes ≤ place) × (said result ≡ Some (outcome.Refused refusal.UnknownNode)) × (new ≡ old))
     ⊎ ((n : NodeSeen) × (slice_get old.nodes place ≡ Some n) × Posting frame_at n old (said result) new)
 
 -- the frames that wait once the one at a place of a node is taken away, or left
@@ -241,21 +242,21 @@ pub record Handed {F : Type 0} (m : Meaning F) (repeated : Bool) (place at : ℕ
 -- what handing the frame at a place of a node came to
 abbrev pub Handing : {F : Type 0} → Meaning F → Bool → ℕ → ℕ → NodeSeen → List (List ℕ) → NetSeen → Option Outcome → NetSeen → Type 0
 Handing m repeated place at n frames old o new =
-    ((n.journal ≡ None) × (o ≡ Some (outcome.Refused 3)) × (new ≡ old))
-    ⊎ (IsSome n.journal × (((slice_get frames at ≡ None) × (o ≡ Some (outcome.Refused 7)) × (new ≡ old)) ⊎ Handed m repeated place at n frames old o new))
+    ((n.journal ≡ None) × (o ≡ Some (outcome.Refused refusal.NodeDown)) × (new ≡ old))
+    ⊎ (IsSome n.journal × (((slice_get frames at ≡ None) × (o ≡ Some (outcome.Refused refusal.NoFrame)) × (new ≡ old)) ⊎ Handed m repeated place at n frames old o new))
 
 -- a delivery, or a repetition, of the frame at a place of a node
 abbrev pub HandServes : {F E : Type 0} → Meaning F → Bool → ℕ → ℕ → NetSeen → Result Outcome E → NetSeen → Type 0
 HandServes m repeated place at old result new =
-    ((length old.nodes ≤ place) × (said result ≡ Some (outcome.Refused 2)) × (new ≡ old))
+    ((length old.nodes ≤ place) × (said result ≡ Some (outcome.Refused refusal.UnknownNode)) × (new ≡ old))
     ⊎ ((n : NodeSeen) × (frames : List (List ℕ)) × (slice_get old.nodes place ≡ Some n) × (slice_get old.waiting place ≡ Some frames) × Handing m repeated place at n frames old (said result) new)
 
 -- the frame at a place of a node is lost
 abbrev pub LoseServes : {E : Type 0} → ℕ → ℕ → NetSeen → Result Outcome E → NetSeen → Type 0
 LoseServes place at old result new =
-    ((length old.nodes ≤ place) × (said result ≡ Some (outcome.Refused 2)) × (new ≡ old))
+    ((length old.nodes ≤ place) × (said result ≡ Some (outcome.Refused refusal.UnknownNode)) × (new ≡ old))
     ⊎ ((frames : List (List ℕ)) × (slice_get old.waiting place ≡ Some frames)
-    × (((slice_get frames at ≡ None) × (said result ≡ Some (outcome.Refused 7)) × (new ≡ old))
+    × (((slice_get frames at ≡ None) × (said result ≡ Some (outcome.Refused refusal.NoFrame)) × (new ≡ old))
     ⊎ ((bytes : List ℕ) × (slice_get frames at ≡ Some bytes) × (said result ≡ Some outcome.Lost) × (new ≡ record { nodes = old.nodes; waiting = slice_set old.waiting place (without at frames); now = old.now }))))
 
 -- ---- steps
@@ -300,6 +301,6 @@ Answered m (step.Deliver node at) old result new = HandServes m false node at ol
 Answered m (step.Repeat node at) old result new = HandServes m true node at old result new
 Answered m (step.Lose node at) old result new = LoseServes node at old result new
 Answered m (step.Cut node calls kind) old result new =
-    ((3 < kind) × (said result ≡ Some (outcome.Refused 1)) × (new ≡ old)) ⊎ ((kind ≤ 3) × AtPlace node old result new (λ n r k. CutServes calls kind n r k) × (new.now ≡ old.now))
+    ((3 < kind) × (said result ≡ Some (outcome.Refused refusal.Syntax)) × (new ≡ old)) ⊎ ((kind ≤ 3) × AtPlace node old result new (λ n r k. CutServes calls kind n r k) × (new.now ≡ old.now))
 Answered m (step.Boot node) old result new = AtPlace node old result new (λ n r k. BootServes m.frame_at n r k) × BootClock m.frame_at node old result new
 Answered m step.Drain old result new = DrainsTo (net_steps m) old (said result) new × (new.now ≡ old.now)

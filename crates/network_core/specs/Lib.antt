@@ -1,4 +1,5 @@
 pub mod Worlds
+pub mod Refusals
 pub mod Rounds
 pub mod Answers
 pub mod Serves

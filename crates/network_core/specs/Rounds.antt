@@ -1,6 +1,8 @@
 -- A drain over states of any kind: rounds of turns, posts and deliveries, until one commits nothing.
-use Rattle.std.specs.Prelude.{◌≡◌, ◌⊎◌, Bool, ℕ, zero, suc, ◌+◌, ◌<◌, ◌==◌, if◌then◌else◌, true, false, Option, Some, None, Result, Ok, Err}
+use Rattle.std.specs.Prelude.{◌≡◌, ◌⊎◌, Bool, ℕ, zero, suc, ◌+◌, ◌<◌, true, false, Option, Some, None, Result, Ok, Err}
 use Rattle.std.proofs.Common.{inl, inr}
+use Rattle.network_core.specs.declared.refusal.Refusal.{Refusal}
+use Rattle.network_core.specs.declared.refusal.Refusal.TheVariants as refusal
 use Rattle.network_core.specs.declared.steps.Outcome.{Outcome}
 use Rattle.network_core.specs.declared.steps.Outcome.TheVariants as outcome
 use Rattle.network_core.specs.declared.net.Turning.{Turning}
@@ -31,7 +33,7 @@ Moves {W} s p (suc n) w v = (u : W) × (f : ℕ) × Moves s p n w u × s.turn p 
 
 -- the turn that ends those at its place: no flow can go on, the disk failed, or the node is down
 abbrev pub IsLastTurn : Outcome → Type 0
-IsLastTurn o = (o ≡ outcome.Idle) ⊎ ((o ≡ outcome.Fault) ⊎ (o ≡ outcome.Refused 3))
+IsLastTurn o = (o ≡ outcome.Idle) ⊎ ((o ≡ outcome.Fault) ⊎ (o ≡ outcome.Refused refusal.NodeDown))
 
 -- the turns at a place: so many that let a flow go on, and the one that ends them
 abbrev pub TurnsAt : {W : Type 0} → DrainSteps W → ℕ → ℕ → W → W → Type 0
@@ -59,7 +61,7 @@ committed _ = 0
 
 -- a delivery took a frame away
 abbrev pub IsTaken : Outcome → Type 0
-IsTaken o = (code : ℕ) → o ≡ outcome.Refused code → ⊥
+IsTaken o = (why : Refusal) → o ≡ outcome.Refused why → ⊥
 
 -- so many deliveries of the first waiting frame at a place, each of which took it away, and how many of them committed a record
 abbrev pub Hands : {W : Type 0} → DrainSteps W → ℕ → ℕ → ℕ → W → W → Type 0
@@ -68,7 +70,7 @@ Hands {W} s p (suc d) n w v = (u : W) × (k : ℕ) × (o : Outcome) × Hands s p
 
 -- a delivery that ends those at its place: no frame waits, or the node is down
 abbrev pub EndsHands : {W : Type 0} → (ℕ → W → Option Outcome → W → Type 0) → ℕ → W → W → Type 0
-EndsHands hand p u v = (o : Outcome) × hand p u (Some o) v × ((o ≡ outcome.Refused 7) ⊎ (o ≡ outcome.Refused 3))
+EndsHands hand p u v = (o : Outcome) × hand p u (Some o) v × ((o ≡ outcome.Refused refusal.NoFrame) ⊎ (o ≡ outcome.Refused refusal.NodeDown))
 
 -- the deliveries at a place: of one frame after another, up to how they end
 abbrev pub DeliversAt : {W : Type 0} → DrainSteps W → ℕ → ℕ → W → W → Type 0
@@ -120,7 +122,7 @@ DrainStops {W} s o w v = (r : ℕ) × (u : W) × Rounds s r w u × RoundStops s 
 -- what a drain comes to, by its outcome: with true its last turn or delivery met a full journal, with false it came to an end; none where memory ran out at its last one
 abbrev pub DrainsTo : {W : Type 0} → DrainSteps W → W → Option Outcome → W → Type 0
 DrainsTo s w None v = DrainStops s None w v
-DrainsTo s w (Some (outcome.Drained true)) v = DrainStops s (Some (outcome.Refused 9)) w v
+DrainsTo s w (Some (outcome.Drained true)) v = DrainStops s (Some (outcome.Refused refusal.Full)) w v
 DrainsTo s w (Some (outcome.Drained false)) v = IsDrained s w v
 DrainsTo s w (Some _) v = ⊥
 
@@ -144,7 +146,7 @@ DoesAt {W} s p w o v = s.turn p w o v ⊎ (s.post p w o v ⊎ s.hand p w o v)
 -- states that turns, posts and deliveries lead to, none of which met a full journal or ran out of memory
 pub data Runs {W : Type 0} (s : DrainSteps W) : W → W → Type 0 where
   none : {w v : W} → v ≡ w → Runs s w v
-  more : {w u v : W} (p : ℕ) (o : Outcome) → Runs s w u → DoesAt s p u (Some o) v → (o ≡ outcome.Refused 9 → ⊥) → Runs s w v
+  more : {w u v : W} (p : ℕ) (o : Outcome) → Runs s w u → DoesAt s p u (Some o) v → (o ≡ outcome.Refused refusal.Full → ⊥) → Runs s w v
 
 -- they lead there, and a last one has this outcome
 abbrev pub RunsTo : {W : Type 0} → DrainSteps W → W → Option Outcome → W → Type 0
@@ -156,13 +158,13 @@ RunsTo {W} s w o v = (u : W) × (p : ℕ) × Runs s w u × DoesAt s p u o v
 abbrev pub Turns : {W E : Type 0} → Result Turning E → (ℕ → W → W → Type 0) → (Option Outcome → W → W → Type 0) → W → W → Type 0
 Turns (Ok turning.Moved) made stops w v = (n : ℕ) × made (suc n) w v
 Turns (Ok turning.Quiet) made stops w v = made 0 w v
-Turns (Ok turning.Full) made stops w v = stops (Some (outcome.Refused 9)) w v
+Turns (Ok turning.Full) made stops w v = stops (Some (outcome.Refused refusal.Full)) w v
 Turns (Err fault) made stops w v = stops None w v
 
 -- what a turn came to, by its outcome
 abbrev pub turned : Outcome → Turning
 turned (outcome.Moved f) = turning.Moved
-turned (outcome.Refused code) = if code == 9 then turning.Full else turning.Quiet
+turned (outcome.Refused refusal.Full) = turning.Full
 turned _ = turning.Quiet
 
 -- what the posts of a round came to: each was made, or memory ran out
@@ -173,7 +175,8 @@ Posts {W} s w (Err fault) v = PostsStop s None w v
 -- what a delivery came to, by its outcome
 abbrev pub heard : Outcome → Hearing
 heard (outcome.Took upto) = heard_as.Took
-heard (outcome.Refused code) = if code == 9 then heard_as.Full else heard_as.Over
+heard (outcome.Refused refusal.Full) = heard_as.Full
+heard (outcome.Refused _) = heard_as.Over
 heard _ = heard_as.Noted
 
 -- what turns and then deliveries came to

@@ -3,6 +3,7 @@ use Rattle.std.specs.Prelude.{◌≡◌, ◌⊎◌, ◌<◌, ◌≤◌, Bool, Li
 use Rattle.net_base.specs.declared.names.Identity.{Identity}
 use Rattle.net_model.specs.Environment.{Environment, environment, Meaning}
 use Rattle.network_core.specs.Answers.{Answered, answer_of}
+use Rattle.network_core.specs.declared.refusal.Refusal.TheVariants as refusal
 use Rattle.network_core.specs.declared.steps.Outcome.{Outcome}
 use Rattle.network_core.specs.declared.steps.Outcome.TheVariants as outcome
 use Rattle.network_core.specs.declared.steps.Step.{Step}
@@ -20,7 +21,7 @@ Serve e (step.Post node) w o v = WorldPosts e node w o v
 Serve e (step.Deliver node at) w o v = WorldHands e false node at w o v
 Serve e (step.Repeat node at) w o v = WorldHands e true node at w o v
 Serve e (step.Lose node at) w o v = WorldPlace node w o v (λ x r y. LosesAt at x r y)
-Serve e (step.Cut node calls kind) w o v = ((3 < kind) × (o ≡ Some (outcome.Refused 1)) × (v ≡ w)) ⊎ ((kind ≤ 3) × WorldPlace node w o v (λ x r y. WorldCuts calls x r y))
+Serve e (step.Cut node calls kind) w o v = ((3 < kind) × (o ≡ Some (outcome.Refused refusal.Syntax)) × (v ≡ w)) ⊎ ((kind ≤ 3) × WorldPlace node w o v (λ x r y. WorldCuts calls x r y))
 Serve e (step.Boot node) w o v = WorldPlace node w o v (λ x r y. WorldBoots e x r y)
 Serve e step.Drain w o v = WorldDrains e w o v
 

@@ -22,6 +22,8 @@ use Rattle.node_core.specs.Journals.{is_full}
 use Rattle.flow_steps.specs.Going.{flow_in}
 use Rattle.node_core.specs.Seen.{Pends, flow_count, picked_at, acks_over}
 use Rattle.node_core.specs.Takes.{accepting, ack_to, unacked_at}
+use Rattle.network_core.specs.declared.refusal.Refusal.{Refusal}
+use Rattle.network_core.specs.declared.refusal.Refusal.TheVariants as refusal
 use Rattle.network_core.specs.declared.steps.Outcome.{Outcome}
 use Rattle.network_core.specs.declared.steps.Outcome.TheVariants as outcome
 use Rattle.network_core.specs.Worlds.{NodeWorld, World, MaySpell}
@@ -56,40 +58,27 @@ pub record WorldFaults {F : Type 0} (e : Environment F) (p now : ℕ) (event : E
 -- ---- starts
 
 -- why a start is refused: the node is down; or it is up, and no flow is made, or one is and the journal is full
-abbrev pub RefusesStart : {F : Type 0} → Environment F → ℕ → ℕ → ℕ → List ℕ → NodeWorld → ℕ → Type 0
-RefusesStart e p now class args x code =
+abbrev pub RefusesStart : {F : Type 0} → Environment F → ℕ → ℕ → ℕ → List ℕ → NodeWorld → Refusal → Type 0
+RefusesStart e p now class args x why =
     let made = e.machine.made class args (place e p (flow_count e x.journal) 0 now) in
-    ((code ≡ 3) × (x.up ≡ false))
-    ⊎ ((x.up ≡ true) × (((code ≡ 5) × (made ≡ Err make.UnknownClass)) ⊎ (((code ≡ 6) × (made ≡ Err make.BadArgs)) ⊎ ((code ≡ 9) × IsOk made × (is_full e.frame_at 0 x.journal ≡ true)))))
+    ((why ≡ refusal.NodeDown) × (x.up ≡ false))
+    ⊎ ((x.up ≡ true) × (((why ≡ refusal.UnknownClass) × (made ≡ Err make.UnknownClass)) ⊎ (((why ≡ refusal.BadArgs) × (made ≡ Err make.BadArgs)) ⊎ ((why ≡ refusal.Full) × IsOk made × (is_full e.frame_at 0 x.journal ≡ true)))))
 
 -- what a start makes of a node, and its outcome, none at want of memory
 abbrev pub WorldStarts : {F : Type 0} → Environment F → ℕ → ℕ → ℕ → List ℕ → NodeWorld → Option Outcome → NodeWorld → Type 0
 WorldStarts e p now class args x None y = (x.up ≡ true) × (y ≡ x)
 WorldStarts e p now class args x (Some (outcome.Started f)) y = (f ≡ flow_count e x.journal) × WorldCommits e p now (event.Start f class args) None x y
 WorldStarts e p now class args x (Some outcome.Fault) y = WorldFaults e p now (event.Start (flow_count e x.journal) class args) None x y
-WorldStarts e p now class args x (Some (outcome.Refused code)) y = RefusesStart e p now class args x code × (y ≡ x)
-WorldStarts e p now class args x (Some outcome.Fine) y = ⊥
-WorldStarts e p now class args x (Some (outcome.Moved f)) y = ⊥
-WorldStarts e p now class args x (Some outcome.Idle) y = ⊥
-WorldStarts e p now class args x (Some outcome.Armed) y = ⊥
-WorldStarts e p now class args x (Some outcome.Down) y = ⊥
-WorldStarts e p now class args x (Some outcome.Booted) y = ⊥
-WorldStarts e p now class args x (Some (outcome.Drained full)) y = ⊥
-WorldStarts e p now class args x (Some outcome.Acked) y = ⊥
-WorldStarts e p now class args x (Some outcome.NoSession) y = ⊥
-WorldStarts e p now class args x (Some outcome.Lost) y = ⊥
-WorldStarts e p now class args x (Some (outcome.Posted count)) y = ⊥
-WorldStarts e p now class args x (Some (outcome.Took upto)) y = ⊥
-WorldStarts e p now class args x (Some (outcome.Again expected)) y = ⊥
-WorldStarts e p now class args x (Some (outcome.Early expected)) y = ⊥
+WorldStarts e p now class args x (Some (outcome.Refused why)) y = RefusesStart e p now class args x why × (y ≡ x)
+WorldStarts e p now class args x (Some _) y = ⊥
 
 -- ---- turns
 
 -- why a turn is refused: the node is down; or it is up, a flow can go on, and the journal is full
-abbrev pub RefusesTurn : {F : Type 0} → Environment F → ℕ → Option ℕ → NodeWorld → ℕ → Type 0
-RefusesTurn e now pick x code =
-    ((code ≡ 3) × (x.up ≡ false))
-    ⊎ ((code ≡ 9) × (x.up ≡ true) × (is_full e.frame_at 0 x.journal ≡ true) × (event : Event) × (picked_at e now pick x.journal ≡ Some event))
+abbrev pub RefusesTurn : {F : Type 0} → Environment F → ℕ → Option ℕ → NodeWorld → Refusal → Type 0
+RefusesTurn e now pick x why =
+    ((why ≡ refusal.NodeDown) × (x.up ≡ false))
+    ⊎ ((why ≡ refusal.Full) × (x.up ≡ true) × (is_full e.frame_at 0 x.journal ≡ true) × (event : Event) × (picked_at e now pick x.journal ≡ Some event))
 
 -- what a turn makes of a node, and its outcome, none at want of memory
 abbrev pub WorldTurns : {F : Type 0} → Environment F → ℕ → ℕ → Option ℕ → NodeWorld → Option Outcome → NodeWorld → Type 0
@@ -97,47 +86,21 @@ WorldTurns e p now pick x None y = (x.up ≡ true) × (is_full e.frame_at 0 x.jo
 WorldTurns e p now pick x (Some outcome.Idle) y = (x.up ≡ true) × (picked_at e now pick x.journal ≡ None) × (y ≡ x)
 WorldTurns e p now pick x (Some (outcome.Moved f)) y = (event : Event) × (picked_at e now pick x.journal ≡ Some event) × (flow_in event ≡ f) × WorldCommits e p now event None x y
 WorldTurns e p now pick x (Some outcome.Fault) y = (event : Event) × (picked_at e now pick x.journal ≡ Some event) × WorldFaults e p now event None x y
-WorldTurns e p now pick x (Some (outcome.Refused code)) y = RefusesTurn e now pick x code × (y ≡ x)
-WorldTurns e p now pick x (Some outcome.Fine) y = ⊥
-WorldTurns e p now pick x (Some (outcome.Started f)) y = ⊥
-WorldTurns e p now pick x (Some outcome.Armed) y = ⊥
-WorldTurns e p now pick x (Some outcome.Down) y = ⊥
-WorldTurns e p now pick x (Some outcome.Booted) y = ⊥
-WorldTurns e p now pick x (Some (outcome.Drained full)) y = ⊥
-WorldTurns e p now pick x (Some outcome.Acked) y = ⊥
-WorldTurns e p now pick x (Some outcome.NoSession) y = ⊥
-WorldTurns e p now pick x (Some outcome.Lost) y = ⊥
-WorldTurns e p now pick x (Some (outcome.Posted count)) y = ⊥
-WorldTurns e p now pick x (Some (outcome.Took upto)) y = ⊥
-WorldTurns e p now pick x (Some (outcome.Again expected)) y = ⊥
-WorldTurns e p now pick x (Some (outcome.Early expected)) y = ⊥
+WorldTurns e p now pick x (Some (outcome.Refused why)) y = RefusesTurn e now pick x why × (y ≡ x)
+WorldTurns e p now pick x (Some _) y = ⊥
 
 -- ---- cuts
 
 -- why a cut is refused: the node is down; or it is up, and its disk is a file
-abbrev pub RefusesCut : NodeWorld → ℕ → Type 0
-RefusesCut x code = ((code ≡ 3) × (x.up ≡ false)) ⊎ ((code ≡ 8) × (x.up ≡ true) × (x.file ≡ true))
+abbrev pub RefusesCut : NodeWorld → Refusal → Type 0
+RefusesCut x why = ((why ≡ refusal.NodeDown) × (x.up ≡ false)) ⊎ ((why ≡ refusal.NoFuse) × (x.up ≡ true) × (x.file ≡ true))
 
 -- what a cut makes of a node, and its outcome: with 0 the node is down at once, on the same journal; else only the disk's calm ends
 abbrev pub WorldCuts : ℕ → NodeWorld → Option Outcome → NodeWorld → Type 0
-WorldCuts calls x None y = ⊥
 WorldCuts calls x (Some outcome.Down) y = (calls ≡ 0) × (x.up ≡ true) × (x.file ≡ false) × (y ≡ record x { up = false; calm = y.calm; acked = [] })
 WorldCuts calls x (Some outcome.Armed) y = (0 < calls) × (x.up ≡ true) × (x.file ≡ false) × (y ≡ record x { calm = y.calm })
-WorldCuts calls x (Some (outcome.Refused code)) y = RefusesCut x code × (y ≡ x)
-WorldCuts calls x (Some outcome.Fine) y = ⊥
-WorldCuts calls x (Some outcome.Fault) y = ⊥
-WorldCuts calls x (Some (outcome.Started f)) y = ⊥
-WorldCuts calls x (Some (outcome.Moved f)) y = ⊥
-WorldCuts calls x (Some outcome.Idle) y = ⊥
-WorldCuts calls x (Some outcome.Booted) y = ⊥
-WorldCuts calls x (Some (outcome.Drained full)) y = ⊥
-WorldCuts calls x (Some outcome.Acked) y = ⊥
-WorldCuts calls x (Some outcome.NoSession) y = ⊥
-WorldCuts calls x (Some outcome.Lost) y = ⊥
-WorldCuts calls x (Some (outcome.Posted count)) y = ⊥
-WorldCuts calls x (Some (outcome.Took upto)) y = ⊥
-WorldCuts calls x (Some (outcome.Again expected)) y = ⊥
-WorldCuts calls x (Some (outcome.Early expected)) y = ⊥
+WorldCuts calls x (Some (outcome.Refused why)) y = RefusesCut x why × (y ≡ x)
+WorldCuts calls x _ y = ⊥
 
 -- ---- boots
 
@@ -162,33 +125,20 @@ pub record ComesUp {F : Type 0} (e : Environment F) (x y : NodeWorld) : Type 0 w
   pub calm : x.file ≡ false → y.calm ≡ true
   pub stays_calm : x.calm ≡ true → y.calm ≡ true
 
--- what a boot makes of a node, and its outcome: only a file that isn't calm fails, and only a disk that had an image which the opening refuses is refused with 13
+-- what a boot makes of a node, and its outcome: only a file that isn't calm fails, and only a disk that had an image which the opening refuses is refused by its journal
 abbrev pub WorldBoots : {F : Type 0} → Environment F → NodeWorld → Option Outcome → NodeWorld → Type 0
 WorldBoots e x None y = StaysDown x y × (y.journal ≡ x.journal)
 WorldBoots e x (Some outcome.Booted) y = ComesUp e x y
 WorldBoots e x (Some outcome.Fault) y = StaysDown x y × Rose x.faults y.faults × (x.file ≡ true) × (x.calm ≡ false)
-WorldBoots e x (Some (outcome.Refused code)) y = ((code ≡ 4) × (x.up ≡ true) × (y ≡ x)) ⊎ ((code ≡ 13) × (x.openable ≡ false) × StaysDown x y × (y.journal ≡ x.journal))
-WorldBoots e x (Some outcome.Fine) y = ⊥
-WorldBoots e x (Some (outcome.Started f)) y = ⊥
-WorldBoots e x (Some (outcome.Moved f)) y = ⊥
-WorldBoots e x (Some outcome.Idle) y = ⊥
-WorldBoots e x (Some outcome.Armed) y = ⊥
-WorldBoots e x (Some outcome.Down) y = ⊥
-WorldBoots e x (Some (outcome.Drained full)) y = ⊥
-WorldBoots e x (Some outcome.Acked) y = ⊥
-WorldBoots e x (Some outcome.NoSession) y = ⊥
-WorldBoots e x (Some outcome.Lost) y = ⊥
-WorldBoots e x (Some (outcome.Posted count)) y = ⊥
-WorldBoots e x (Some (outcome.Took upto)) y = ⊥
-WorldBoots e x (Some (outcome.Again expected)) y = ⊥
-WorldBoots e x (Some (outcome.Early expected)) y = ⊥
+WorldBoots e x (Some (outcome.Refused why)) y = ((why ≡ refusal.NodeUp) × (x.up ≡ true) × (y ≡ x)) ⊎ ((why ≡ refusal.Journal) × (x.openable ≡ false) × StaysDown x y × (y.journal ≡ x.journal))
+WorldBoots e x (Some _) y = ⊥
 
 -- ---- the whole network
 
--- a step at one place of a world: refused with 2 where there is none, and nothing else changes
+-- a step at one place of a world: refused where there is no such node, and nothing else changes
 abbrev pub WorldPlace : ℕ → World → Option Outcome → World → (NodeWorld → Option Outcome → NodeWorld → Type 0) → Type 0
 WorldPlace p w o v goal =
-    ((length w.nodes ≤ p) × (o ≡ Some (outcome.Refused 2)) × (v ≡ w))
+    ((length w.nodes ≤ p) × (o ≡ Some (outcome.Refused refusal.UnknownNode)) × (v ≡ w))
     ⊎ ((x : NodeWorld) × (y : NodeWorld) × (slice_get w.nodes p ≡ Some x) × (v ≡ record { nodes = slice_set w.nodes p y; now = w.now }) × goal x o y)
 
 -- ---- frames under way
@@ -234,13 +184,13 @@ PostsFrom e p w x (Some (outcome.Posted count)) v =
     let frames = unacked_at e.frame_at (party p) x.journal x.acked in
     (x.up ≡ true) × (count ≡ count_new frames w.nodes) × (v ≡ record { nodes = sent_all frames w.nodes; now = w.now })
     × AreMessages (party p) (unacked (party p) (state_of e.frame_at x.journal).sessions x.acked)
-PostsFrom e p w x (Some (outcome.Refused code)) v = (code ≡ 3) × (x.up ≡ false) × (v ≡ w)
+PostsFrom e p w x (Some (outcome.Refused why)) v = (why ≡ refusal.NodeDown) × (x.up ≡ false) × (v ≡ w)
 PostsFrom e p w x (Some _) v = ⊥
 
 -- a post of the node at a place, and its outcome, none at want of memory
 abbrev pub WorldPosts : {F : Type 0} → Environment F → ℕ → World → Option Outcome → World → Type 0
 WorldPosts e p w o v =
-    ((length w.nodes ≤ p) × (o ≡ Some (outcome.Refused 2)) × (v ≡ w))
+    ((length w.nodes ≤ p) × (o ≡ Some (outcome.Refused refusal.UnknownNode)) × (v ≡ w))
     ⊎ ((x : NodeWorld) × (slice_get w.nodes p ≡ Some x) × PostsFrom e p w x o v)
 
 -- ---- deliveries
@@ -250,19 +200,18 @@ abbrev pub HearsNext : {F : Type 0} → Environment F → ℕ → ℕ → Party 
 HearsNext e p now from key direction number item x (outcome.Took upto) y sent =
     (upto ≡ number + 1) × WorldCommits e p now (accepting (state_of e.frame_at x.journal).sessions key direction number) (Some item) x y × (sent ≡ ack_to (party p) from key direction (number + 1) ∷ []) × (upto < 2 ^ 32)
 HearsNext e p now from key direction number item x outcome.Fault y sent = WorldFaults e p now (accepting (state_of e.frame_at x.journal).sessions key direction number) (Some item) x y × (sent ≡ [])
-HearsNext e p now from key direction number item x (outcome.Refused code) y sent = (code ≡ 9) × (is_full e.frame_at item.stamp x.journal ≡ true) × (y ≡ x) × (sent ≡ [])
+HearsNext e p now from key direction number item x (outcome.Refused why) y sent = (why ≡ refusal.Full) × (is_full e.frame_at item.stamp x.journal ≡ true) × (y ≡ x) × (sent ≡ [])
 HearsNext e p now from key direction number item x _ y sent = ⊥
 
 -- what a frame makes of a node, by what the node says of it, and what is sent; none that waits is garbled or another's
 abbrev pub Hears : {F : Type 0} → Environment F → ℕ → ℕ → Judged → NodeWorld → Outcome → NodeWorld → List Outgoing → Type 0
-Hears e p now judged.Garbled x o y sent = ⊥
-Hears e p now (judged.NotMine to) x o y sent = ⊥
 Hears e p now judged.NoSession x o y sent = (o ≡ outcome.NoSession) × (y ≡ x) × (sent ≡ [])
 Hears e p now (judged.Early expected) x o y sent = (o ≡ outcome.Early expected) × (y ≡ x) × (sent ≡ [])
 Hears e p now (judged.Acked key direction upto) x o y sent =
     (o ≡ outcome.Acked) × (y ≡ record x { acked = raised (party p) key direction upto (state_of e.frame_at x.journal).sessions x.acked }) × (sent ≡ [])
 Hears e p now (judged.Again from key direction expected) x o y sent = (o ≡ outcome.Again expected) × (y ≡ x) × (sent ≡ ack_to (party p) from key direction expected ∷ []) × (expected < 2 ^ 32)
 Hears e p now (judged.Next from key direction number stamp body) x o y sent = HearsNext e p now from key direction number (record { body = body; stamp = stamp }) x o y sent
+Hears e p now _ x o y sent = ⊥
 
 -- what a frame makes of a node that is up, its outcome, none at want of memory, and what is sent
 abbrev pub WorldTakes : {F : Type 0} → Environment F → ℕ → ℕ → List ℕ → NodeWorld → Option Outcome → NodeWorld → List Outgoing → Type 0
@@ -274,7 +223,7 @@ WorldTakes e p now bytes x (Some o) y sent =
 abbrev pub waits_on : Bool → Option Outcome → Bool
 waits_on true o = true
 waits_on false None = true
-waits_on false (Some (outcome.Refused code)) = true
+waits_on false (Some (outcome.Refused why)) = true
 waits_on false (Some _) = false
 
 -- the node once the frame at a place was handed over
@@ -285,25 +234,24 @@ handed_over false i y = record y { waiting = without i y.waiting }
 -- a node that is up is handed the frame at a place, if there is one
 abbrev pub HandsTo : {F : Type 0} → Environment F → Bool → ℕ → ℕ → World → NodeWorld → Option Outcome → World → Type 0
 HandsTo e repeated p i w x o v =
-    ((slice_get x.waiting i ≡ None) × (o ≡ Some (outcome.Refused 7)) × (v ≡ w))
+    ((slice_get x.waiting i ≡ None) × (o ≡ Some (outcome.Refused refusal.NoFrame)) × (v ≡ w))
     ⊎ ((bytes : List ℕ) × (y : NodeWorld) × (sent : List Outgoing) × (slice_get x.waiting i ≡ Some bytes) × WorldTakes e p w.now bytes x o y sent
     × (v ≡ record { nodes = sent_all sent (slice_set w.nodes p (handed_over (waits_on repeated o) i y)); now = w.now }))
 
 -- a delivery, or a repetition, of the frame at a place of a node, and its outcome, none at want of memory
 abbrev pub WorldHands : {F : Type 0} → Environment F → Bool → ℕ → ℕ → World → Option Outcome → World → Type 0
 WorldHands e repeated p i w o v =
-    ((length w.nodes ≤ p) × (o ≡ Some (outcome.Refused 2)) × (v ≡ w))
-    ⊎ ((x : NodeWorld) × (slice_get w.nodes p ≡ Some x) × (((x.up ≡ false) × (o ≡ Some (outcome.Refused 3)) × (v ≡ w)) ⊎ ((x.up ≡ true) × HandsTo e repeated p i w x o v)))
+    ((length w.nodes ≤ p) × (o ≡ Some (outcome.Refused refusal.UnknownNode)) × (v ≡ w))
+    ⊎ ((x : NodeWorld) × (slice_get w.nodes p ≡ Some x) × (((x.up ≡ false) × (o ≡ Some (outcome.Refused refusal.NodeDown)) × (v ≡ w)) ⊎ ((x.up ≡ true) × HandsTo e repeated p i w x o v)))
 
 -- the frame at a place of a node is lost, whether the node is up or down
 abbrev pub LosesAt : ℕ → NodeWorld → Option Outcome → NodeWorld → Type 0
-LosesAt i x None y = ⊥
 LosesAt i x (Some outcome.Lost) y = ((bytes : List ℕ) × (slice_get x.waiting i ≡ Some bytes)) × (y ≡ record x { waiting = without i x.waiting })
-LosesAt i x (Some (outcome.Refused code)) y = (code ≡ 7) × (slice_get x.waiting i ≡ None) × (y ≡ x)
-LosesAt i x (Some _) y = ⊥
+LosesAt i x (Some (outcome.Refused why)) y = (why ≡ refusal.NoFrame) × (slice_get x.waiting i ≡ None) × (y ≡ x)
+LosesAt i x _ y = ⊥
 
 -- ---- the clock
 
--- the moment becomes the one that was asked for; an earlier one is refused with 10
+-- the moment becomes the one that was asked for; an earlier one is refused
 abbrev pub WorldClock : ℕ → World → Option Outcome → World → Type 0
-WorldClock to w o v = ((to < w.now) × (o ≡ Some (outcome.Refused 10)) × (v ≡ w)) ⊎ ((w.now ≤ to) × (o ≡ Some outcome.Fine) × (v ≡ record { nodes = w.nodes; now = to }))
+WorldClock to w o v = ((to < w.now) × (o ≡ Some (outcome.Refused refusal.Backwards)) × (v ≡ w)) ⊎ ((w.now ≤ to) × (o ≡ Some outcome.Fine) × (v ≡ record { nodes = w.nodes; now = to }))

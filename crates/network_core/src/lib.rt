@@ -11,6 +11,7 @@ mod laws;
 mod mail;
 mod net;
 mod parts;
+mod refusal;
 mod serving;
 mod steps;
 
@@ -22,4 +23,5 @@ pub use laws::{
 };
 pub use net::Net;
 pub use parts::NetParts;
+pub use refusal::Refusal;
 pub use steps::{Outcome, Step};

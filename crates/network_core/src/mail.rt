@@ -24,7 +24,7 @@ pub fn no_frames(alloc: Global, count: usize, spare: Vec<Waiting>) -> Vec<Waitin
     waiting
 }
 
-/// Makes room for so many frames more at each node.
+/// Makes room for this number of frames more at each node.
 pub fn make_room(waiting: &mut Vec<Waiting>, more: usize) -> Result<(), AllocError>
     ensures frames { map (λ w. w.frames) waiting.new.items ≡ map (λ w. w.frames) waiting.old.items }
     ensures room { OnOk result (AllByRecursion (λ w. more ≤ w.room) waiting.new.items) }

@@ -18,7 +18,7 @@ use super::begin::{BeginRefused, boot_all, disks_of, nodes_over};
 use super::mail::{make_room, no_frames, send_all, settle};
 use super::parts::NetParts;
 use super::serving::{boot_at, cut_at, post_at, start_at, take_at, turn_at, waits_on};
-use super::{Outcome, Step};
+use super::{Outcome, Refusal, Step};
 use contract_verify::Judge;
 use flow_machine::FlowSet;
 use net_base::{ByteList, Moment, Party};
@@ -204,7 +204,9 @@ impl<D: Bay, F: FlowSet> Net<D, F> {
                 outcome,
             } => {
                 if *outcome > 3 {
-                    return Ok(Outcome::Refused { code: 1 });
+                    return Ok(Outcome::Refused {
+                        why: Refusal::Syntax,
+                    });
                 }
                 self.cut(*node, *calls, *outcome)
             }
@@ -368,7 +370,9 @@ impl<D: Bay, F: FlowSet> Net<D, F> {
         ensures { ClockServes to.0 self.old result self.new }
     {
         if to.0 < self.now.0 {
-            return Outcome::Refused { code: 10 };
+            return Outcome::Refused {
+                why: Refusal::Backwards,
+            };
         }
         self.now = to;
         Outcome::Fine
@@ -386,7 +390,9 @@ impl<D: Bay, F: FlowSet> Net<D, F> {
     {
         let place = place as usize;
         if place >= self.nodes.len() {
-            return Ok(Outcome::Refused { code: 2 });
+            return Ok(Outcome::Refused {
+                why: Refusal::UnknownNode,
+            });
         }
         let now = self.now;
         let node = &mut self.nodes[place];
@@ -404,7 +410,9 @@ impl<D: Bay, F: FlowSet> Net<D, F> {
         ensures clock { self.new.now ≡ self.old.now }
     {
         if place >= self.nodes.len() {
-            return Ok(Outcome::Refused { code: 2 });
+            return Ok(Outcome::Refused {
+                why: Refusal::UnknownNode,
+            });
         }
         let now = self.now;
         let node = &mut self.nodes[place];
@@ -415,7 +423,9 @@ impl<D: Bay, F: FlowSet> Net<D, F> {
         ensures { PostServes F.reading place self.old result self.new }
     {
         if place >= self.nodes.len() {
-            return Ok(Outcome::Refused { code: 2 });
+            return Ok(Outcome::Refused {
+                why: Refusal::UnknownNode,
+            });
         }
         match post_at(alloc, &self.nodes[place])? {
             Some(frames) => {
@@ -423,7 +433,9 @@ impl<D: Bay, F: FlowSet> Net<D, F> {
                 let count = send_all(&mut self.waiting, frames);
                 Ok(Outcome::Posted { count })
             }
-            None => Ok(Outcome::Refused { code: 3 }),
+            None => Ok(Outcome::Refused {
+                why: Refusal::NodeDown,
+            }),
         }
     }
 
@@ -438,13 +450,19 @@ impl<D: Bay, F: FlowSet> Net<D, F> {
         ensures { HandServes (unjudged F.machine F.reading) repeated place at self.old result self.new }
     {
         if place >= self.nodes.len() {
-            return Ok(Outcome::Refused { code: 2 });
+            return Ok(Outcome::Refused {
+                why: Refusal::UnknownNode,
+            });
         }
         if !self.nodes[place].is_up() {
-            return Ok(Outcome::Refused { code: 3 });
+            return Ok(Outcome::Refused {
+                why: Refusal::NodeDown,
+            });
         }
         if at >= self.waiting[place].len() {
-            return Ok(Outcome::Refused { code: 7 });
+            return Ok(Outcome::Refused {
+                why: Refusal::NoFrame,
+            });
         }
         self.hand_over(alloc, place, at, repeated)
     }
@@ -465,21 +483,25 @@ impl<D: Bay, F: FlowSet> Net<D, F> {
         let now = self.now;
         let bytes = self.waiting[place].get(at).unwrap();
         let node = &mut self.nodes[place];
-        let reply = take_at(alloc, node, now, bytes)?;
-        let waits = waits_on(repeated, reply.outcome);
-        settle(&mut self.waiting, place, at, waits, reply.ack);
-        Ok(reply.outcome)
+        let delivery = take_at(alloc, node, now, bytes)?;
+        let waits = waits_on(repeated, delivery.outcome);
+        settle(&mut self.waiting, place, at, waits, delivery.ack);
+        Ok(delivery.outcome)
     }
 
     fn lose(&mut self, place: usize, at: usize) -> Result<Outcome, AllocError>
         ensures { LoseServes place at self.old result self.new }
     {
         if place >= self.waiting.len() {
-            return Ok(Outcome::Refused { code: 2 });
+            return Ok(Outcome::Refused {
+                why: Refusal::UnknownNode,
+            });
         }
         match self.waiting[place].remove(at) {
             Some(_) => Ok(Outcome::Lost),
-            None => Ok(Outcome::Refused { code: 7 }),
+            None => Ok(Outcome::Refused {
+                why: Refusal::NoFrame,
+            }),
         }
     }
 
@@ -489,7 +511,9 @@ impl<D: Bay, F: FlowSet> Net<D, F> {
     {
         let place = place as usize;
         if place >= self.nodes.len() {
-            return Ok(Outcome::Refused { code: 2 });
+            return Ok(Outcome::Refused {
+                why: Refusal::UnknownNode,
+            });
         }
         let node = &mut self.nodes[place];
         let outcome = boot_at(alloc, node);
@@ -505,14 +529,16 @@ impl<D: Bay, F: FlowSet> Net<D, F> {
     {
         let place = place as usize;
         if place >= self.nodes.len() {
-            return Ok(Outcome::Refused { code: 2 });
+            return Ok(Outcome::Refused {
+                why: Refusal::UnknownNode,
+            });
         }
         let node = &mut self.nodes[place];
         cut_at(node, calls, outcome)
     }
 }
 
-/// What turns or deliveries came to: nothing was committed; something was; or the last met a full journal.
+/// What turns or deliveries did: nothing was committed; something was; or the last met a full journal.
 #[derive(Clone, Copy)]
 pub enum Turning {
     Quiet,
@@ -520,24 +546,18 @@ pub enum Turning {
     Full,
 }
 
-/// What one turn came to.
+/// What one turn did, by its outcome.
 fn turned(outcome: Outcome) -> Turning
     ensures { result ≡ turned outcome }
 {
     match outcome {
         Outcome::Moved { .. } => Turning::Moved,
-        Outcome::Refused { code } => {
-            if code == 9 {
-                Turning::Full
-            } else {
-                Turning::Quiet
-            }
-        }
+        Outcome::Refused { why: Refusal::Full } => Turning::Full,
         _ => Turning::Quiet,
     }
 }
 
-/// What one delivery came to: none waits, or the node is down; the journal is full; a frame was taken away, and nothing was committed; or
+/// What one delivery did: no frame waits, or the node is down; the journal is full; a frame was taken away, and nothing was committed; or
 /// a record was.
 #[derive(Clone, Copy)]
 pub enum Hearing {
@@ -547,19 +567,14 @@ pub enum Hearing {
     Took,
 }
 
-/// What one delivery came to.
+/// What one delivery did, by its outcome.
 fn heard(outcome: Outcome) -> Hearing
     ensures { result ≡ heard outcome }
 {
     match outcome {
         Outcome::Took { .. } => Hearing::Took,
-        Outcome::Refused { code } => {
-            if code == 9 {
-                Hearing::Full
-            } else {
-                Hearing::Over
-            }
-        }
+        Outcome::Refused { why: Refusal::Full } => Hearing::Full,
+        Outcome::Refused { .. } => Hearing::Over,
         _ => Hearing::Noted,
     }
 }
@@ -572,7 +587,7 @@ fn is_full(done: Turning) -> bool
     matches!(done, Turning::Full)
 }
 
-/// What turns and then deliveries came to; the turns met no full journal.
+/// What turns and then deliveries did; the turns met no full journal.
 fn joined(turns: Turning, deliveries: Turning) -> Turning
     ensures { result ≡ joined turns deliveries }
 {
@@ -582,7 +597,7 @@ fn joined(turns: Turning, deliveries: Turning) -> Turning
     }
 }
 
-/// What turns or deliveries came to of which none met a full journal.
+/// What turns or deliveries did of which none met a full journal.
 fn turning_of(moved: bool) -> Turning
     ensures moved { result ≡ turning.Moved → moved ≡ true }
     ensures quiet { result ≡ turning.Quiet → moved ≡ false }

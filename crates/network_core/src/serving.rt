@@ -7,7 +7,7 @@ ghost use Rattle.node_core.specs.Seen.{IsBy};
 ghost use Rattle.network_core.specs.Answers.{StartServes, TurnServes, SendServes, TakeServes, CutServes, BootServes, IsCounted, boot_outcome, replied, reached, said, take_outcome, take_sent};
 ghost use Rattle.network_core.specs.Serves.{waits_on};
 
-use super::Outcome;
+use super::{Outcome, Refusal};
 use contract_verify::Judge;
 use flow_machine::FlowSet;
 use net_base::{ByteList, Moment};
@@ -32,10 +32,16 @@ pub fn start_at<D: Bay, F: FlowSet>(
 {
     match node.start(alloc, now, class, args) {
         Ok(flow) => Ok(Outcome::Started { flow }),
-        Err(StartFault::NodeDown) => Ok(Outcome::Refused { code: 3 }),
-        Err(StartFault::UnknownClass) => Ok(Outcome::Refused { code: 5 }),
-        Err(StartFault::BadArgs) => Ok(Outcome::Refused { code: 6 }),
-        Err(StartFault::Full) => Ok(Outcome::Refused { code: 9 }),
+        Err(StartFault::NodeDown) => Ok(Outcome::Refused {
+            why: Refusal::NodeDown,
+        }),
+        Err(StartFault::UnknownClass) => Ok(Outcome::Refused {
+            why: Refusal::UnknownClass,
+        }),
+        Err(StartFault::BadArgs) => Ok(Outcome::Refused {
+            why: Refusal::BadArgs,
+        }),
+        Err(StartFault::Full) => Ok(Outcome::Refused { why: Refusal::Full }),
         Err(StartFault::Memory) => Err(AllocError),
         Err(StartFault::Fault) => Ok(Outcome::Fault),
     }
@@ -56,8 +62,10 @@ pub fn turn_at<D: Bay, F: FlowSet, J: Judge>(
     match node.turn_whole(alloc, now, pick, contracts) {
         Ok(Turned::Idle) => Ok(Outcome::Idle),
         Ok(Turned::Moved { flow }) => Ok(Outcome::Moved { flow }),
-        Err(TurnFault::NodeDown) => Ok(Outcome::Refused { code: 3 }),
-        Err(TurnFault::Full) => Ok(Outcome::Refused { code: 9 }),
+        Err(TurnFault::NodeDown) => Ok(Outcome::Refused {
+            why: Refusal::NodeDown,
+        }),
+        Err(TurnFault::Full) => Ok(Outcome::Refused { why: Refusal::Full }),
         Err(TurnFault::Memory) => Err(AllocError),
         Err(TurnFault::Fault) => Ok(Outcome::Fault),
     }
@@ -77,9 +85,9 @@ pub fn post_at<D: Bay, F: FlowSet>(
     }
 }
 
-/// What a frame came to at a node, and the acknowledgement that it sends, if there is one.
+/// The outcome of a frame at a node, and the acknowledgement that it sends, if there is one.
 #[derive(Drop)]
-pub struct Reply {
+pub struct Delivery {
     pub outcome: Outcome,
     pub ack: Option<Outgoing>,
 }
@@ -90,26 +98,28 @@ pub fn take_at<D: Bay, F: FlowSet>(
     node: &mut Node<D, F>,
     now: Moment,
     bytes: &[u8],
-) -> Result<Reply, AllocError>
+) -> Result<Delivery, AllocError>
     requires { IsBy F.reading node.old.journal now.0 }
     ensures serves { TakeServes (unjudged F.machine F.reading) now.0 bytes.now node.old result node.new }
     ensures by { IsBy F.reading node.new.journal now.0 }
 {
-    reply_of(node.take(alloc, now, bytes))
+    delivery_of(node.take(alloc, now, bytes))
 }
 
-/// The outcome of a frame that was handed to a node. One that spells no frame, or is another's, is of no session; none that waits in a
-/// coherent world is such a one.
-fn reply_of(answer: Result<Taken, TakeFault>) -> Result<Reply, AllocError>
+/// The outcome of a frame that was handed to a node. Bytes that spell no frame, or one for another node, are of no session; in a coherent
+/// world no such bytes wait.
+fn delivery_of(answer: Result<Taken, TakeFault>) -> Result<Delivery, AllocError>
     ensures outcome { reached result ≡ take_outcome answer }
     ensures sent { replied result ≡ take_sent answer }
     ensures counted { IsCounted answer }
 {
     match answer {
-        Ok(taken) => Ok(reply_to(taken)),
+        Ok(taken) => Ok(delivery_by(taken)),
         Err(TakeFault::Memory) => Err(AllocError),
-        Err(TakeFault::NodeDown) => Ok(without_ack(Outcome::Refused { code: 3 })),
-        Err(TakeFault::Full) => Ok(without_ack(Outcome::Refused { code: 9 })),
+        Err(TakeFault::NodeDown) => Ok(without_ack(Outcome::Refused {
+            why: Refusal::NodeDown,
+        })),
+        Err(TakeFault::Full) => Ok(without_ack(Outcome::Refused { why: Refusal::Full })),
         Err(TakeFault::Fault) => Ok(without_ack(Outcome::Fault)),
         Err(TakeFault::Garbled) => Ok(without_ack(Outcome::NoSession)),
         Err(TakeFault::NotMine { .. }) => Ok(without_ack(Outcome::NoSession)),
@@ -117,7 +127,7 @@ fn reply_of(answer: Result<Taken, TakeFault>) -> Result<Reply, AllocError>
 }
 
 /// The outcome of a frame that a node took.
-fn reply_to(taken: Taken) -> Reply
+fn delivery_by(taken: Taken) -> Delivery
     ensures outcome { Some result.outcome ≡ take_outcome (Ok taken) }
     ensures sent { option_to_list result.ack ≡ take_sent (Ok taken) }
     ensures counted { IsCounted (Ok taken) }
@@ -126,11 +136,11 @@ fn reply_to(taken: Taken) -> Reply
         Taken::Acked => without_ack(Outcome::Acked),
         Taken::NoSession => without_ack(Outcome::NoSession),
         Taken::Early { expected } => without_ack(Outcome::Early { expected }),
-        Taken::Again { expected, ack } => Reply {
+        Taken::Again { expected, ack } => Delivery {
             outcome: Outcome::Again { expected },
             ack: Some(ack),
         },
-        Taken::Took { upto, ack } => Reply {
+        Taken::Took { upto, ack } => Delivery {
             outcome: Outcome::Took { upto },
             ack: Some(ack),
         },
@@ -138,11 +148,11 @@ fn reply_to(taken: Taken) -> Reply
 }
 
 /// An outcome by which nothing is sent.
-fn without_ack(outcome: Outcome) -> Reply
+fn without_ack(outcome: Outcome) -> Delivery
     ensures outcome { result.outcome ≡ outcome }
     ensures ack { result.ack ≡ None }
 {
-    Reply { outcome, ack: None }
+    Delivery { outcome, ack: None }
 }
 
 /// Whether a frame that was handed over with this outcome waits on.
@@ -168,8 +178,12 @@ pub fn cut_at<D: Bay, F: FlowSet>(
         } else {
             Outcome::Armed
         }),
-        Err(CutFault::NodeDown) => Ok(Outcome::Refused { code: 3 }),
-        Err(CutFault::NoFuse) => Ok(Outcome::Refused { code: 8 }),
+        Err(CutFault::NodeDown) => Ok(Outcome::Refused {
+            why: Refusal::NodeDown,
+        }),
+        Err(CutFault::NoFuse) => Ok(Outcome::Refused {
+            why: Refusal::NoFuse,
+        }),
     }
 }
 
@@ -181,7 +195,9 @@ pub fn boot_at<D: Bay, F: FlowSet>(
     ensures { BootServes F.reading node.old result node.new }
 {
     if node.is_up() {
-        return Ok(Outcome::Refused { code: 4 });
+        return Ok(Outcome::Refused {
+            why: Refusal::NodeUp,
+        });
     }
     node.restore_power();
     boot_outcome(node.boot(alloc))
@@ -195,8 +211,14 @@ fn boot_outcome(answer: Result<(), BootFault>) -> Result<Outcome, AllocError>
         Ok(()) => Ok(Outcome::Booted),
         Err(BootFault::Fault) => Ok(Outcome::Fault),
         Err(BootFault::Memory) => Err(AllocError),
-        Err(BootFault::NotAJournal) => Ok(Outcome::Refused { code: 13 }),
-        Err(BootFault::WrongNode { .. }) => Ok(Outcome::Refused { code: 13 }),
-        Err(BootFault::Damaged { .. }) => Ok(Outcome::Refused { code: 13 }),
+        Err(BootFault::NotAJournal) => Ok(Outcome::Refused {
+            why: Refusal::Journal,
+        }),
+        Err(BootFault::WrongNode { .. }) => Ok(Outcome::Refused {
+            why: Refusal::Journal,
+        }),
+        Err(BootFault::Damaged { .. }) => Ok(Outcome::Refused {
+            why: Refusal::Journal,
+        }),
     }
 }

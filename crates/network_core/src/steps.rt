@@ -1,5 +1,6 @@
 //! The steps of a network, and what they answer.
 
+use super::Refusal;
 use net_base::{ByteList, Moment};
 
 /// One step of a network. Nodes are named by their places, from 0.
@@ -57,7 +58,7 @@ pub enum Step {
     Drain,
 }
 
-/// What a step came to.
+/// The outcome of a step.
 #[derive(Clone, Copy, PartialEq)]
 pub enum Outcome {
     /// The moment is as asked.
@@ -68,13 +69,13 @@ pub enum Outcome {
     Moved { flow: u32 },
     /// No flow, or not the picked one, can go on.
     Idle,
-    /// So many frames were new among those that wait where they go.
+    /// `count` frames were new among those that wait where they go.
     Posted { count: u64 },
-    /// The item is committed: so many of its session have arrived.
+    /// The item is committed: `upto` items of its session have arrived.
     Took { upto: u32 },
     /// The acknowledgement is noted.
     Acked,
-    /// The item had arrived before; so many of its session have arrived.
+    /// The item had arrived before; `expected` items of its session have arrived.
     Again { expected: u32 },
     /// The frame is ahead of the node: of the item with this number, or of more than this number of items.
     Early { expected: u32 },
@@ -92,8 +93,6 @@ pub enum Outcome {
     Fault,
     /// A round committed nothing, or a journal is full.
     Drained { full: bool },
-    /// Nothing changed but, with 13, the power: 1 the outcome of a cut is above 3, 2 there is no such node, 3 the node is down, 4 it is
-    /// up, 5 the class of a flow is unknown, 6 its arguments are refused, 7 no frame waits at that place, 8 the disk is a file, 9 the
-    /// journal is full, 10 the moment is past, 13 the boot found no journal of this node, or a damaged one.
-    Refused { code: u8 },
+    /// Nothing changed but, at a boot, the power.
+    Refused { why: Refusal },
 }

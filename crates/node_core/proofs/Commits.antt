@@ -142,7 +142,6 @@ module _ {F : Type 0} (w : Environment F) (id : Identity) (now : ℕ) (within : 
 
     failed : (fault : CommitFault) → more ≡ bodies → after ≡ acked → LogsAs w.frame_at (record { cause = cause; effect = effect }) bodies old (Err fault) new
         → CommitsAs w id now step.cause.event item {T = Unit {0}} (record { journal = old; bodies = bodies; acked = acked }) (Err fault) (record { journal = new; bodies = more; acked = after })
-    failed commit_fault.Full longer acks said = said
     failed commit_fault.Memory longer acks said = (longer, acks, said.0, subst (λ b. Tied id new b) (sym longer) (subst (λ i. Tied i new bodies) of said.1))
     failed commit_fault.Fault longer acks said = (
       said.0,

@@ -22,6 +22,5 @@ commits_up w id now e item t old new c = record {
 -- it goes down where its disk failed
 pub faults_up : {F : Type 0} (w : Environment F) (id : Identity) (now : ℕ) (e : Event) (item : Option Sent) (fault : CommitFault) (old new : UpSeen) → fault ≡ commit_fault.Fault → CommitsAs w id now e item {T = Unit {0}} old (Err fault) new
     → Faults w now old.bodies e item (seen_up id old) (seen_down id new)
-faults_up w id now e item commit_fault.Full old new is c = cc
 faults_up w id now e item commit_fault.Memory old new is c = cc
 faults_up w id now e item commit_fault.Fault old new is c = record { body = c.0; failing = c.1; journal = refl; acked = refl; identity = refl }

@@ -92,10 +92,7 @@ pub record StillWaits {F : Type 0} (me : Identity) (s : NodeState F) (job : Job)
 abbrev pub NotAwaited : {F : Type 0} → Identity → NodeState F → Job → SettleFault → Type 0
 NotAwaited me s job (settle_fault.Stale have given) = (have ≡ step_at s.flows job.flow) × (given ≡ job.step) × (have ≡ Some given → ⊥)
 NotAwaited me s job (settle_fault.Foreign f) = (f ≡ job.flow) × (step_at s.flows job.flow ≡ Some job.step) × (awaited_in me s (event.Move job.flow) ≡ Some job → ⊥)
-NotAwaited me s job settle_fault.NodeDown = ⊥
-NotAwaited me s job settle_fault.Full = ⊥
-NotAwaited me s job settle_fault.Memory = ⊥
-NotAwaited me s job settle_fault.Fault = ⊥
+NotAwaited me s job _ = ⊥
 
 -- what settling a job answers at a node that is up: its flow goes on by the machine's step at this moment, where it still waits for just this job
 abbrev pub SettlesAs : {F : Type 0} → Environment F → ℕ → Job → List (List ℕ) → NodeSeen → Result ℕ SettleFault → NodeSeen → Type 0

@@ -106,7 +106,6 @@ pub record Failing {F : Type 0} (w : Environment F) (id : Identity) (now : ℕ) 
 -- what an append of a record answers: every image has it; nothing changed but the room; or it may stand or not
 abbrev pub LogsAs : {F : Type 0} → Reads F → Record F → List (List ℕ) → JournalView → Result (List ℕ) CommitFault → JournalView → Type 0
 LogsAs frame_at r bodies old (Ok body) new = (record_of frame_at body ≡ Some r) × Tied old.of new (bodies ++ body ∷ []) × Moves (roomless old.disk) (roomless new.disk) (OldOrMore bodies body) × KeepsForm old.of (roomless old.disk) (roomless new.disk) × (old.disk.calm ≡ true → new.disk.calm ≡ true) × AppendsWithPower (roomless old.disk) (roomless new.disk)
-LogsAs frame_at r bodies old (Err commit_fault.Full) new = ⊥
 LogsAs frame_at r bodies old (Err commit_fault.Memory) new = (roomless new.disk ≡ roomless old.disk) × Tied old.of new bodies
 LogsAs frame_at r bodies old (Err commit_fault.Fault) new = (body : List ℕ) × (record_of frame_at body ≡ Some r) × Moves (roomless old.disk) (roomless new.disk) (OldOrMore bodies body) × KeepsForm old.of (roomless old.disk) (roomless new.disk) × Rose old.disk.faults new.disk.faults × (old.disk.calm ≡ true → ⊥) × BurnsUpTo 4 (roomless old.disk) (roomless new.disk)
 
@@ -124,7 +123,6 @@ pub record MayCommit {F : Type 0} (w : Environment F) (id : Identity) (now : ℕ
 abbrev pub CommitsAs : {F : Type 0} → Environment F → Identity → ℕ → Event → Option Sent → {T : Type 0} → UpSeen → Result T CommitFault → UpSeen → Type 0
 CommitsAs w id now event item old (Ok _) new =
     (body : List ℕ) × Appended w id now old.bodies event item body (roomless old.journal.disk) (roomless new.journal.disk) × (new.bodies ≡ old.bodies ++ body ∷ []) × (new.acked ≡ acks_over w old.acked new.bodies) × Tied id new.journal new.bodies
-CommitsAs w id now event item old (Err commit_fault.Full) new = ⊥
 CommitsAs w id now event item old (Err commit_fault.Memory) new = (new.bodies ≡ old.bodies) × (new.acked ≡ old.acked) × (roomless new.journal.disk ≡ roomless old.journal.disk) × Tied id new.journal new.bodies
 CommitsAs w id now event item old (Err commit_fault.Fault) new = (body : List ℕ) × Failing w id now old.bodies event item body (roomless old.journal.disk) (roomless new.journal.disk)
 
@@ -159,12 +157,12 @@ flow_count w bodies = length (state_of w.frame_at bodies).flows
 -- what a start answers at a node that is up
 abbrev pub StartsAs : {F : Type 0} → Environment F → ℕ → ℕ → List ℕ → List (List ℕ) → NodeSeen → Result ℕ StartFault → NodeSeen → Type 0
 StartsAs w now class args bodies old (Ok f) new = (f ≡ flow_count w bodies) × Commits w now bodies (event.Start f class args) None old new
-StartsAs w now class args bodies old (Err start_fault.NodeDown) new = ⊥
 StartsAs w now class args bodies old (Err start_fault.UnknownClass) new = (w.machine.made class args (place w old.identity.party.0 (flow_count w bodies) 0 now) ≡ Err make.UnknownClass) × (new ≡ old)
 StartsAs w now class args bodies old (Err start_fault.BadArgs) new = (w.machine.made class args (place w old.identity.party.0 (flow_count w bodies) 0 now) ≡ Err make.BadArgs) × (new ≡ old)
 StartsAs w now class args bodies old (Err start_fault.Full) new = IsOk (w.machine.made class args (place w old.identity.party.0 (flow_count w bodies) 0 now)) × (is_full w.frame_at 0 bodies ≡ true) × (new ≡ old)
 StartsAs w now class args bodies old (Err start_fault.Memory) new = new ≡ old
 StartsAs w now class args bodies old (Err start_fault.Fault) new = Faults w now bodies (event.Start (flow_count w bodies) class args) None old new
+StartsAs w now class args bodies old (Err start_fault.NodeDown) new = ⊥
 
 -- the event by which a node with this journal goes on
 abbrev pub picked_at : {F : Type 0} → Environment F → ℕ → Option ℕ → List (List ℕ) → Option Event
@@ -174,10 +172,10 @@ picked_at w now pick bodies = picked (state_of w.frame_at bodies).sessions now p
 abbrev pub TurnsAs : {F : Type 0} → Environment F → ℕ → Option ℕ → List (List ℕ) → NodeSeen → Result Turned TurnFault → NodeSeen → Type 0
 TurnsAs w now pick bodies old (Ok turned.Idle) new = (picked_at w now pick bodies ≡ None) × (new ≡ old)
 TurnsAs w now pick bodies old (Ok (turned.Moved f)) new = (event : Event) × (picked_at w now pick bodies ≡ Some event) × (flow_in event ≡ f) × Commits w now bodies event None old new
-TurnsAs w now pick bodies old (Err turn_fault.NodeDown) new = ⊥
 TurnsAs w now pick bodies old (Err turn_fault.Full) new = (event : Event) × (picked_at w now pick bodies ≡ Some event) × (is_full w.frame_at 0 bodies ≡ true) × (new ≡ old)
 TurnsAs w now pick bodies old (Err turn_fault.Memory) new = (event : Event) × (picked_at w now pick bodies ≡ Some event) × (is_full w.frame_at 0 bodies ≡ false) × (new ≡ old)
 TurnsAs w now pick bodies old (Err turn_fault.Fault) new = (event : Event) × (picked_at w now pick bodies ≡ Some event) × Faults w now bodies event None old new
+TurnsAs w now pick bodies old (Err turn_fault.NodeDown) new = ⊥
 
 -- what a start answers at any node: exactly at one that is down, that it is down
 abbrev pub StartAnswers : {F : Type 0} → Environment F → ℕ → ℕ → List ℕ → NodeSeen → Result ℕ StartFault → NodeSeen → Type 0
@@ -238,17 +236,13 @@ Unopened id old why new = (fault : OpenFault) × (why ≡ boot_of fault) × Refu
 abbrev pub Unfit : {F : Type 0} → Reads F → Identity → DiskView → BootFault → DiskView → Type 0
 Unfit frame_at id old (boot_fault.Damaged at) new = (list : List (ℕ × List ℕ)) × Opens id old new list × (misfit frame_at id.notary id.nodes id.party list ≡ Some at)
 Unfit frame_at id old boot_fault.Memory new = (list : List (ℕ × List ℕ)) × Opens id old new list
-Unfit frame_at id old boot_fault.Fault new = ⊥
-Unfit frame_at id old boot_fault.NotAJournal new = ⊥
-Unfit frame_at id old (boot_fault.WrongNode found) new = ⊥
+Unfit frame_at id old _ new = ⊥
 
 -- a boot gave up: the disk failed, or memory ran out
 abbrev pub GaveUp : BootFault → Type 0
 GaveUp boot_fault.Fault = ⊤
 GaveUp boot_fault.Memory = ⊤
-GaveUp boot_fault.NotAJournal = ⊥
-GaveUp (boot_fault.WrongNode found) = ⊥
-GaveUp (boot_fault.Damaged at) = ⊥
+GaveUp _ = ⊥
 
 -- a boot was refused: what is kept spells the same journal, and is the same bytes where a journal was begun and finished, but after a fault; where no image was foreign or damaged as it began, it gave up, or a record doesn't fit
 pub record Unbooted {F : Type 0} (frame_at : Reads F) (id : Identity) (old : DiskView) (why : BootFault) (new : DiskView) : Type 0 where

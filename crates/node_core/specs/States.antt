@@ -25,15 +25,13 @@ disk_in seen Moved = no_disk
 
 -- the bodies of a node that is up
 abbrev pub journal_in : {D F : Type 0} → State D F → Option (List (List ℕ))
-journal_in (Down disk) = None
 journal_in (Up up) = Some up.bodies
-journal_in Moved = None
+journal_in _ = None
 
 -- the acknowledged numbers of a node that is up
 abbrev pub acked_in : {D F : Type 0} → State D F → List ℕ
-acked_in (Down disk) = []
 acked_in (Up up) = up.acked
-acked_in Moved = []
+acked_in _ = []
 
 -- a node is up with a journal that took every append, or down
 abbrev pub IsWhole : {D F : Type 0} → Identity → State D F → Type 0
@@ -44,8 +42,7 @@ IsWhole id Moved = ⊥
 -- a node is down, with its disk
 abbrev pub IsDown : {D F : Type 0} → State D F → Type 0
 IsDown (Down disk) = ⊤
-IsDown (Up up) = ⊥
-IsDown Moved = ⊥
+IsDown _ = ⊥
 
 -- what contracts see of a node in this state
 abbrev pub seen_in : {D F : Type 0} → (D → DiskView) → Identity → State D F → NodeSeen

@@ -39,16 +39,9 @@ ack_to me from key direction upto = record { to = from; bytes = frame (Ack me fr
 abbrev pub AcceptsAs : {F : Type 0} → Environment F → ℕ → List (List ℕ) → Party → Key → ℕ → ℕ → Sent → NodeSeen → Result Taken TakeFault → NodeSeen → Type 0
 AcceptsAs w now bodies from key direction number item old (Ok (taken.Took upto ack)) new =
     (upto ≡ number + 1) × (ack ≡ ack_to old.identity.party from key direction (number + 1)) × Commits w now bodies (accepting (state_of w.frame_at bodies).sessions key direction number) (Some item) old new
-AcceptsAs w now bodies from key direction number item old (Ok taken.Acked) new = ⊥
-AcceptsAs w now bodies from key direction number item old (Ok (taken.Again expected ack)) new = ⊥
-AcceptsAs w now bodies from key direction number item old (Ok (taken.Early expected)) new = ⊥
-AcceptsAs w now bodies from key direction number item old (Ok taken.NoSession) new = ⊥
-AcceptsAs w now bodies from key direction number item old (Err take_fault.NodeDown) new = ⊥
-AcceptsAs w now bodies from key direction number item old (Err take_fault.Garbled) new = ⊥
-AcceptsAs w now bodies from key direction number item old (Err (take_fault.NotMine to)) new = ⊥
 AcceptsAs w now bodies from key direction number item old (Err take_fault.Full) new = (is_full w.frame_at item.stamp bodies ≡ true) × (new ≡ old)
-AcceptsAs w now bodies from key direction number item old (Err take_fault.Memory) new = ⊥
 AcceptsAs w now bodies from key direction number item old (Err take_fault.Fault) new = Faults w now bodies (accepting (state_of w.frame_at bodies).sessions key direction number) (Some item) old new
+AcceptsAs w now bodies from key direction number item old _ new = ⊥
 
 -- what a node that is up answers, by what it says of the frame; nothing but an item that comes next is committed
 abbrev pub Responds : {F : Type 0} → Environment F → ℕ → List (List ℕ) → Judged → NodeSeen → Result Taken TakeFault → NodeSeen → Type 0

@@ -1,8 +1,10 @@
 //! What the calls of a node answer.
 
+use disk_journal::OpenFault;
 use flow_machine::MakeFault;
 use ledger_acts::Job;
 use net_base::{Boxed, Identity, Party};
+use node_tables::RebuildFault;
 use session_frames::Outgoing;
 use std::alloc::AllocError;
 use thiserror::Error;
@@ -93,7 +95,7 @@ pub enum SettleFault {
 /// What a node answers to a frame that is its own.
 #[derive(Debug, Drop)]
 pub enum Taken {
-    /// So many of the items that the node sent in the session have arrived, which it notes until it goes down.
+    /// Items that the node sent in the session have arrived, which it notes until it goes down.
     Acked,
     /// The item had arrived before: `expected` items of its direction of the session have. The acknowledgement is to be sent again.
     Again { expected: u32, ack: Outgoing },
@@ -176,8 +178,6 @@ pub enum BootFault {
 /// Why a record was not appended.
 #[derive(Clone, Copy, Debug, PartialEq, Eq)]
 pub enum CommitFault {
-    /// The journal takes no more records.
-    Full,
     /// Out of memory; nothing changed.
     Memory,
     /// The disk failed.
@@ -228,6 +228,37 @@ impl From<MakeFault> for StartFault {
             MakeFault::UnknownClass => StartFault::UnknownClass,
             MakeFault::BadArgs => StartFault::BadArgs,
             MakeFault::Memory => StartFault::Memory,
+        }
+    }
+}
+
+impl From<OpenFault> for BootFault {
+    ghost use Rattle.std.specs.Prelude.{◌≡◌};
+    ghost use Rattle.node_core.specs.Seen.{boot_of};
+
+    ghost from_gives = { λ why e. e ≡ boot_of why };
+
+    fn from(why: OpenFault) -> BootFault {
+        match why {
+            OpenFault::Fault => BootFault::Fault,
+            OpenFault::NotAJournal => BootFault::NotAJournal,
+            OpenFault::WrongNode { found } => BootFault::WrongNode { found },
+            OpenFault::Damaged { at } => BootFault::Damaged { at },
+            OpenFault::Memory => BootFault::Memory,
+        }
+    }
+}
+
+impl From<RebuildFault> for BootFault {
+    ghost use Rattle.std.specs.Prelude.{◌≡◌};
+    ghost use Rattle.node_core.specs.Seen.{boot_by};
+
+    ghost from_gives = { λ why e. e ≡ boot_by why };
+
+    fn from(why: RebuildFault) -> BootFault {
+        match why {
+            RebuildFault::Damaged { at } => BootFault::Damaged { at },
+            RebuildFault::Memory => BootFault::Memory,
         }
     }
 }

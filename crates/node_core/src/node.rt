@@ -14,7 +14,7 @@ ghost use Rattle.node_core.specs.States.{disk_in, journal_in, is_fault, seen_in,
 ghost use Rattle.node_core.specs.Takes.{TakeAnswers, SendAnswers};
 
 use super::faults::CommitFault;
-use super::up::{Up, let_go};
+use super::up::Up;
 use super::{
     BootFault, CutFault, SettleFault, SharedTurn, StartFault, TakeFault, Taken, TurnFault, Turned,
     UnackedFault,
@@ -205,12 +205,11 @@ impl<D: Disk, F: FlowSet> Node<D, F> {
         let number = up.flows().count();
         let step = up.begin(alloc, &self.identity, now, class, args)?;
         if up.is_full(0) {
-            let_go(step);
+            drop(step);
             return Err(StartFault::Full);
         }
         match up.commit_alone(alloc, &self.identity, now, step) {
             Ok(()) => Ok(number),
-            Err(CommitFault::Full) => unreachable!(),
             Err(CommitFault::Memory) => Err(StartFault::Memory),
             Err(CommitFault::Fault) => {
                 go_down(&mut self.state);
@@ -251,7 +250,6 @@ impl<D: Disk, F: FlowSet> Node<D, F> {
         let flow = flow_in(&picked.event);
         match up.go_on(alloc, &self.identity, now, picked, contracts) {
             Ok(()) => Ok(Turned::Moved { flow }),
-            Err(CommitFault::Full) => unreachable!(),
             Err(CommitFault::Memory) => Err(TurnFault::Memory),
             Err(CommitFault::Fault) => {
                 go_down(&mut self.state);
@@ -291,7 +289,6 @@ impl<D: Disk, F: FlowSet> Node<D, F> {
         let flow = flow_in(&picked.event);
         match up.go_on_free(alloc, &self.identity, now, picked) {
             Ok(()) => Ok(SharedTurn::Moved { flow }),
-            Err(CommitFault::Full) => unreachable!(),
             Err(CommitFault::Memory) => Err(TurnFault::Memory),
             Err(CommitFault::Fault) => {
                 go_down(&mut self.state);
@@ -322,21 +319,20 @@ impl<D: Disk, F: FlowSet> Node<D, F> {
         ensures by { IsBy F.reading self.new.journal now.0 }
     {
         let State::Up { up } = &mut self.state else {
-            let_go(done);
+            drop(done);
             return Err(SettleFault::NodeDown);
         };
         if let Err(why) = up.check(&self.identity, &done.job) {
-            let_go(done);
+            drop(done);
             return Err(why);
         }
         if up.is_full(0) {
-            let_go(done);
+            drop(done);
             return Err(SettleFault::Full);
         }
         let flow = done.job.flow;
         match up.settle(alloc, &self.identity, now, done, contracts) {
             Ok(()) => Ok(flow),
-            Err(CommitFault::Full) => unreachable!(),
             Err(CommitFault::Memory) => Err(SettleFault::Memory),
             Err(CommitFault::Fault) => {
                 go_down(&mut self.state);

@@ -11,7 +11,6 @@ ghost use Rattle.node_core.specs.Seen.{BootsAs, CutAnswers, IsBy, StartAnswers};
 ghost use Rattle.node_core.specs.Takes.{TakeAnswers};
 
 use super::node::Node;
-use super::up::let_go;
 use super::{
     BootFault, CutFault, SettleFault, SharedTurn, StartFault, TakeFault, Taken, TurnFault, Turned,
 };
@@ -78,7 +77,7 @@ impl<D: Disk, F: Spelt + Drop> SharedNode<D, F> {
         ensures { result ≡ self.node }
     {
         let SharedNode { node, claims } = self;
-        let_go(claims);
+        drop(claims);
         node
     }
 
@@ -296,7 +295,7 @@ fn claim(claims: &mut Vec<u32>, job: Boxed<Job>) -> Result<SharedTurn, TurnFault
     ensures answer { (result ≡ Ok (shared_turn.Job job)) ⊎ (result ≡ Err turn_fault.Memory) }
 {
     if claims.push(job.get().flow).is_err() {
-        let_go(job);
+        drop(job);
         return Err(TurnFault::Memory);
     }
     Ok(SharedTurn::Job { job })

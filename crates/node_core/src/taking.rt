@@ -11,7 +11,7 @@ ghost use Rattle.node_core.specs.States.{seen_up, seen_after, TakesItem};
 ghost use Rattle.node_core.specs.Takes.{accepting, ack_to, TakesAs};
 
 use super::faults::{CommitFault, TakeFault, Taken};
-use super::up::{Up, let_go};
+use super::up::Up;
 use flow_machine::FlowSet;
 use net_base::{Identity, Key, Moment, Party};
 use outside::Disk;
@@ -112,7 +112,7 @@ impl<D: Disk, F: FlowSet> Up<D, F> {
     {
         self.known_next(identity, &item);
         if self.is_full(item.stamp) {
-            let_go(item);
+            drop(item);
             return Err(TakeFault::Full);
         }
         let upto = item.number + 1;
@@ -126,7 +126,7 @@ impl<D: Disk, F: FlowSet> Up<D, F> {
         ) {
             Ok(ack) => self.accept(alloc, identity, now, item, ack),
             Err(_) => {
-                let_go(item);
+                drop(item);
                 Err(TakeFault::Memory)
             }
         }
@@ -156,9 +156,8 @@ impl<D: Disk, F: FlowSet> Up<D, F> {
         match self.commit_item(alloc, identity, now, item) {
             Ok(()) => Ok(Taken::Took { upto, ack }),
             Err(why) => {
-                let_go(ack);
+                drop(ack);
                 match why {
-                    CommitFault::Full => unreachable!(),
                     CommitFault::Memory => Err(TakeFault::Memory),
                     CommitFault::Fault => Err(TakeFault::Fault),
                 }

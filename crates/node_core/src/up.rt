@@ -20,7 +20,7 @@ ghost use Rattle.node_tables.specs.Journals.{state_of, causes_of};
 ghost use Rattle.node_tables.specs.Seen.{padded, HasRooms};
 ghost use Rattle.node_core.specs.Journals.{is_full};
 ghost use Rattle.node_core.specs.Disks.{roomless};
-ghost use Rattle.node_core.specs.Seen.{CommitsAs, LogsAs, MayCommit, Tied, Booted, Unbooted, boot_by, boot_of, picked_at};
+ghost use Rattle.node_core.specs.Seen.{CommitsAs, LogsAs, MayCommit, Tied, Booted, Unbooted, picked_at};
 ghost use Rattle.node_core.specs.Takes.{accepting, unacked_at};
 ghost use Rattle.node_core.specs.Idle.{AreIdle};
 
@@ -29,13 +29,13 @@ use super::faults::CommitFault;
 use super::idle::{Idle, Picked};
 use checkpoints::Flows;
 use contract_verify::Judge;
-use disk_journal::{AppendFault, Journal, OpenFault};
+use disk_journal::{AppendFault, Journal};
 use flow_machine::{FlowSet, MakeFault};
 use flow_records::{Step, spell_step};
 use flow_steps::{advance, answer_init, arrive_item, begin, flow_in, pick_event, settle, take_job};
 use ledger_tables::LedgerTables;
 use net_base::{ByteList, Cause, Event, Identity, Key, Moment, Spelt, Unlimited};
-use node_tables::{NodeTables, RebuildFault, rebuild};
+use node_tables::{NodeTables, rebuild};
 use outside::{Bay, Disk, NoFuse};
 use session_frames::{Judged, OutgoingList, frames_to_send, judge};
 use session_table::Item;
@@ -74,34 +74,6 @@ pub struct BootRefused<D: Disk> {
     pub why: BootFault,
 }
 
-/// Lets a value go.
-pub fn let_go<T: Drop>(value: T) {
-    let _ = value;
-}
-
-/// What a refused opening is at a boot.
-fn boot_fault(why: OpenFault) -> BootFault
-    ensures { result ≡ boot_of why }
-{
-    match why {
-        OpenFault::Fault => BootFault::Fault,
-        OpenFault::NotAJournal => BootFault::NotAJournal,
-        OpenFault::WrongNode { found } => BootFault::WrongNode { found },
-        OpenFault::Damaged { at } => BootFault::Damaged { at },
-        OpenFault::Memory => BootFault::Memory,
-    }
-}
-
-/// What a refused rebuilding of the tables is at a boot.
-fn rebuild_fault(why: RebuildFault) -> BootFault
-    ensures { result ≡ boot_by why }
-{
-    match why {
-        RebuildFault::Damaged { at } => BootFault::Damaged { at },
-        RebuildFault::Memory => BootFault::Memory,
-    }
-}
-
 impl<D: Disk, F: Spelt + Drop> Up<D, F> {
     /// Opens the journal, and rebuilds the tables from its records.
     pub fn open(alloc: Global, disk: D, identity: Identity) -> Result<Up<D, F>, BootRefused<D>>
@@ -114,7 +86,7 @@ impl<D: Disk, F: Spelt + Drop> Up<D, F> {
             Err(refused) => {
                 return Err(BootRefused {
                     disk: refused.disk,
-                    why: boot_fault(refused.why),
+                    why: BootFault::from(refused.why),
                 });
             }
         };
@@ -126,7 +98,7 @@ impl<D: Disk, F: Spelt + Drop> Up<D, F> {
             }),
             Err(why) => Err(BootRefused {
                 disk: journal.into_disk(),
-                why: rebuild_fault(why),
+                why: BootFault::from(why),
             }),
         }
     }
@@ -153,7 +125,7 @@ impl<D: Disk, F: Spelt + Drop> Up<D, F> {
         judge(alloc, identity, self.tables.sessions(), bytes)
     }
 
-    /// Notes that so many items of a direction of a session arrived.
+    /// Notes that `upto` items of a direction of a session arrived.
     pub fn acknowledge(&mut self, key: &Key, direction: u8, upto: u32)
         requires { (s : Session) → session_of key.now (state_of F.reading self.old.bodies).sessions ≡ Some s → upto ≤ length s.sent }
         ensures journal { self.new.journal ≡ self.old.journal }
@@ -399,7 +371,7 @@ impl<D: Disk, F: FlowSet> Up<D, F> {
                 Ok(())
             }
             Err(fault) => {
-                let_go(step);
+                drop(step);
                 Err(fault)
             }
         }

@@ -14,21 +14,23 @@ use Rattle.shell_words.specs.declared.commands.Command.TheVariants as command
 use Rattle.shell_words.specs.Script.{command_of, words_of, has_no_answer, is_readable}
 use Rattle.node_shell.specs.declared.replies.Reply.{Reply}
 use Rattle.node_shell.specs.declared.replies.Reply.TheVariants.{Told}
-use Rattle.node_shell.specs.Serve.{step_of, start_step, started_by, recorded_in, place_of, Answers, Comes, LineComes, StepComes, Makes, Serves, Leaves}
+use Rattle.node_shell.specs.Loads.{load}
+use Rattle.node_shell.specs.Serve.{Doing, asking, making, going, doing_of, start_step, started_by, recorded_in, place_of, Answers, Comes, LineComes, StepComes, Makes, Serves, Leaves}
 use Rattle.node_shell.specs.Responds.{recorded_seen, StartsNone, IsShown, StepResponds, Responds, CommandResponds, LineResponds, given}
 use Rattle.node_shell.proofs.Shown.{shown_answers, step_shown}
 
 -- nothing was done
-pub still : {F : Type 0} (e : Environment F) (s : Option Step) (w : World) → Leaves e s w w
-still e None w = refl
-still e (Some s) w = inl refl
+pub still : {F : Type 0} (e : Environment F) (d : Doing) (w : World) → Leaves e d w w
+still e asking w = refl
+still e (making s) w = inl refl
+still e (going (load seed count)) w = inl refl
 
 -- a step was made
-pub step_comes : {F E : Type 0} (e : Environment F) (w : World) (asked : Command) (ws : List (List ℕ)) (s : Step) (result : Result Reply E) (v : World) → step_of e.machine (recorded_in e w) asked ws ≡ Some s → StepComes e w s result v → Comes e w asked ws result v
+pub step_comes : {F E : Type 0} (e : Environment F) (w : World) (asked : Command) (ws : List (List ℕ)) (s : Step) (result : Result Reply E) (v : World) → doing_of e.machine (recorded_in e w) asked ws ≡ making s → StepComes e w s result v → Comes e w asked ws result v
 step_comes e w asked ws s (Ok reply) v is h = rw is h
 step_comes e w asked ws s (Err fault) v is h = rw is (inr h)
 
-answer_comes : {F E : Type 0} (e : Environment F) (w : World) (asked : Command) (ws : List (List ℕ)) (result : Result Reply E) → step_of e.machine (recorded_in e w) asked ws ≡ None → IfOk result (λ reply. Answers e w asked ws reply) → Comes e w asked ws result w
+answer_comes : {F E : Type 0} (e : Environment F) (w : World) (asked : Command) (ws : List (List ℕ)) (result : Result Reply E) → doing_of e.machine (recorded_in e w) asked ws ≡ asking → IfOk result (λ reply. Answers e w asked ws reply) → Comes e w asked ws result w
 answer_comes e w asked ws (Ok reply) is h = rw is (h, refl)
 answer_comes e w asked ws (Err fault) is h = rw is refl
 
@@ -82,13 +84,13 @@ module _ {F : Type 0} (m : Meaning F) where
       → KeepsWorld m old new (λ e w v. Comes e w (command_of ws) ws result v)
   asked_as old new asked ws result is keeps = subst (λ (a : Command). KeepsWorld m old new (λ e w v. Comes e w a ws result v)) is keeps
 
-  pub made : {E : Type 0} (old new : NetSeen) (asked : Command) (ws : List (List ℕ)) (s : Step) (result : Result Reply E) → step_of m.machine (recorded_seen m.frame_at old) asked ws ≡ Some s
+  pub made : {E : Type 0} (old new : NetSeen) (asked : Command) (ws : List (List ℕ)) (s : Step) (result : Result Reply E) → doing_of m.machine (recorded_seen m.frame_at old) asked ws ≡ making s
       → KeepsWorld m old new (λ e w v. StepComes e w s result v) → KeepsWorld m old new (λ e w v. Comes e w asked ws result v)
   made old new asked ws s result is keeps id w shows coherent =
       let k = keeps id w shows coherent in
       (k.0, k.1, k.2, step_comes (environment m id) w asked ws s result k.0 (sym (step_shown (environment m id) old w shows asked ws) ∙ is) k.3)
 
-  pub answered : {E : Type 0} (net : NetSeen) (asked : Command) (ws : List (List ℕ)) (result : Result Reply E) → step_of m.machine (recorded_seen m.frame_at net) asked ws ≡ None
+  pub answered : {E : Type 0} (net : NetSeen) (asked : Command) (ws : List (List ℕ)) (result : Result Reply E) → doing_of m.machine (recorded_seen m.frame_at net) asked ws ≡ asking
       → IfOk result (IsShown m net asked ws) → KeepsWorld m net net (λ e w v. Comes e w asked ws result v)
   answered net asked ws result is shown id w shows coherent =
       let e = environment m id in
@@ -108,8 +110,8 @@ module _ {F : Type 0} (m : Meaning F) where
       → KeepsWorld m net net (λ e w v. Serves e w (command.Start node) ws reply v)
   unstarted net node ws fault reply is shown id w shows coherent =
       let e = environment m id in
-      let none : step_of m.machine (recorded_in e w) (command.Start node) ws ≡ None = sym (step_shown e net w shows (command.Start node) ws) ∙ ap (λ x. start_step (place_of node) x) is in
-      (w, shows, coherent, subst (λ (s : Option Step). Makes e w s (command.Start node) ws reply w) (sym none) (shown_answers m id net w shows coherent (command.Start node) ws reply (none_shown net node ws fault reply is shown), refl))
+      let none : doing_of m.machine (recorded_in e w) (command.Start node) ws ≡ asking = sym (step_shown e net w shows (command.Start node) ws) ∙ ap (λ x. start_step (place_of node) x) is in
+      (w, shows, coherent, subst (λ (s : Doing). Makes e w s (command.Start node) ws reply w) (sym none) (shown_answers m id net w shows coherent (command.Start node) ws reply (none_shown net node ws fault reply is shown), refl))
 
   -- ---- over any network
 
@@ -127,7 +129,7 @@ module _ {F : Type 0} (m : Meaning F) where
   pub asked_responds : (old new : NetSeen) (asked : Command) (ws : List (List ℕ)) (reply : Option Reply) → asked ≡ command_of ws → CommandResponds m asked ws old reply new → CommandResponds m (command_of ws) ws old reply new
   asked_responds old new asked ws reply is h = subst (λ (a : Command). CommandResponds m a ws old reply new) is h
 
-  pub shown_responds : {E : Type 0} (net : NetSeen) (asked : Command) (ws : List (List ℕ)) (result : Result Reply E) → step_of m.machine (recorded_seen m.frame_at net) asked ws ≡ None → IfOk result (IsShown m net asked ws) → CommandResponds m asked ws net (given result) net
+  pub shown_responds : {E : Type 0} (net : NetSeen) (asked : Command) (ws : List (List ℕ)) (result : Result Reply E) → doing_of m.machine (recorded_seen m.frame_at net) asked ws ≡ asking → IfOk result (IsShown m net asked ws) → CommandResponds m asked ws net (given result) net
   shown_responds net asked ws (Ok reply) is h = rw is (h, refl)
   shown_responds net asked ws (Err fault) is h = rw is (tt, refl)
 
@@ -141,9 +143,10 @@ module _ {F : Type 0} (m : Meaning F) where
       subst (λ x. Responds m (start_step (place_of node) x) (command.Start node) ws net (Some reply) net) (sym is) (none_shown net node ws fault reply is shown, refl)
 
   -- want of memory before a step was begun
-  pub unbegun : (net : NetSeen) (s : Option Step) (asked : Command) (ws : List (List ℕ)) → Responds m s asked ws net None net
-  unbegun net None asked ws = (tt, refl)
-  unbegun net (Some s) asked ws = inl refl
+  pub unbegun : (net : NetSeen) (d : Doing) (asked : Command) (ws : List (List ℕ)) → Responds m d asked ws net None net
+  unbegun net asking asked ws = (tt, refl)
+  unbegun net (making s) asked ws = inl refl
+  unbegun net (going (load seed count)) asked ws = inl refl
 
 -- ---- a line
 

@@ -1,6 +1,10 @@
 pub mod Stories
 pub mod Going
 pub mod Shown
+pub mod Loading
+pub mod Loaded
+pub mod Drawing
+pub mod LoadEnds
 pub mod TxLines
 pub mod Asked
 pub mod Filling

@@ -2,10 +2,13 @@
 use Rattle.std.proofs.Common.{◌≡◌, inl, inr, ⊎_elim, ℕ, List, Bool, true, false, Option, Some, None, refl, ◌∙◌, ap}
 use Rattle.std.specs.Prelude.{MatchBool}
 use Rattle.net_model.specs.Environment.{Meaning}
+use Rattle.network_core.specs.declared.refusal.Refusal.TheVariants as refusal
+use Rattle.network_core.specs.declared.steps.Outcome.{Outcome}
 use Rattle.network_core.specs.declared.steps.Outcome.TheVariants as outcome
 use Rattle.network_core.specs.declared.steps.Step.{Step}
 use Rattle.network_core.specs.Worlds.{NetSeen}
 use Rattle.network_core.specs.Answers.{answer_of}
+use Rattle.network_core.specs.Served.{NetServe}
 use Rattle.network_core.proofs.Naming.{names_of, step_names}
 use Rattle.shell_words.specs.declared.commands.Command.{Command}
 use Rattle.shell_words.specs.Script.{has_no_answer, is_readable, words_of, command_of}
@@ -13,9 +16,10 @@ use Rattle.node_shell.specs.declared.replies.Reply.{Reply}
 use Rattle.node_shell.specs.declared.replies.Reply.TheVariants.{Silence, Told}
 use Rattle.node_shell.specs.declared.statuses.Status.{Status}
 use Rattle.node_shell.specs.declared.statuses.Status.TheVariants as status
-use Rattle.node_shell.specs.Serve.{step_of}
-use Rattle.node_shell.specs.Responds.{recorded_seen, StepResponds, Responds, CommandResponds, LineResponds, NetLink, NetShort}
+use Rattle.node_shell.specs.Serve.{Doing, asking, making, going, doing_of}
+use Rattle.node_shell.specs.Responds.{net_states, recorded_seen, StepResponds, Responds, CommandResponds, LineResponds, NetLink, NetShort}
 use Rattle.node_shell.specs.Story.{Story, begins, goes_on, CutOff, LeftOff, EndsWith, ScriptRun}
+use Rattle.node_shell.proofs.Loading.{leads_go, course_goes}
 
 module _ {F : Type 0} (m : Meaning F) where
   abbrev Keeps : NetSeen → NetSeen → Type 0
@@ -29,16 +33,20 @@ module _ {F : Type 0} (m : Meaning F) where
   step_responds s a b None (inl is) = unmoved a b is
   step_responds s a b None (inr h) = step_names m s a b (answer_of None) h.0
 
-  responds : (s : Option Step) (asked : Command) (words : List (List ℕ)) (a b : NetSeen) (reply : Option Reply) → Responds m s asked words a reply b → Keeps a b
-  responds (Some s) asked words a b reply h = step_responds s a b reply h
-  responds None asked words a b reply h = unmoved a b h.1
+  follows : (steps : List Step) (outcomes : List Outcome) (all : Bool) (a b : NetSeen) → (net_states m).follows steps outcomes all a b → Keeps a b
+  follows steps outcomes all a b h = leads_go (NetServe m) Keeps unmoved (λ x y z one two. two ∙ one) (λ s x o y answers. step_names m s x y (answer_of o) answers) steps outcomes all a b h.0
+
+  responds : (d : Doing) (asked : Command) (words : List (List ℕ)) (a b : NetSeen) (reply : Option Reply) → Responds m d asked words a reply b → Keeps a b
+  responds (making s) asked words a b reply h = step_responds s a b reply h
+  responds (going c) asked words a b reply h = course_goes (net_states m) Keeps unmoved (λ x y z one two. two ∙ one) follows m.machine c reply a b h
+  responds asking asked words a b reply h = unmoved a b h.1
 
   line_keeps : (a b : NetSeen) (line : List ℕ) (reply : Option Reply) → LineResponds m line a reply b → Keeps a b
   line_keeps a b line reply h = by (has_no_answer line) (is_readable line) h
     where
-      by : (blank plain : Bool) → MatchBool blank ((reply ≡ Some Silence) × (b ≡ a)) (MatchBool plain (CommandResponds m (command_of (words_of line)) (words_of line) a reply b) ((reply ≡ Some (Told (outcome.Refused 1))) × (b ≡ a))) → Keeps a b
+      by : (blank plain : Bool) → MatchBool blank ((reply ≡ Some Silence) × (b ≡ a)) (MatchBool plain (CommandResponds m (command_of (words_of line)) (words_of line) a reply b) ((reply ≡ Some (Told (outcome.Refused refusal.Syntax))) × (b ≡ a))) → Keeps a b
       by true plain h = unmoved a b h.1
-      by false true h = responds (step_of m.machine (recorded_seen m.frame_at a) (command_of (words_of line)) (words_of line)) (command_of (words_of line)) (words_of line) a b reply h
+      by false true h = responds (doing_of m.machine (recorded_seen m.frame_at a) (command_of (words_of line)) (words_of line)) (command_of (words_of line)) (words_of line) a b reply h
       by false false h = unmoved a b h.1
 
   link_keeps : (a b : NetSeen) (line text : List ℕ) → NetLink m a line text b → Keeps a b

@@ -6,6 +6,8 @@ use Rattle.std.specs.List.{slice_get}
 use Rattle.std.specs.Option.{option_map_or}
 use Rattle.std.proofs.lemmas.Option.{same_Some}
 use Rattle.std.proofs.lemmas.List.{length-map}
+use Rattle.network_core.specs.declared.refusal.Refusal.{Refusal}
+use Rattle.network_core.specs.declared.refusal.Refusal.TheVariants as refusal
 use Rattle.net_base.specs.declared.causes.Cause.{Cause}
 use Rattle.net_base.specs.declared.names.Identity.{Identity}
 use Rattle.net_base.specs.declared.values.Hash32.{Hash32}
@@ -34,12 +36,13 @@ use Rattle.shell_words.specs.declared.commands.Command.TheVariants as command
 use Rattle.shell_words.specs.declared.commands.TxName.{TxName}
 use Rattle.shell_words.specs.declared.commands.TxName.TheVariants as name
 use Rattle.node_shell.specs.declared.replies.Reply.{Reply}
-use Rattle.node_shell.specs.Serve.{AtNode, AsksFlow, AsksTx, named_in, tx_query, record_of, AsksHistory, RefusesWords, Answers, IsRefused, causes_in, place_of, flow_of, started_by, start_step, step_of, recorded_by, recorded_up, recorded_in, reply_text}
+use Rattle.node_shell.specs.Replies.{IsRefused, reply_text}
+use Rattle.node_shell.specs.Serve.{AtNode, AsksFlow, AsksTx, named_in, tx_query, record_of, AsksHistory, RefusesWords, Answers, causes_in, place_of, flow_of, started_by, start_step, doing_of, recorded_by, recorded_up, recorded_in}
 use Rattle.node_shell.specs.Responds.{recorded_seen, AtSeen, OfSeen, PrintsVault, PrintsBalance, PrintsBook, PrintsTx, notary_seen, StartsNone, PrintsFlows, PrintsFlow, PrintsHistory, IsShown, causes_up}
 
 -- ---- lists
 
-none_beside : {X Y : Type 0} (xs : List X) (ys : List Y) (p : ℕ) → length xs ≡ length ys → slice_get xs p ≡ None → slice_get ys p ≡ None
+pub none_beside : {X Y : Type 0} (xs : List X) (ys : List Y) (p : ℕ) → length xs ≡ length ys → slice_get xs p ≡ None → slice_get ys p ≡ None
 none_beside [] [] p n h = refl
 none_beside [] (y ∷ ys) p n h = cc
 none_beside (x ∷ xs) [] p n h = cc
@@ -71,11 +74,11 @@ module _ {F : Type 0} (e : Environment F) (net : NetSeen) (w : World) (shows : S
   pub at_node : (p : ℕ) (reply : Reply) (asks : List (List ℕ) → Type 0) (goal : NodeWorld → Type 0) → ((x : NodeWorld) → slice_get w.nodes p ≡ Some x → asks x.journal → goal x) → AtSeen net p reply asks → AtNode w p reply goal
   at_node p reply asks goal to shown = by (slice_get net.nodes p) refl shown
     where
-      up_or_down : (x : NodeWorld) → slice_get w.nodes p ≡ Some x → (journal : Option (List (List ℕ))) → ShowsJournal journal x → MatchOption journal (IsRefused 3 reply) asks → AtNode w p reply goal
+      up_or_down : (x : NodeWorld) → slice_get w.nodes p ≡ Some x → (journal : Option (List (List ℕ))) → ShowsJournal journal x → MatchOption journal (IsRefused refusal.NodeDown reply) asks → AtNode w p reply goal
       up_or_down x here None s is = inr (x, here, inl (s, is))
       up_or_down x here (Some bodies) s is = inr (x, here, inr (s.0, to x here (subst asks (sym s.1) is)))
 
-      by : (o : Option NodeSeen) → slice_get net.nodes p ≡ o → MatchOption o (IsRefused 2 reply) (λ n. MatchOption n.journal (IsRefused 3 reply) asks) → AtNode w p reply goal
+      by : (o : Option NodeSeen) → slice_get net.nodes p ≡ o → MatchOption o (IsRefused refusal.UnknownNode reply) (λ n. MatchOption n.journal (IsRefused refusal.NodeDown reply) asks) → AtNode w p reply goal
       by None none is = inl (none_beside net.nodes w.nodes p (sym shows.count) none, is)
       by (Some n) at is = let x = stands p n at in up_or_down x.0 x.1 n.journal x.2.journal is
 
@@ -83,16 +86,16 @@ module _ {F : Type 0} (e : Environment F) (net : NetSeen) (w : World) (shows : S
   pub of_node : (p : ℕ) (reply : Reply) (asks : Party → List (List ℕ) → Type 0) (goal : NodeWorld → Type 0) → ((x : NodeWorld) → slice_get w.nodes p ≡ Some x → asks (party p) x.journal → goal x) → OfSeen net p reply asks → AtNode w p reply goal
   of_node p reply asks goal to shown = by (slice_get net.nodes p) refl shown
     where
-      up_or_down : (x : NodeWorld) → slice_get w.nodes p ≡ Some x → (me : Party) → me ≡ party p → (journal : Option (List (List ℕ))) → ShowsJournal journal x → MatchOption journal (IsRefused 3 reply) (asks me) → AtNode w p reply goal
+      up_or_down : (x : NodeWorld) → slice_get w.nodes p ≡ Some x → (me : Party) → me ≡ party p → (journal : Option (List (List ℕ))) → ShowsJournal journal x → MatchOption journal (IsRefused refusal.NodeDown reply) (asks me) → AtNode w p reply goal
       up_or_down x here me own None s is = inr (x, here, inl (s, is))
       up_or_down x here me own (Some bodies) s is = inr (x, here, inr (s.0, to x here (subst (λ q. asks q x.journal) own (subst (asks me) (sym s.1) is))))
 
-      by : (o : Option NodeSeen) → slice_get net.nodes p ≡ o → MatchOption o (IsRefused 2 reply) (λ n. MatchOption n.journal (IsRefused 3 reply) (asks n.identity.party)) → AtNode w p reply goal
+      by : (o : Option NodeSeen) → slice_get net.nodes p ≡ o → MatchOption o (IsRefused refusal.UnknownNode reply) (λ n. MatchOption n.journal (IsRefused refusal.NodeDown reply) (asks n.identity.party)) → AtNode w p reply goal
       by None none is = inl (none_beside net.nodes w.nodes p (sym shows.count) none, is)
       by (Some n) at is = let x = stands p n at in up_or_down x.0 x.1 n.identity.party (ap (λ i. i.party) x.2.identity_is) n.journal x.2.journal is
 
--- the step that a command makes depends on what the nodes recorded, and on no more of them
-pub same_step : {F : Type 0} (m : Machine F) (f g : ℕ → List (Hash32 × SignedTx)) → ((p : ℕ) → f p ≡ g p) → (asked : Command) (ws : List (List ℕ)) → step_of m f asked ws ≡ step_of m g asked ws
+-- what a command does depends on what the nodes recorded, and on no more of them
+pub same_step : {F : Type 0} (m : Machine F) (f g : ℕ → List (Hash32 × SignedTx)) → ((p : ℕ) → f p ≡ g p) → (asked : Command) (ws : List (List ℕ)) → doing_of m f asked ws ≡ doing_of m g asked ws
 same_step m f g same (command.Start node) ws = ap (λ recorded. start_step (place_of node) (started_by m recorded ws)) (same (place_of node))
 same_step m f g same (command.Clock to) ws = refl
 same_step m f g same (command.Turn node pick) ws = refl
@@ -110,11 +113,12 @@ same_step m f g same (command.Balance node) ws = refl
 same_step m f g same command.Book ws = refl
 same_step m f g same (command.TxLine node named) ws = refl
 same_step m f g same command.History ws = refl
+same_step m f g same (command.Load seed count) ws = refl
 same_step m f g same command.Quit ws = refl
 same_step m f g same command.Unknown ws = refl
 
 -- so a network's is that of each world that it shows
-pub step_shown : {F : Type 0} (e : Environment F) (net : NetSeen) (w : World) → Shows e net w → (asked : Command) (ws : List (List ℕ)) → step_of e.machine (recorded_seen e.frame_at net) asked ws ≡ step_of e.machine (recorded_in e w) asked ws
+pub step_shown : {F : Type 0} (e : Environment F) (net : NetSeen) (w : World) → Shows e net w → (asked : Command) (ws : List (List ℕ)) → doing_of e.machine (recorded_seen e.frame_at net) asked ws ≡ doing_of e.machine (recorded_in e w) asked ws
 step_shown e net w shows asked ws = same_step e.machine (recorded_seen e.frame_at net) (recorded_in e w) (recorded_shown e net w shows) asked ws
 
 -- ---- what is printed of a coherent world
@@ -260,14 +264,14 @@ up_not_none false None h is none = cc
 up_not_none b (Some x) h is none = cc
 
 -- what is asked of a node that is down, and of one that is up
-pub seen_down : (net : NetSeen) (p : ℕ) (reply : Reply) (asks : List (List ℕ) → Type 0) (n : NodeSeen) → slice_get net.nodes p ≡ Some n → n.journal ≡ None → IsRefused 3 reply → AtSeen net p reply asks
+pub seen_down : (net : NetSeen) (p : ℕ) (reply : Reply) (asks : List (List ℕ) → Type 0) (n : NodeSeen) → slice_get net.nodes p ≡ Some n → n.journal ≡ None → IsRefused refusal.NodeDown reply → AtSeen net p reply asks
 seen_down net p reply asks n at down is = rw (at, down) is
 
 pub seen_up : (net : NetSeen) (p : ℕ) (reply : Reply) (asks : List (List ℕ) → Type 0) (n : NodeSeen) (bodies : List (List ℕ)) → slice_get net.nodes p ≡ Some n → n.journal ≡ Some bodies → asks bodies → AtSeen net p reply asks
 seen_up net p reply asks n bodies at up is = rw (at, up) is
 
 -- so where it is asked also whose node it is
-pub of_down : (net : NetSeen) (p : ℕ) (reply : Reply) (asks : Party → List (List ℕ) → Type 0) (n : NodeSeen) → slice_get net.nodes p ≡ Some n → n.journal ≡ None → IsRefused 3 reply → OfSeen net p reply asks
+pub of_down : (net : NetSeen) (p : ℕ) (reply : Reply) (asks : Party → List (List ℕ) → Type 0) (n : NodeSeen) → slice_get net.nodes p ≡ Some n → n.journal ≡ None → IsRefused refusal.NodeDown reply → OfSeen net p reply asks
 of_down net p reply asks n at down is = rw (at, down) is
 
 pub of_up : (net : NetSeen) (p : ℕ) (reply : Reply) (asks : Party → List (List ℕ) → Type 0) (n : NodeSeen) (bodies : List (List ℕ)) → slice_get net.nodes p ≡ Some n → n.journal ≡ Some bodies → asks n.identity.party bodies → OfSeen net p reply asks
@@ -285,29 +289,29 @@ module _ {F : Type 0} (f : Reads F) (me : Party) (bodies : List (List ℕ)) (tab
   pub book_of_tables : reply_text reply ≡ book_text tables.book.entries → PrintsBook f reply bodies
   book_of_tables is = is ∙ ap book_text holds.book
 
-  pub tx_none : (named : TxName) → named_in named tables.store.list ≡ None → IsRefused 12 reply → PrintsTx f named reply bodies
+  pub tx_none : (named : TxName) → named_in named tables.store.list ≡ None → IsRefused refusal.NoTransaction reply → PrintsTx f named reply bodies
   tx_none named none is = rw (ap (named_in named) (sym holds.store) ∙ none) is
 
   pub tx_some : (named : TxName) (found : Hash32 × SignedTx) → named_in named tables.store.list ≡ Some found → reply_text reply ≡ tx_text found.0 found.1 → PrintsTx f named reply bodies
   tx_some named found some is = rw (ap (named_in named) (sym holds.store) ∙ some) is
 
 -- a refusal that does not depend on the journal
-pub seen_refused : (net : NetSeen) (p : ℕ) (reply : Reply) (code : ℕ) (n : NodeSeen) → slice_get net.nodes p ≡ Some n → (n.journal ≡ None → ⊥) → IsRefused code reply → AtSeen net p reply (λ bodies. IsRefused code reply)
-seen_refused net p reply code n at up is = rw at (by n.journal up)
+pub seen_refused : (net : NetSeen) (p : ℕ) (reply : Reply) (why : Refusal) (n : NodeSeen) → slice_get net.nodes p ≡ Some n → (n.journal ≡ None → ⊥) → IsRefused why reply → AtSeen net p reply (λ bodies. IsRefused why reply)
+seen_refused net p reply why n at up is = rw at (by n.journal up)
   where
-    by : (journal : Option (List (List ℕ))) → (journal ≡ None → ⊥) → MatchOption journal (IsRefused 3 reply) (λ bodies. IsRefused code reply)
+    by : (journal : Option (List (List ℕ))) → (journal ≡ None → ⊥) → MatchOption journal (IsRefused refusal.NodeDown reply) (λ bodies. IsRefused why reply)
     by None none = absurd (none refl)
     by (Some bodies) some = is
 
 -- the line of a flow, or that there is none
-pub flow_none : {F : Type 0} (f : Reads F) (number : ℕ) (reply : Reply) (bodies : List (List ℕ)) → slice_get (state_of f bodies).flows number ≡ None → IsRefused 11 reply → PrintsFlow f number reply bodies
+pub flow_none : {F : Type 0} (f : Reads F) (number : ℕ) (reply : Reply) (bodies : List (List ℕ)) → slice_get (state_of f bodies).flows number ≡ None → IsRefused refusal.NoFlow reply → PrintsFlow f number reply bodies
 flow_none f number reply bodies none is = rw none is
 
 pub flow_some : {F : Type 0} (f : Reads F) (number : ℕ) (reply : Reply) (bodies : List (List ℕ)) (flow : FlowState F) → slice_get (state_of f bodies).flows number ≡ Some flow → reply_text reply ≡ flow_line number flow ++ 10 ∷ [] → PrintsFlow f number reply bodies
 flow_some f number reply bodies flow some is = rw some is
 
 -- the causes of all nodes, or that one is down
-pub history_none : {F : Type 0} (f : Reads F) (net : NetSeen) (reply : Reply) → causes_up f net.nodes ≡ None → IsRefused 3 reply → PrintsHistory f net reply
+pub history_none : {F : Type 0} (f : Reads F) (net : NetSeen) (reply : Reply) → causes_up f net.nodes ≡ None → IsRefused refusal.NodeDown reply → PrintsHistory f net reply
 history_none f net reply none is = rw none is
 
 pub history_some : {F : Type 0} (f : Reads F) (net : NetSeen) (reply : Reply) (lists : List (List Cause)) → causes_up f net.nodes ≡ Some lists → reply_text reply ≡ history_text (merged lists) → PrintsHistory f net reply
@@ -318,8 +322,8 @@ history_some f net reply lists some is = rw some is
 module _ {F : Type 0} (e : Environment F) (net : NetSeen) (w : World) (shows : Shows e net w) (coherent : Coherent e w) where
   start_answers : (p : ℕ) (words : Result (ℕ × List ℕ) WordFault) (reply : Reply) → StartsNone net p words reply → RefusesWords w p words reply
   start_answers p (Ok words) reply h = h
-  start_answers p (Err word.UnknownClass) reply h = at_node e net w shows p reply (λ bodies. IsRefused 5 reply) (λ x. IsRefused 5 reply) (λ x here is. is) h
-  start_answers p (Err word.BadArgs) reply h = at_node e net w shows p reply (λ bodies. IsRefused 6 reply) (λ x. IsRefused 6 reply) (λ x here is. is) h
+  start_answers p (Err word.UnknownClass) reply h = at_node e net w shows p reply (λ bodies. IsRefused refusal.UnknownClass reply) (λ x. IsRefused refusal.UnknownClass reply) (λ x here is. is) h
+  start_answers p (Err word.BadArgs) reply h = at_node e net w shows p reply (λ bodies. IsRefused refusal.BadArgs reply) (λ x. IsRefused refusal.BadArgs reply) (λ x here is. is) h
   start_answers p (Err word.Memory) reply h = h
 
   flows_answer : (p : ℕ) (reply : Reply) → AtSeen net p reply (PrintsFlows e.frame_at reply) → AtNode w p reply (λ x. reply_text reply ≡ printed e (causes_in e w) (of_flows p))
@@ -330,7 +334,7 @@ module _ {F : Type 0} (e : Environment F) (net : NetSeen) (w : World) (shows : S
   flow_answers p f reply h = at_node e net w shows p reply (PrintsFlow e.frame_at f reply) (AsksFlow e w p f reply) (λ x here is. line x here (slice_get (state_of e.frame_at x.journal).flows f) refl is) h
     where
       line : (x : NodeWorld) → slice_get w.nodes p ≡ Some x → (o : Option (FlowState F)) → slice_get (state_of e.frame_at x.journal).flows f ≡ o
-          → MatchOption o (IsRefused 11 reply) (λ flow. reply_text reply ≡ flow_line f flow ++ 10 ∷ []) → AsksFlow e w p f reply x
+          → MatchOption o (IsRefused refusal.NoFlow reply) (λ flow. reply_text reply ≡ flow_line f flow ++ 10 ∷ []) → AsksFlow e w p f reply x
       line x here None none is = inl (none, is)
       line x here (Some flow) some is = inr ((flow, some), is ∙ ap (λ o. flow_text f o) (sym some) ∙ sym (flow_printed e w coherent p f x here))
 
@@ -355,14 +359,14 @@ module _ {F : Type 0} (e : Environment F) (net : NetSeen) (w : World) (shows : S
   tx_answers p named reply h = at_node e net w shows p reply (PrintsTx e.frame_at named reply) (AsksTx e w p named reply) (λ x here is. line x here (named_in named (with_ids (state_of e.frame_at x.journal).stored)) refl is) h
     where
       line : (x : NodeWorld) → slice_get w.nodes p ≡ Some x → (o : Option (Hash32 × SignedTx)) → named_in named (with_ids (state_of e.frame_at x.journal).stored) ≡ o
-          → MatchOption o (IsRefused 12 reply) (λ found. reply_text reply ≡ tx_text found.0 found.1) → AsksTx e w p named reply x
+          → MatchOption o (IsRefused refusal.NoTransaction reply) (λ found. reply_text reply ≡ tx_text found.0 found.1) → AsksTx e w p named reply x
       line x here None none is = inl (none, is)
       line x here (Some found) some is = inr ((found, some), is ∙ ap tx_text_in (sym some) ∙ sym (tx_printed e w coherent p named x here))
 
   history_answers : (reply : Reply) → PrintsHistory e.frame_at net reply → AsksHistory e w reply
   history_answers reply h = by (causes_up e.frame_at net.nodes) refl h
     where
-      by : (o : Option (List (List Cause))) → causes_up e.frame_at net.nodes ≡ o → MatchOption o (IsRefused 3 reply) (λ lists. reply_text reply ≡ history_text (merged lists)) → AsksHistory e w reply
+      by : (o : Option (List (List Cause))) → causes_up e.frame_at net.nodes ≡ o → MatchOption o (IsRefused refusal.NodeDown reply) (λ lists. reply_text reply ≡ history_text (merged lists)) → AsksHistory e w reply
       by None none is = inl (one_down e.frame_at net.nodes w.nodes shows.count (shows_each e net w shows) none, is)
       by (Some lists) some is =
           let up = all_up e.frame_at net.nodes w.nodes lists shows.count (shows_each e net w shows) some in
@@ -395,3 +399,4 @@ module _ {F : Type 0} (m : Meaning F) (id : Identity) (net : NetSeen) (w : World
   shown_answers (command.Cut node calls kind) ws reply h = h
   shown_answers (command.Boot node) ws reply h = h
   shown_answers command.Drain ws reply h = h
+  shown_answers (command.Load seed count) ws reply h = h

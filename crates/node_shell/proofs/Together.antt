@@ -4,8 +4,8 @@ use Rattle.std.specs.Prelude.{◌||◌, not, if◌then◌else◌, MatchBool}
 use Rattle.net_base.specs.declared.names.Identity.{Identity}
 use Rattle.net_base.proofs.Options.{some_eq}
 use Rattle.net_model.specs.Environment.{Environment, environment, Meaning}
+use Rattle.network_core.specs.declared.refusal.Refusal.TheVariants as refusal
 use Rattle.network_core.specs.declared.steps.Outcome.TheVariants as outcome
-use Rattle.network_core.specs.declared.steps.Step.{Step}
 use Rattle.network_core.specs.Drains.{Pair, with_world}
 use Rattle.network_core.specs.Ways.{Way, stay, by_part, by_step}
 use Rattle.network_core.specs.Worlds.{World, NetSeen, Shows, Coherent}
@@ -19,11 +19,15 @@ use Rattle.node_shell.specs.declared.replies.Reply.{Reply}
 use Rattle.node_shell.specs.declared.replies.Reply.TheVariants.{Silence, Told}
 use Rattle.node_shell.specs.declared.statuses.Status.{Status}
 use Rattle.node_shell.specs.declared.statuses.Status.TheVariants as status
-use Rattle.node_shell.specs.Serve.{step_of, recorded_in, IsRefused, Makes, Serves, RepliesTo, Link, Leaves, RunsShort}
-use Rattle.node_shell.specs.Responds.{recorded_seen, Responds, CommandResponds, LineResponds, NetLink, NetShort}
+use Rattle.node_shell.specs.Replies.{IsRefused}
+use Rattle.node_shell.specs.Loads.{Course, GoesOver}
+use Rattle.node_shell.specs.Serve.{Doing, asking, making, going, world_states, doing_of, recorded_in, Makes, Serves, RepliesTo, Link, Leaves, RunsShort}
+use Rattle.node_shell.specs.Responds.{net_states, recorded_seen, Responds, CommandResponds, LineResponds, NetLink, NetShort}
 use Rattle.node_shell.specs.Story.{Story, begins, goes_on, Answered, CutOff, LeftOff, EndsWith, ScriptRun}
-use Rattle.node_shell.specs.Together.{Goes, LineGoes, PairLink, PairShort, InPair, ComesBy, EndComesBy, LeadsOn, ScriptsAreWays, ScriptsAreBoth}
+use Rattle.node_shell.specs.Together.{pair_states, Goes, LineGoes, PairLink, PairShort, InPair, ComesBy, EndComesBy, LeadsOn, ScriptsAreWays, ScriptsAreBoth}
 use Rattle.node_shell.proofs.Shown.{shown_answers, step_shown}
+use Rattle.node_shell.proofs.Loading.{course_goes}
+use Rattle.node_shell.proofs.Loaded.{course_in, course_world}
 
 -- ---- a line, from each coherent world that the network shows
 
@@ -38,59 +42,68 @@ module _ {F : Type 0} (m : Meaning F) (id : Identity) (old : NetSeen) (w : World
   unmoved : (P : Pair e → Type 0) (new : NetSeen) → new ≡ old → P a → InPair e new P
   unmoved P new is h = subst (λ (n : NetSeen). InPair e n P) (sym is) (record { world = w; shows = shows; coherent = coherent; holds = h })
 
-  responds_in : (s : Option Step) (asked : Command) (ws : List (List ℕ)) (reply : Reply) (new : NetSeen) → Responds m s asked ws old (Some reply) new
-      → InPair e new (λ b. Makes e w s asked ws reply b.world × Goes m id s (Some reply) a b)
-  responds_in (Some s) asked ws reply new (o, answers, told, pairs) =
+  -- what goes over several steps
+  course_both : (c : Course) (reply : Option Reply) (new : NetSeen) → GoesOver (net_states m) m.machine c old reply new
+      → InPair e new (λ b. GoesOver (world_states e) m.machine c w reply b.world × GoesOver (pair_states m id) m.machine c a reply b)
+  course_both c reply new h =
+      let b = course_in m id c reply a new h in
+      record { world = b.world; shows = b.shows; coherent = b.coherent; holds = (course_world m id c reply a (with_world new b.world b.shows b.coherent) b.holds, b.holds) }
+
+  responds_in : (d : Doing) (asked : Command) (ws : List (List ℕ)) (reply : Reply) (new : NetSeen) → Responds m d asked ws old (Some reply) new
+      → InPair e new (λ b. Makes e w d asked ws reply b.world × Goes m id d (Some reply) a b)
+  responds_in (going c) asked ws reply new h = course_both c (Some reply) new h
+  responds_in (making s) asked ws reply new (o, answers, told, pairs) =
       let b = pairs id w shows coherent in
       record { world = b.0; shows = b.1; coherent = b.2; holds = ((o, b.3.1, told), (o, b.3, told)) }
-  responds_in None asked ws reply new (shown, is) =
-      unmoved (λ b. Makes e w None asked ws reply b.world × Goes m id None (Some reply) a b) new is ((shown_answers m id old w shows coherent asked ws reply shown, refl), refl)
+  responds_in asking asked ws reply new (shown, is) =
+      unmoved (λ b. Makes e w asking asked ws reply b.world × Goes m id asking (Some reply) a b) new is ((shown_answers m id old w shows coherent asked ws reply shown, refl), refl)
 
   -- so of what words ask for: the step is the same by what the network shows and by what the world has
   served_in : (asked : Command) (ws : List (List ℕ)) (reply : Reply) (new : NetSeen) → CommandResponds m asked ws old (Some reply) new
-      → InPair e new (λ b. Serves e w asked ws reply b.world × Goes m id (step_of m.machine (recorded_seen m.frame_at old) asked ws) (Some reply) a b)
+      → InPair e new (λ b. Serves e w asked ws reply b.world × Goes m id (doing_of m.machine (recorded_seen m.frame_at old) asked ws) (Some reply) a b)
   served_in asked ws reply new h =
-      let s = step_of m.machine (recorded_seen m.frame_at old) asked ws in
-      subst (λ (t : Option Step). InPair e new (λ b. Makes e w t asked ws reply b.world × Goes m id s (Some reply) a b)) (step_shown e old w shows asked ws) (responds_in s asked ws reply new h)
+      let s = doing_of m.machine (recorded_seen m.frame_at old) asked ws in
+      subst (λ (t : Doing). InPair e new (λ b. Makes e w t asked ws reply b.world × Goes m id s (Some reply) a b)) (step_shown e old w shows asked ws) (responds_in s asked ws reply new h)
 
   pub line_in : (line : List ℕ) (reply : Reply) (new : NetSeen) → LineResponds m line old (Some reply) new → InPair e new (λ b. RepliesTo e w line reply b.world × LineGoes m id line (Some reply) a b)
   line_in line reply new h = by (has_no_answer line) (is_readable line) h
     where
       by : (blank plain : Bool)
-          → MatchBool blank ((Some reply ≡ Some Silence) × (new ≡ old)) (MatchBool plain (CommandResponds m (command_of (words_of line)) (words_of line) old (Some reply) new) ((Some reply ≡ Some (Told (outcome.Refused 1))) × (new ≡ old)))
-          → InPair e new (λ b. MatchBool blank ((reply ≡ Silence) × (b.world ≡ w)) (MatchBool plain (Serves e w (command_of (words_of line)) (words_of line) reply b.world) (IsRefused 1 reply × (b.world ≡ w)))
-          × Goes m id (step_of m.machine (recorded_seen m.frame_at old) (if blank || not plain then Unknown else command_of (words_of line)) (words_of line)) (Some reply) a b)
+          → MatchBool blank ((Some reply ≡ Some Silence) × (new ≡ old)) (MatchBool plain (CommandResponds m (command_of (words_of line)) (words_of line) old (Some reply) new) ((Some reply ≡ Some (Told (outcome.Refused refusal.Syntax))) × (new ≡ old)))
+          → InPair e new (λ b. MatchBool blank ((reply ≡ Silence) × (b.world ≡ w)) (MatchBool plain (Serves e w (command_of (words_of line)) (words_of line) reply b.world) (IsRefused refusal.Syntax reply × (b.world ≡ w)))
+          × Goes m id (doing_of m.machine (recorded_seen m.frame_at old) (if blank || not plain then Unknown else command_of (words_of line)) (words_of line)) (Some reply) a b)
       by true plain h = unmoved (λ b. ((reply ≡ Silence) × (b.world ≡ w)) × (b ≡ a)) new h.1 ((some_eq h.0, refl), refl)
       by false true h = served_in (command_of (words_of line)) (words_of line) reply new h
-      by false false h = unmoved (λ b. (IsRefused 1 reply × (b.world ≡ w)) × (b ≡ a)) new h.1 ((some_eq h.0, refl), refl)
+      by false false h = unmoved (λ b. (IsRefused refusal.Syntax reply × (b.world ≡ w)) × (b ≡ a)) new h.1 ((some_eq h.0, refl), refl)
 
   -- want of memory
-  leaves_in : (s : Option Step) (asked : Command) (ws : List (List ℕ)) (new : NetSeen) → Responds m s asked ws old None new → InPair e new (λ b. Leaves e s w b.world × Goes m id s None a b)
-  leaves_in (Some s) asked ws new (inl is) = unmoved (λ b. Leaves e (Some s) w b.world × Goes m id (Some s) None a b) new is (inl refl, inl refl)
-  leaves_in (Some s) asked ws new (inr h) =
+  leaves_in : (d : Doing) (asked : Command) (ws : List (List ℕ)) (new : NetSeen) → Responds m d asked ws old None new → InPair e new (λ b. Leaves e d w b.world × Goes m id d None a b)
+  leaves_in (going c) asked ws new h = course_both c None new h
+  leaves_in (making s) asked ws new (inl is) = unmoved (λ b. Leaves e (making s) w b.world × Goes m id (making s) None a b) new is (inl refl, inl refl)
+  leaves_in (making s) asked ws new (inr h) =
       let b = h.1 id w shows coherent in
       record { world = b.0; shows = b.1; coherent = b.2; holds = (inr b.3.1, inr b.3) }
-  leaves_in None asked ws new h = unmoved (λ b. Leaves e None w b.world × Goes m id None None a b) new h.1 (refl, refl)
+  leaves_in asking asked ws new h = unmoved (λ b. Leaves e asking w b.world × Goes m id asking None a b) new h.1 (refl, refl)
 
   unserved_in : (asked : Command) (ws : List (List ℕ)) (new : NetSeen) → CommandResponds m asked ws old None new
-      → InPair e new (λ b. Leaves e (step_of m.machine (recorded_in e w) asked ws) w b.world × Goes m id (step_of m.machine (recorded_seen m.frame_at old) asked ws) None a b)
+      → InPair e new (λ b. Leaves e (doing_of m.machine (recorded_in e w) asked ws) w b.world × Goes m id (doing_of m.machine (recorded_seen m.frame_at old) asked ws) None a b)
   unserved_in asked ws new h =
-      let s = step_of m.machine (recorded_seen m.frame_at old) asked ws in
-      subst (λ (t : Option Step). InPair e new (λ b. Leaves e t w b.world × Goes m id s None a b)) (step_shown e old w shows asked ws) (leaves_in s asked ws new h)
+      let s = doing_of m.machine (recorded_seen m.frame_at old) asked ws in
+      subst (λ (t : Doing). InPair e new (λ b. Leaves e t w b.world × Goes m id s None a b)) (step_shown e old w shows asked ws) (leaves_in s asked ws new h)
 
-  pub left_in : (line : List ℕ) (new : NetSeen) → LineResponds m line old None new → InPair e new (λ b. Leaves e (step_of m.machine (recorded_in e w) (asked_by line) (words_of line)) w b.world × LineGoes m id line None a b)
+  pub left_in : (line : List ℕ) (new : NetSeen) → LineResponds m line old None new → InPair e new (λ b. Leaves e (doing_of m.machine (recorded_in e w) (asked_by line) (words_of line)) w b.world × LineGoes m id line None a b)
   left_in line new h = by (has_no_answer line) (is_readable line) h
     where
       no_reply : (reply : Reply) → None ≡ Some reply → ⊥
       no_reply reply is = cc
 
       by : (blank plain : Bool)
-          → MatchBool blank ((None ≡ Some Silence) × (new ≡ old)) (MatchBool plain (CommandResponds m (command_of (words_of line)) (words_of line) old None new) ((None ≡ Some (Told (outcome.Refused 1))) × (new ≡ old)))
-          → InPair e new (λ b. Leaves e (step_of m.machine (recorded_in e w) (if blank || not plain then Unknown else command_of (words_of line)) (words_of line)) w b.world
-          × Goes m id (step_of m.machine (recorded_seen m.frame_at old) (if blank || not plain then Unknown else command_of (words_of line)) (words_of line)) None a b)
+          → MatchBool blank ((None ≡ Some Silence) × (new ≡ old)) (MatchBool plain (CommandResponds m (command_of (words_of line)) (words_of line) old None new) ((None ≡ Some (Told (outcome.Refused refusal.Syntax))) × (new ≡ old)))
+          → InPair e new (λ b. Leaves e (doing_of m.machine (recorded_in e w) (if blank || not plain then Unknown else command_of (words_of line)) (words_of line)) w b.world
+          × Goes m id (doing_of m.machine (recorded_seen m.frame_at old) (if blank || not plain then Unknown else command_of (words_of line)) (words_of line)) None a b)
       by true plain h = absurd (no_reply Silence h.0)
       by false true h = unserved_in (command_of (words_of line)) (words_of line) new h
-      by false false h = absurd (no_reply (Told (outcome.Refused 1)) h.0)
+      by false false h = absurd (no_reply (Told (outcome.Refused refusal.Syntax)) h.0)
 
 -- ---- a story of networks
 
@@ -270,17 +283,19 @@ module _ {F : Type 0} (m : Meaning F) (id : Identity) where
   way_then a b c one (by_part {b = d} p o way does) = by_part p o (way_then a b d one way) does
   way_then a b c one (by_step {b = d} s o way drain answered serve) = by_step s o (way_then a b d one way) drain answered serve
 
-  goes_way : (s : Option Step) (reply : Option Reply) (a b : shown) → Goes m id s reply a b → Way m id a b
-  goes_way (Some s) (Some reply) a b (o, serves, told) = (calls_are_ways m id a b).apply s (Some o) serves
-  goes_way (Some s) None a b (inl is) = stay is
-  goes_way (Some s) None a b (inr serves) = (calls_are_ways m id a b).apply s None serves
-  goes_way None reply a b is = stay is
+  goes_way : (d : Doing) (reply : Option Reply) (a b : shown) → Goes m id d reply a b → Way m id a b
+  goes_way (making s) (Some reply) a b (o, serves, told) = (calls_are_ways m id a b).apply s (Some o) serves
+  goes_way (making s) None a b (inl is) = stay is
+  goes_way (making s) None a b (inr serves) = (calls_are_ways m id a b).apply s None serves
+  goes_way (going c) reply a b h =
+      course_goes (pair_states m id) (Way m id) (λ x y is. stay is) way_then (λ steps outcomes all x y follows. (calls_are_ways m id x y).apply_all steps outcomes all follows) m.machine c reply a b h
+  goes_way asking reply a b is = stay is
 
   link_way : (a : shown) (line text : List ℕ) (b : shown) → PairLink m id a line text b → Way m id a b
-  link_way a line text b l = goes_way (step_of m.machine (recorded_seen m.frame_at a.net) (asked_by line) (words_of line)) (Some l.net.reply) a b l.goes
+  link_way a line text b l = goes_way (doing_of m.machine (recorded_seen m.frame_at a.net) (asked_by line) (words_of line)) (Some l.net.reply) a b l.goes
 
   short_way : (a : shown) (line : List ℕ) (b : shown) → PairShort m id a line b → Way m id a b
-  short_way a line b (inl l) = goes_way (step_of m.machine (recorded_seen m.frame_at a.net) (asked_by line) (words_of line)) None a b l.goes
+  short_way a line b (inl l) = goes_way (doing_of m.machine (recorded_seen m.frame_at a.net) (asked_by line) (words_of line)) None a b l.goes
   short_way a line b (inr (text, l)) = link_way a line text b l
 
   pub leads_on : (a b : shown) → Way m id a b → LeadsOn m id a b

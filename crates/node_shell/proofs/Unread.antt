@@ -1,14 +1,11 @@
 -- A run in which nothing was read, since a disk was not made ready or there was no memory.
-use Rattle.std.proofs.Common.{◌≡◌, ◌⊎◌, inl, inr, ⊎_elim, ℕ, ◌+◌, ◌*◌, List, [], length, map, drop, Option, Some, refl, sym, ◌∙◌, ap, subst, arith}
-use Rattle.std.specs.Prelude.{◌<◌, ◌≤◌}
-use Rattle.std.specs.List.{slice_get}
+use Rattle.std.proofs.Common.{◌≡◌, ◌⊎◌, inl, inr, ⊎_elim, ℕ, ◌+◌, ◌*◌, List, length, map, Option, sym, ap, subst, arith}
+use Rattle.std.specs.Prelude.{◌<◌}
 use Rattle.outside.specs.Disk.{DiskView}
 use Rattle.net_model.specs.Environment.{Meaning, party}
 use Rattle.node_core.specs.Disks.{attached_as}
 use Rattle.shell_words.specs.declared.program.NetworkWords.{NetworkWords}
 use Rattle.node_shell.specs.declared.statuses.Status.{Status}
-use Rattle.node_shell.specs.declared.statuses.Status.TheVariants as status
-use Rattle.node_shell.specs.Pairs.{first_disks}
 use Rattle.node_shell.specs.Runs.{Ran, IsStory, Went, ToldWhy, OpensOwn, KeepsSeconds, KeepsOthers, IsPlayed, EndsWell, AllStay, IsOpeningStatus, IsPlayedNumber, number_of_status, firsts, views}
 use Rattle.node_shell.proofs.Readying.{stay_same, first_stay}
 use Rattle.node_shell.proofs.Opening.{unready, runs_as, went_unready, opening_number}

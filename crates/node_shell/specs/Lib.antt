@@ -1,5 +1,7 @@
 pub mod Pairs
 pub mod LedgerPrint
+pub mod Replies
+pub mod Loads
 pub mod Serve
 pub mod Responds
 pub mod Story

@@ -1,8 +1,10 @@
 -- What a line is answered with, and what it makes of the world.
-use Rattle.std.specs.Prelude.{◌≡◌, ◌⊎◌, ℕ, ◌==◌, ◌-◌, ◌^◌, min, List, [], ◌∷◌, ◌++◌, map, Option, Some, None, Result, Ok, Err, Bool, true, false, codes, decimal, MatchBool, drop, slice_get, slice_index_or, string_bytes, if◌then◌else◌, option_map, option_and_then}
+use Rattle.std.specs.Prelude.{◌≡◌, ◌⊎◌, ℕ, suc, ◌-◌, ◌^◌, min, List, [], ◌∷◌, ◌++◌, length, map, Option, Some, None, Result, Ok, Err, Bool, true, false, MatchBool, drop, slice_get, slice_index_or, if◌then◌else◌, option_map, option_and_then}
+use Rattle.std.specs.List.{list_all}
 use Rattle.std.specs.Option.{option_map_or}
 use Rattle.net_base.specs.declared.causes.Cause.{Cause}
 use Rattle.flow_machine.specs.declared.flows.FlowState.{FlowState}
+use Rattle.flow_machine.specs.declared.flows.FlowState.TheVariants as flow
 use Rattle.flow_machine.specs.declared.flow_set.WordFault.{WordFault}
 use Rattle.flow_machine.specs.declared.flow_set.WordFault.TheVariants as word
 use Rattle.flow_machine.specs.Machine.{Machine}
@@ -10,78 +12,26 @@ use Rattle.net_model.specs.Environment.{Environment}
 use Rattle.net_model.specs.Print.{printed, of_flows, of_flow, of_history}
 use Rattle.net_model.specs.State.{with_ids}
 use Rattle.net_base.specs.declared.values.Hash32.{Hash32}
+use Rattle.ledger_types.specs.declared.held.Held.{Held}
 use Rattle.ledger_types.specs.declared.tx.SignedTx.{SignedTx}
 use Rattle.shell_report.specs.LedgerText.{hash_text}
-use Rattle.node_shell.specs.LedgerPrint.{LedgerQuery, printed_ledger, of_vault, of_balance, of_book, of_tx, of_tx_at, with_id}
+use Rattle.node_shell.specs.LedgerPrint.{LedgerQuery, printed_ledger, of_vault, of_balance, of_book, of_tx, of_tx_at, with_id, vault_in}
 use Rattle.node_tables.specs.Journals.{Reads, causes_of, state_of}
+use Rattle.network_core.specs.declared.refusal.Refusal.TheVariants as refusal
 use Rattle.network_core.specs.declared.steps.Outcome.{Outcome}
-use Rattle.network_core.specs.declared.steps.Outcome.TheVariants as outcome
 use Rattle.network_core.specs.declared.steps.Step.{Step}
 use Rattle.network_core.specs.declared.steps.Step.TheVariants as step
 use Rattle.network_core.specs.Worlds.{World, NodeWorld}
-use Rattle.network_core.specs.Served.{Serve}
+use Rattle.network_core.specs.Served.{Serve, Follows}
 use Rattle.shell_words.specs.declared.commands.Command.{Command}
 use Rattle.shell_words.specs.declared.commands.Command.TheVariants as command
 use Rattle.shell_words.specs.declared.commands.TxName.{TxName}
 use Rattle.shell_words.specs.declared.commands.TxName.TheVariants as name
 use Rattle.shell_words.specs.Script.{has_no_answer, is_readable, words_of, command_of, asked_by, mark_of, has_mark}
 use Rattle.node_shell.specs.declared.replies.Reply.{Reply}
-use Rattle.node_shell.specs.declared.replies.Reply.TheVariants.{Silence, Quit, Told, Printed}
-
--- ---- the text of a reply
-
--- the name of a refusal; empty for a code that is none's
-abbrev pub name_of : ℕ → List ℕ
-name_of code =
-    if code == 1 then codes "Syntax"
-    else if code == 2 then codes "UnknownNode"
-    else if code == 3 then codes "NodeDown"
-    else if code == 4 then codes "NodeUp"
-    else if code == 5 then codes "UnknownClass"
-    else if code == 6 then codes "BadArgs"
-    else if code == 7 then codes "NoFrame"
-    else if code == 8 then codes "NoFuse"
-    else if code == 9 then codes "Full"
-    else if code == 10 then codes "Backwards"
-    else if code == 11 then codes "NoFlow"
-    else if code == 12 then codes "NoTransaction"
-    else if code == 13 then codes "Journal"
-    else []
-
--- what an outcome prints: one line, with its end
-abbrev pub outcome_text : Outcome → List ℕ
-outcome_text outcome.Fine = codes "ok\n"
-outcome_text (outcome.Started flow) = codes "flow " ++ decimal flow ++ 10 ∷ []
-outcome_text (outcome.Moved flow) = codes "moved " ++ decimal flow ++ 10 ∷ []
-outcome_text outcome.Idle = codes "idle\n"
-outcome_text (outcome.Posted count) = codes "posted " ++ decimal count ++ 10 ∷ []
-outcome_text (outcome.Took upto) = codes "took\n"
-outcome_text outcome.Acked = codes "acked\n"
-outcome_text (outcome.Again expected) = codes "again " ++ decimal expected ++ 10 ∷ []
-outcome_text (outcome.Early expected) = codes "early " ++ decimal expected ++ 10 ∷ []
-outcome_text outcome.NoSession = codes "nosession\n"
-outcome_text outcome.Lost = codes "lost\n"
-outcome_text outcome.Armed = codes "armed\n"
-outcome_text outcome.Down = codes "down\n"
-outcome_text outcome.Booted = codes "booted\n"
-outcome_text outcome.Fault = codes "fault\n"
-outcome_text (outcome.Drained true) = codes "drained full\n"
-outcome_text (outcome.Drained false) = codes "drained\n"
-outcome_text (outcome.Refused code) = codes "! " ++ decimal code ++ codes " " ++ name_of code ++ 10 ∷ []
-
--- what a reply prints: nothing, the line of an outcome, or printed lines
-abbrev pub reply_text : Reply → List ℕ
-reply_text Silence = []
-reply_text Quit = []
-reply_text (Told o) = outcome_text o
-reply_text (Printed text) = string_bytes text
-
--- whether a reply ends the script
-abbrev pub is_end : Reply → Bool
-is_end Quit = true
-is_end Silence = false
-is_end (Told o) = false
-is_end (Printed text) = false
+use Rattle.node_shell.specs.declared.replies.Reply.TheVariants.{Silence, Quit, Told}
+use Rattle.node_shell.specs.Replies.{reply_text, IsRefused}
+use Rattle.node_shell.specs.Loads.{Course, load, LoadStates, all_but, GoesOver}
 
 -- ---- what words ask for
 
@@ -129,32 +79,39 @@ named_by m class args = unmarked (has_mark args) (m.worded class args)
 abbrev pub started_by : {F : Type 0} → Machine F → List (Hash32 × SignedTx) → List (List ℕ) → Result (ℕ × List ℕ) WordFault
 started_by m recorded words = named_by m (slice_index_or words 2 []) (map (put_in recorded) (drop 3 words))
 
--- the start of a flow, where words name one
-abbrev pub start_step : ℕ → Result (ℕ × List ℕ) WordFault → Option Step
-start_step node (Ok words) = Some (step.Start node words.0 words.1)
-start_step node (Err fault) = None
+-- what a command does: it asks for something and changes nothing, it makes one step, or it goes over several
+pub data Doing : Type 0 where
+  asking : Doing
+  making : Step → Doing
+  going : Course → Doing
 
--- the step that a command makes, if it makes one, by what each node recorded
-abbrev pub step_of : {F : Type 0} → Machine F → (ℕ → List (Hash32 × SignedTx)) → Command → List (List ℕ) → Option Step
-step_of m recorded (command.Clock to) words = Some (step.Clock (record { 0 = to }))
-step_of m recorded (command.Start node) words = start_step (place_of node) (started_by m (recorded (place_of node)) words)
-step_of m recorded (command.Turn node pick) words = Some (step.Turn (place_of node) (option_map flow_of pick))
-step_of m recorded (command.Post node) words = Some (step.Post (place_of node))
-step_of m recorded (command.Deliver node at) words = Some (step.Deliver (place_of node) (frame_of at))
-step_of m recorded (command.Repeat node at) words = Some (step.Repeat (place_of node) (frame_of at))
-step_of m recorded (command.Lose node at) words = Some (step.Lose (place_of node) (frame_of at))
-step_of m recorded (command.Cut node calls kind) words = Some (step.Cut (place_of node) calls kind)
-step_of m recorded (command.Boot node) words = Some (step.Boot (place_of node))
-step_of m recorded command.Drain words = Some step.Drain
-step_of m recorded (command.Flows node) words = None
-step_of m recorded (command.Flow node flow) words = None
-step_of m recorded (command.Vault node) words = None
-step_of m recorded (command.Balance node) words = None
-step_of m recorded command.Book words = None
-step_of m recorded (command.TxLine node name) words = None
-step_of m recorded command.History words = None
-step_of m recorded command.Quit words = None
-step_of m recorded command.Unknown words = None
+-- the start of a flow, where words name one
+abbrev pub start_step : ℕ → Result (ℕ × List ℕ) WordFault → Doing
+start_step node (Ok words) = making (step.Start node words.0 words.1)
+start_step node (Err fault) = asking
+
+-- what a command does, by what each node recorded
+abbrev pub doing_of : {F : Type 0} → Machine F → (ℕ → List (Hash32 × SignedTx)) → Command → List (List ℕ) → Doing
+doing_of m recorded (command.Clock to) words = making (step.Clock (record { 0 = to }))
+doing_of m recorded (command.Start node) words = start_step (place_of node) (started_by m (recorded (place_of node)) words)
+doing_of m recorded (command.Turn node pick) words = making (step.Turn (place_of node) (option_map flow_of pick))
+doing_of m recorded (command.Post node) words = making (step.Post (place_of node))
+doing_of m recorded (command.Deliver node at) words = making (step.Deliver (place_of node) (frame_of at))
+doing_of m recorded (command.Repeat node at) words = making (step.Repeat (place_of node) (frame_of at))
+doing_of m recorded (command.Lose node at) words = making (step.Lose (place_of node) (frame_of at))
+doing_of m recorded (command.Cut node calls kind) words = making (step.Cut (place_of node) calls kind)
+doing_of m recorded (command.Boot node) words = making (step.Boot (place_of node))
+doing_of m recorded command.Drain words = making step.Drain
+doing_of m recorded (command.Flows node) words = asking
+doing_of m recorded (command.Flow node flow) words = asking
+doing_of m recorded (command.Vault node) words = asking
+doing_of m recorded (command.Balance node) words = asking
+doing_of m recorded command.Book words = asking
+doing_of m recorded (command.TxLine node name) words = asking
+doing_of m recorded command.History words = asking
+doing_of m recorded (command.Load seed count) words = going (load seed count)
+doing_of m recorded command.Quit words = asking
+doing_of m recorded command.Unknown words = asking
 
 -- the transactions that the records of a journal store, with their ids, in order
 abbrev pub recorded_by : {F : Type 0} → Reads F → List (List ℕ) → List (Hash32 × SignedTx)
@@ -168,17 +125,49 @@ recorded_up frame_at x = if x.up then recorded_by frame_at x.journal else []
 abbrev pub recorded_in : {F : Type 0} → Environment F → World → ℕ → List (Hash32 × SignedTx)
 recorded_in e w p = option_map_or (recorded_up e.frame_at) (slice_get w.nodes p) []
 
--- ---- answers that change nothing
+-- ---- the states that a load goes over, of worlds
 
--- the reply is a refusal
-abbrev pub IsRefused : ℕ → Reply → Type 0
-IsRefused code reply = reply ≡ Told (outcome.Refused code)
+-- whether a flow has ended without failure
+abbrev pub is_ended : {F : Type 0} → Option (FlowState F) → Bool
+is_ended None = false
+is_ended (Some (flow.Live checkpoint)) = false
+is_ended (Some (flow.Ended step class value)) = true
+is_ended (Some (flow.Failed step class code)) = false
+
+-- whether a flow of a journal has
+abbrev pub ended_by : {F : Type 0} → Reads F → ℕ → List (List ℕ) → Bool
+ended_by frame_at f bodies = is_ended (slice_get (state_of frame_at bodies).flows f)
+
+-- whether a flow of a node that is up has
+abbrev pub ended_up : {F : Type 0} → Reads F → ℕ → NodeWorld → Bool
+ended_up frame_at f x = if x.up then ended_by frame_at f x.journal else false
+
+-- so of the node at a place
+abbrev pub ended_in : {F : Type 0} → Environment F → ℕ → ℕ → World → Bool
+ended_in e p f w = option_map_or (ended_up e.frame_at f) (slice_get w.nodes p) false
+
+-- the unconsumed states in the vaults of these nodes, where they are up, the first of them at this place
+abbrev pub held_from : {F : Type 0} → Reads F → ℕ → List NodeWorld → List Held
+held_from frame_at p [] = []
+held_from frame_at p (x ∷ xs) = (if x.up then vault_in p (state_of frame_at x.journal) else []) ++ held_from frame_at (suc p) xs
+
+-- worlds
+abbrev pub world_states : {F : Type 0} → Environment F → LoadStates World
+world_states e = record {
+  payers = λ w. all_but e.notary.0 (length w.nodes);
+  are_up = λ w. list_all (λ (x : NodeWorld). x.up) w.nodes;
+  follows = Follows e;
+  has_ended = ended_in e;
+  held = λ w. held_from e.frame_at 0 w.nodes;
+}
+
+-- ---- answers that change nothing
 
 -- a command at a node: refused where there is no such node, or it is down
 abbrev pub AtNode : World → ℕ → Reply → (NodeWorld → Type 0) → Type 0
 AtNode w p reply asks =
-    ((slice_get w.nodes p ≡ None) × IsRefused 2 reply)
-    ⊎ ((x : NodeWorld) × (slice_get w.nodes p ≡ Some x) × (((x.up ≡ false) × IsRefused 3 reply) ⊎ ((x.up ≡ true) × asks x)))
+    ((slice_get w.nodes p ≡ None) × IsRefused refusal.UnknownNode reply)
+    ⊎ ((x : NodeWorld) × (slice_get w.nodes p ≡ Some x) × (((x.up ≡ false) × IsRefused refusal.NodeDown reply) ⊎ ((x.up ≡ true) × asks x)))
 
 -- the causes of the journals of all nodes
 abbrev pub causes_in : {F : Type 0} → Environment F → World → List (List Cause)
@@ -187,14 +176,14 @@ causes_in e w = map (λ x. causes_of e.frame_at x.journal) w.nodes
 -- the words of a start name no flow; of want of memory nothing is answered
 abbrev pub RefusesWords : World → ℕ → Result (ℕ × List ℕ) WordFault → Reply → Type 0
 RefusesWords w p (Ok words) reply = ⊥
-RefusesWords w p (Err word.UnknownClass) reply = AtNode w p reply (λ x. IsRefused 5 reply)
-RefusesWords w p (Err word.BadArgs) reply = AtNode w p reply (λ x. IsRefused 6 reply)
+RefusesWords w p (Err word.UnknownClass) reply = AtNode w p reply (λ x. IsRefused refusal.UnknownClass reply)
+RefusesWords w p (Err word.BadArgs) reply = AtNode w p reply (λ x. IsRefused refusal.BadArgs reply)
 RefusesWords w p (Err word.Memory) reply = ⊥
 
 -- the line of a flow, or that there is none
 abbrev pub AsksFlow : {F : Type 0} → Environment F → World → ℕ → ℕ → Reply → NodeWorld → Type 0
 AsksFlow {F} e w p f reply x =
-    ((slice_get (state_of e.frame_at x.journal).flows f ≡ None) × IsRefused 11 reply)
+    ((slice_get (state_of e.frame_at x.journal).flows f ≡ None) × IsRefused refusal.NoFlow reply)
     ⊎ (((flow : FlowState F) × (slice_get (state_of e.frame_at x.journal).flows f ≡ Some flow)) × (reply_text reply ≡ printed e (causes_in e w) (of_flow p f)))
 
 -- the query of a transaction of a node
@@ -205,16 +194,16 @@ tx_query p (name.Place k) = of_tx_at p (record_of k)
 -- the line of a recorded transaction, or that the node recorded none that is so named
 abbrev pub AsksTx : {F : Type 0} → Environment F → World → ℕ → TxName → Reply → NodeWorld → Type 0
 AsksTx e w p named reply x =
-    ((named_in named (with_ids (state_of e.frame_at x.journal).stored) ≡ None) × IsRefused 12 reply)
+    ((named_in named (with_ids (state_of e.frame_at x.journal).stored) ≡ None) × IsRefused refusal.NoTransaction reply)
     ⊎ (((found : Hash32 × SignedTx) × (named_in named (with_ids (state_of e.frame_at x.journal).stored) ≡ Some found)) × (reply_text reply ≡ printed_ledger e (causes_in e w) (tx_query p named)))
 
 -- the merged causes of all nodes, or that one is down
 abbrev pub AsksHistory : {F : Type 0} → Environment F → World → Reply → Type 0
 AsksHistory e w reply =
-    (((p : ℕ) × (x : NodeWorld) × (slice_get w.nodes p ≡ Some x) × (x.up ≡ false)) × IsRefused 3 reply)
+    (((p : ℕ) × (x : NodeWorld) × (slice_get w.nodes p ≡ Some x) × (x.up ≡ false)) × IsRefused refusal.NodeDown reply)
     ⊎ (((p : ℕ) (x : NodeWorld) → slice_get w.nodes p ≡ Some x → x.up ≡ true) × (reply_text reply ≡ printed e (causes_in e w) of_history))
 
--- the reply to a command that makes no step
+-- the reply to a command that asks
 abbrev pub Answers : {F : Type 0} → Environment F → World → Command → List (List ℕ) → Reply → Type 0
 Answers e w (command.Start node) words reply = RefusesWords w (place_of node) (started_by e.machine (recorded_in e w (place_of node)) words) reply
 Answers e w (command.Flows node) words reply = AtNode w (place_of node) reply (λ x. reply_text reply ≡ printed e (causes_in e w) (of_flows (place_of node)))
@@ -225,7 +214,7 @@ Answers e w command.Book words reply = AtNode w e.notary.0 reply (λ x. reply_te
 Answers e w (command.TxLine node named) words reply = AtNode w (place_of node) reply (AsksTx e w (place_of node) named reply)
 Answers e w command.History words reply = AsksHistory e w reply
 Answers e w command.Quit words reply = reply ≡ Quit
-Answers e w command.Unknown words reply = IsRefused 1 reply
+Answers e w command.Unknown words reply = IsRefused refusal.Syntax reply
 Answers e w (command.Clock to) words reply = ⊥
 Answers e w (command.Turn node pick) words reply = ⊥
 Answers e w (command.Post node) words reply = ⊥
@@ -235,23 +224,25 @@ Answers e w (command.Lose node at) words reply = ⊥
 Answers e w (command.Cut node calls kind) words reply = ⊥
 Answers e w (command.Boot node) words reply = ⊥
 Answers e w command.Drain words reply = ⊥
+Answers e w (command.Load seed count) words reply = ⊥
 
 -- ---- lines
 
--- a command's step is made and its outcome told, or it makes none and changes nothing
-abbrev pub Makes : {F : Type 0} → Environment F → World → Option Step → Command → List (List ℕ) → Reply → World → Type 0
-Makes e w (Some step) asked words reply v = (o : Outcome) × Serve e step w (Some o) v × (reply ≡ Told o)
-Makes e w None asked words reply v = Answers e w asked words reply × (v ≡ w)
+-- a command's step is made and its outcome told, or it goes over several, or it makes none and changes nothing
+abbrev pub Makes : {F : Type 0} → Environment F → World → Doing → Command → List (List ℕ) → Reply → World → Type 0
+Makes e w (making step) asked words reply v = (o : Outcome) × Serve e step w (Some o) v × (reply ≡ Told o)
+Makes e w (going course) asked words reply v = GoesOver (world_states e) e.machine course w (Some reply) v
+Makes e w asking asked words reply v = Answers e w asked words reply × (v ≡ w)
 
 -- the reply to a command with its words, and the world after it
 abbrev pub Serves : {F : Type 0} → Environment F → World → Command → List (List ℕ) → Reply → World → Type 0
-Serves e w asked words reply v = Makes e w (step_of e.machine (recorded_in e w) asked words) asked words reply v
+Serves e w asked words reply v = Makes e w (doing_of e.machine (recorded_in e w) asked words) asked words reply v
 
 -- the reply to a line, and the world after it
 abbrev pub RepliesTo : {F : Type 0} → Environment F → World → List ℕ → Reply → World → Type 0
 RepliesTo e w line reply v =
     MatchBool (has_no_answer line) ((reply ≡ Silence) × (v ≡ w))
-    (MatchBool (is_readable line) (Serves e w (command_of (words_of line)) (words_of line) reply v) (IsRefused 1 reply × (v ≡ w)))
+    (MatchBool (is_readable line) (Serves e w (command_of (words_of line)) (words_of line) reply v) (IsRefused refusal.Syntax reply × (v ≡ w)))
 
 -- one link of a story: a line, its answer, and the world after it
 pub record Link {F : Type 0} (e : Environment F) (w : World) (line text : List ℕ) (v : World) : Type 0 where
@@ -261,24 +252,25 @@ pub record Link {F : Type 0} (e : Environment F) (w : World) (line text : List �
 
 -- ---- want of memory
 
--- what want of memory leaves of a step, if one was made
-abbrev pub Leaves : {F : Type 0} → Environment F → Option Step → World → World → Type 0
-Leaves e None w v = v ≡ w
-Leaves e (Some step) w v = (v ≡ w) ⊎ Serve e step w None v
+-- what want of memory leaves of what a command does
+abbrev pub Leaves : {F : Type 0} → Environment F → Doing → World → World → Type 0
+Leaves e asking w v = v ≡ w
+Leaves e (making step) w v = (v ≡ w) ⊎ Serve e step w None v
+Leaves e (going course) w v = GoesOver (world_states e) e.machine course w None v
 
 -- a line was left without an answer for want of memory: it was left off, or it was served and its answer could not be spelt
 abbrev pub RunsShort : {F : Type 0} → Environment F → World → List ℕ → World → Type 0
-RunsShort e w line v = Leaves e (step_of e.machine (recorded_in e w) (asked_by line) (words_of line)) w v ⊎ ((text : List ℕ) × Link e w line text v)
+RunsShort e w line v = Leaves e (doing_of e.machine (recorded_in e w) (asked_by line) (words_of line)) w v ⊎ ((text : List ℕ) × Link e w line text v)
 
 -- what a command came to: its reply, or want of memory
 abbrev pub Comes : {F E : Type 0} → Environment F → World → Command → List (List ℕ) → Result Reply E → World → Type 0
 Comes e w asked words (Ok reply) v = Serves e w asked words reply v
-Comes e w asked words (Err fault) v = Leaves e (step_of e.machine (recorded_in e w) asked words) w v
+Comes e w asked words (Err fault) v = Leaves e (doing_of e.machine (recorded_in e w) asked words) w v
 
 -- what a line came to: its reply, or want of memory
 abbrev pub LineComes : {F E : Type 0} → Environment F → World → List ℕ → Result Reply E → World → Type 0
 LineComes e w line (Ok reply) v = RepliesTo e w line reply v
-LineComes e w line (Err fault) v = Leaves e (step_of e.machine (recorded_in e w) (asked_by line) (words_of line)) w v
+LineComes e w line (Err fault) v = Leaves e (doing_of e.machine (recorded_in e w) (asked_by line) (words_of line)) w v
 
 -- what a step came to: its outcome, told, or want of memory
 abbrev pub StepComes : {F E : Type 0} → Environment F → World → Step → Result Reply E → World → Type 0
@@ -305,4 +297,5 @@ is_quit_command (command.Balance node) = false
 is_quit_command command.Book = false
 is_quit_command (command.TxLine node name) = false
 is_quit_command command.History = false
+is_quit_command (command.Load seed count) = false
 is_quit_command command.Unknown = false

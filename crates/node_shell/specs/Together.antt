@@ -12,7 +12,7 @@ use Rattle.network_core.specs.declared.steps.Step.{Step}
 use Rattle.network_core.specs.Acknowledged.{Acknowledged, StandsOnce}
 use Rattle.network_core.specs.Drains.{Pair, with_world}
 use Rattle.network_core.specs.Moments.{Instant, IsChoice, IsKept}
-use Rattle.network_core.specs.Served.{PairServes}
+use Rattle.network_core.specs.Served.{PairServes, PairFollows}
 use Rattle.network_core.specs.Ways.{Way, IsOn}
 use Rattle.network_core.specs.Worlds.{World, NetSeen, Shows, Coherent}
 use Rattle.shell_words.specs.Script.{words_of, asked_by}
@@ -20,8 +20,9 @@ use Rattle.node_shell.specs.declared.replies.Reply.{Reply}
 use Rattle.node_shell.specs.declared.replies.Reply.TheVariants.{Told}
 use Rattle.node_shell.specs.declared.statuses.Status.{Status}
 use Rattle.node_shell.specs.declared.statuses.Status.TheVariants as status
-use Rattle.node_shell.specs.Serve.{step_of, recorded_in, RepliesTo, Leaves, Link, RunsShort}
-use Rattle.node_shell.specs.Responds.{recorded_seen, NetLink, NetLeft, NetShort}
+use Rattle.node_shell.specs.Loads.{LoadStates, GoesOver}
+use Rattle.node_shell.specs.Serve.{Doing, asking, making, going, doing_of, recorded_in, RepliesTo, Leaves, Link, RunsShort}
+use Rattle.node_shell.specs.Responds.{net_states, recorded_seen, NetLink, NetLeft, NetShort}
 use Rattle.node_shell.specs.Story.{Story, begins, goes_on, EndsWith, ScriptRun}
 
 -- ---- a line
@@ -32,15 +33,26 @@ abbrev pub StepGoes : {F : Type 0} (m : Meaning F) (id : Identity)
 StepGoes m id s (Some reply) a b = (o : Outcome) × PairServes m id s (Some o) a b × (reply ≡ Told o)
 StepGoes m id s None a b = (b ≡ a) ⊎ PairServes m id s None a b
 
--- so of the step that a line makes; where it makes none both stay as they are
+-- networks together with their worlds, as a load goes over them
+abbrev pub pair_states : {F : Type 0} (m : Meaning F) (id : Identity) → LoadStates (Pair (environment m id))
+pair_states m id = record {
+  payers = λ a. (net_states m).payers a.net;
+  are_up = λ a. (net_states m).are_up a.net;
+  follows = PairFollows m id;
+  has_ended = λ p f a. (net_states m).has_ended p f a.net;
+  held = λ a. (net_states m).held a.net;
+}
+
+-- so of what a line does; where it only asks both stay as they are
 abbrev pub Goes : {F : Type 0} (m : Meaning F) (id : Identity)
-    → Option Step → Option Reply → Pair (environment m id) → Pair (environment m id) → Type 0
-Goes m id (Some s) reply a b = StepGoes m id s reply a b
-Goes m id None reply a b = b ≡ a
+    → Doing → Option Reply → Pair (environment m id) → Pair (environment m id) → Type 0
+Goes m id (making s) reply a b = StepGoes m id s reply a b
+Goes m id (going course) reply a b = GoesOver (pair_states m id) m.machine course a reply b
+Goes m id asking reply a b = b ≡ a
 
 abbrev pub LineGoes : {F : Type 0} (m : Meaning F) (id : Identity)
     → List ℕ → Option Reply → Pair (environment m id) → Pair (environment m id) → Type 0
-LineGoes m id line reply a b = Goes m id (step_of m.machine (recorded_seen m.frame_at a.net) (asked_by line) (words_of line)) reply a b
+LineGoes m id line reply a b = Goes m id (doing_of m.machine (recorded_seen m.frame_at a.net) (asked_by line) (words_of line)) reply a b
 
 -- one link of a story of networks together with worlds: it is one of the networks and, with the same reply, one of the worlds, and what the line made it
 -- made of both at once
@@ -55,7 +67,7 @@ pub record PairLeft {F : Type 0} (m : Meaning F) (id : Identity) (a : Pair (envi
     (line : List ℕ) (b : Pair (environment m id)) : Type 0 where
   pub net : NetLeft m a.net line b.net
   pub leaves : Leaves (environment m id)
-      (step_of m.machine (recorded_in (environment m id) a.world) (asked_by line) (words_of line)) a.world b.world
+      (doing_of m.machine (recorded_in (environment m id) a.world) (asked_by line) (words_of line)) a.world b.world
   pub goes : LineGoes m id line None a b
 
 -- a line was left without an answer for want of memory: it was left off, or it was served and its answer could not be spelt

@@ -1,5 +1,5 @@
 ghost use Rattle.std.specs.Prelude.{◌≡◌};
-ghost use Rattle.node_shell.specs.Serve.{name_of, is_end};
+ghost use Rattle.node_shell.specs.Replies.{is_end};
 
 use network_core::Outcome;
 use std::fmt;
@@ -17,28 +17,6 @@ pub enum Reply {
     Printed(String),
 }
 
-/// The name of a refusal; empty for a code that is none's.
-fn name_of(code: u8) -> &'static str
-    ensures { result.now ≡ name_of code }
-{
-    match code {
-        1 => "Syntax",
-        2 => "UnknownNode",
-        3 => "NodeDown",
-        4 => "NodeUp",
-        5 => "UnknownClass",
-        6 => "BadArgs",
-        7 => "NoFrame",
-        8 => "NoFuse",
-        9 => "Full",
-        10 => "Backwards",
-        11 => "NoFlow",
-        12 => "NoTransaction",
-        13 => "Journal",
-        _ => "",
-    }
-}
-
 impl Reply {
     /// Whether the script ends here.
     pub fn is_end(&self) -> bool
@@ -50,7 +28,7 @@ impl Reply {
 
 impl fmt::Display for Reply {
     ghost use Rattle.std.specs.Prelude.{Some};
-    ghost use Rattle.node_shell.specs.Serve.{reply_text};
+    ghost use Rattle.node_shell.specs.Replies.{reply_text};
 
     ghost output = { λ r. Some (reply_text r) };
 
@@ -74,8 +52,9 @@ impl fmt::Display for Reply {
             Reply::Told(Outcome::Fault) => writeln!(f, "fault"),
             Reply::Told(Outcome::Drained { full: true }) => writeln!(f, "drained full"),
             Reply::Told(Outcome::Drained { full: false }) => writeln!(f, "drained"),
-            Reply::Told(Outcome::Refused { code }) => {
-                let name = name_of(*code);
+            Reply::Told(Outcome::Refused { why }) => {
+                let code = why.code();
+                let name = why.name();
                 writeln!(f, "! {code} {name}")
             }
             Reply::Printed(text) => write!(f, "{text}"),

@@ -7,14 +7,16 @@ ghost use Rattle.network_core.specs.Worlds.{KeepsWorld};
 ghost use Rattle.shell_words.specs.Script.{command_of, is_quit};
 ghost use Rattle.shell_words.specs.declared.commands.Command.TheVariants as command;
 ghost use Rattle.flow_machine.specs.Flows.{GivesWords};
-ghost use Rattle.node_shell.specs.Serve.{Comes, LineComes, StepComes, IsRefused, put_in, named_by, started_by, place_of, flow_of, frame_of, record_of, is_end, is_quit_command};
+ghost use Rattle.node_shell.specs.Replies.{IsRefused, is_end};
+ghost use Rattle.node_shell.specs.Serve.{Comes, LineComes, StepComes, put_in, named_by, started_by, place_of, flow_of, frame_of, record_of, is_quit_command};
 ghost use Rattle.node_shell.specs.Responds.{recorded_seen, AtSeen, PrintsFlows, PrintsFlow, OfSeen, PrintsVault, PrintsBalance, PrintsBook, PrintsTx, IsLineOf, notary_seen, PrintsHistory, StepResponds, CommandResponds, LineResponds, causes_up, given};
 
+use super::loads::load;
 use super::replies::Reply;
 use contract_verify::Judge;
 use flow_machine::{FlowSet, WordFault};
 use net_base::{ByteList, CauseList, Moment};
-use network_core::{Net, Outcome, Step};
+use network_core::{Net, Outcome, Refusal, Step};
 use node_core::Node;
 use outside::Bay;
 use shell_report::{
@@ -66,10 +68,10 @@ fn pick_of(pick: Option<u64>) -> Option<u32>
 }
 
 /// A refusal.
-fn refused(code: u8) -> Reply
-    ensures { IsRefused code result }
+pub(super) fn refused(why: Refusal) -> Reply
+    ensures { IsRefused why result }
 {
-    Reply::Told(Outcome::Refused { code })
+    Reply::Told(Outcome::Refused { why })
 }
 
 /// Makes a step, and tells its outcome.
@@ -163,13 +165,13 @@ fn started_by<B: Bay, F: FlowSet>(
 }
 
 /// A refusal of a command at a node that is there and up.
-fn refuse_at<B: Bay, F: FlowSet>(net: &Net<B, F>, place: u8, code: u8) -> Reply
-    ensures asks { AtSeen net.entry.now place result (λ bodies. IsRefused code result) }
+fn refuse_at<B: Bay, F: FlowSet>(net: &Net<B, F>, place: u8, why: Refusal) -> Reply
+    ensures asks { AtSeen net.entry.now place result (λ bodies. IsRefused why result) }
     ensures goes_on { is_end result ≡ false }
 {
     match net.nodes().get(place as usize) {
-        None => refused(2),
-        Some(node) => refused(if node.is_up() { code } else { 3 }),
+        None => refused(Refusal::UnknownNode),
+        Some(node) => refused(if node.is_up() { why } else { Refusal::NodeDown }),
     }
 }
 
@@ -198,8 +200,8 @@ fn start<B: Bay, F: FlowSet, J: Judge>(
             make(alloc, net, &step, contracts)
         }
         Err(WordFault::Memory) => Err(AllocError),
-        Err(WordFault::UnknownClass) => Ok(refuse_at(net, place, 5)),
-        Err(WordFault::BadArgs) => Ok(refuse_at(net, place, 6)),
+        Err(WordFault::UnknownClass) => Ok(refuse_at(net, place, Refusal::UnknownClass)),
+        Err(WordFault::BadArgs) => Ok(refuse_at(net, place, Refusal::BadArgs)),
     }
 }
 
@@ -213,10 +215,10 @@ fn print_flows<B: Bay, F: FlowSet>(
     ensures goes_on { IfOk result (λ reply. is_end reply ≡ false) }
 {
     let Some(node) = net.nodes().get(place as usize) else {
-        return Ok(refused(2));
+        return Ok(refused(Refusal::UnknownNode));
     };
     match node.flows() {
-        None => Ok(refused(3)),
+        None => Ok(refused(Refusal::NodeDown)),
         Some(flows) => Ok(Reply::Printed(flows_text(alloc, flows)?)),
     }
 }
@@ -232,12 +234,12 @@ fn print_flow<B: Bay, F: FlowSet>(
     ensures goes_on { IfOk result (λ reply. is_end reply ≡ false) }
 {
     let Some(node) = net.nodes().get(place as usize) else {
-        return Ok(refused(2));
+        return Ok(refused(Refusal::UnknownNode));
     };
     match node.flows() {
-        None => Ok(refused(3)),
+        None => Ok(refused(Refusal::NodeDown)),
         Some(flows) => match flow_text(alloc, flows, flow)? {
-            None => Ok(refused(11)),
+            None => Ok(refused(Refusal::NoFlow)),
             Some(line) => Ok(Reply::Printed(line)),
         },
     }
@@ -253,10 +255,10 @@ fn print_vault<B: Bay, F: FlowSet>(
     ensures goes_on { IfOk result (λ reply. is_end reply ≡ false) }
 {
     let Some(node) = net.nodes().get(place as usize) else {
-        return Ok(refused(2));
+        return Ok(refused(Refusal::UnknownNode));
     };
     match node.ledger() {
-        None => Ok(refused(3)),
+        None => Ok(refused(Refusal::NodeDown)),
         Some(ledger) => {
             let text = vault_text(alloc, ledger.store(), ledger.vault())?;
             Ok(Reply::Printed(text))
@@ -274,16 +276,16 @@ fn print_balance<B: Bay, F: FlowSet>(
     ensures goes_on { IfOk result (λ reply. is_end reply ≡ false) }
 {
     let Some(node) = net.nodes().get(place as usize) else {
-        return Ok(refused(2));
+        return Ok(refused(Refusal::UnknownNode));
     };
     match node.ledger() {
-        None => Ok(refused(3)),
+        None => Ok(refused(Refusal::NodeDown)),
         Some(ledger) => Ok(Reply::Printed(balance_text(alloc, ledger.vault())?)),
     }
 }
 
 /// The place of the notary.
-fn notary_of<B: Bay, F: FlowSet>(net: &Net<B, F>) -> u8
+pub(super) fn notary_of<B: Bay, F: FlowSet>(net: &Net<B, F>) -> u8
     ensures { result ≡ notary_seen net.entry.now }
 {
     match net.nodes().get(0) {
@@ -302,10 +304,10 @@ fn print_book<B: Bay, F: FlowSet>(
     ensures goes_on { IfOk result (λ reply. is_end reply ≡ false) }
 {
     let Some(node) = net.nodes().get(place as usize) else {
-        return Ok(refused(2));
+        return Ok(refused(Refusal::UnknownNode));
     };
     match node.ledger() {
-        None => Ok(refused(3)),
+        None => Ok(refused(Refusal::NodeDown)),
         Some(ledger) => Ok(Reply::Printed(book_text(alloc, ledger.book())?)),
     }
 }
@@ -331,12 +333,12 @@ fn print_tx<B: Bay, F: FlowSet>(
     ensures goes_on { IfOk result (λ reply. is_end reply ≡ false) }
 {
     let Some(node) = net.nodes().get(place as usize) else {
-        return Ok(refused(2));
+        return Ok(refused(Refusal::UnknownNode));
     };
     match node.ledger() {
-        None => Ok(refused(3)),
+        None => Ok(refused(Refusal::NodeDown)),
         Some(ledger) => match tx_line(alloc, ledger.store(), name)? {
-            None => Ok(refused(12)),
+            None => Ok(refused(Refusal::NoTransaction)),
             Some(line) => Ok(Reply::Printed(line)),
         },
     }
@@ -365,7 +367,7 @@ fn print_history<B: Bay, F: FlowSet>(alloc: Global, net: &Net<B, F>) -> Result<R
     ensures goes_on { IfOk result (λ reply. is_end reply ≡ false) }
 {
     match all_causes(alloc, net.nodes())? {
-        None => Ok(refused(3)),
+        None => Ok(refused(Refusal::NodeDown)),
         Some(lists) => Ok(Reply::Printed(history_text(alloc, lists.as_slice())?)),
     }
 }
@@ -445,8 +447,9 @@ fn serve<B: Bay, F: FlowSet, J: Judge>(
         Command::Book => print_book(alloc, net, notary_of(net)),
         Command::TxLine { node, name } => print_tx(alloc, net, place_of(node), &name),
         Command::History => print_history(alloc, net),
+        Command::Load { seed, count } => load(alloc, net, seed, count, contracts),
         Command::Quit => Ok(Reply::Quit),
-        Command::Unknown => Ok(refused(1)),
+        Command::Unknown => Ok(refused(Refusal::Syntax)),
     }
 }
 
@@ -454,8 +457,8 @@ fn serve<B: Bay, F: FlowSet, J: Judge>(
 ///
 /// # Errors
 ///
-/// `AllocError` for want of memory. Nothing has changed then, but that a drain keeps the turns, posts and deliveries that it made, and
-/// that a node which was to be booted has its power back.
+/// `AllocError` for want of memory. Nothing has changed then, but that a drain keeps the turns, posts and deliveries that it made, a
+/// load its starts and drains, and that a node which was to be booted has its power back.
 pub fn reply_to<B: Bay, F: FlowSet, J: Judge>(
     alloc: Global,
     net: &mut Net<B, F>,
@@ -471,7 +474,7 @@ pub fn reply_to<B: Bay, F: FlowSet, J: Judge>(
         return Ok(Reply::Silence);
     }
     if !is_readable(line) {
-        return Ok(refused(1));
+        return Ok(refused(Refusal::Syntax));
     }
     let words = words_of(alloc, line)?;
     serve(alloc, net, words.as_slice(), contracts)

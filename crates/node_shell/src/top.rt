@@ -196,7 +196,7 @@ fn run_in_folder<S: Source, K: Sink, B: Bay, F: FlowSet, J: Judge>(
 /// and in any order; without them there are two nodes, node 0 is the notary, and the disks are in memory. Of the 32 disks node `n` has
 /// disks `2n` and `2n + 1`, which are made ready as `node-n.a` and `node-n.b`, in the folder that `--dir` names or in memory; its journal
 /// is on the first. All disks are made ready in order, and then the nodes are opened in order. The contracts are those by which the nodes verify transactions. A script has at most 16,777,216 bytes. Each line
-/// of it is a command, which has one answer line or, a query, several; a blank line, one that begins with `#` and `quit` have none. The
+/// of it is a command, which has one answer line or, a query or a load, several; a blank line, one that begins with `#` and `quit` have none. The
 /// frames that wait when it ends are not kept.
 ///
 /// Over disks that show a coherent world the script is one way of the network together with that world (`scripts_are_ways`). So at every

@@ -14,7 +14,7 @@ use ledger_acts::{
     settles_as_meant, sign, take_job, unclaimed_is_picked, unjudged_as_meant, verify_unjudged,
 };
 use ledger_tables::LedgerTables;
-use ledger_types::{LedgerChange, Request, SignedTx, Tx, Verdict};
+use ledger_types::{LedgerChange, Request, SignedTx, Tx, Verdict, WireTx};
 use net_base::{
     Boxed, Hash32, Identity, ListOf, Moment, Party, PartySet, Reader, Spelt, StateRef, Tag, Token,
     Writer,
@@ -39,7 +39,7 @@ const fn node(party: Party) -> Identity {
 }
 
 /// A transaction that makes an amount of a token for party 1, and consumes the state if there is one.
-fn cash(alloc: Global, input: Option<StateRef>, amount: u8) -> Result<Tx, Fail>
+fn cash(alloc: Global, input: Option<StateRef>, amount: u8) -> Result<WireTx, Fail>
     ensures { IfOk result (λ tx. IsTx tx) }
 {
     let mut out = Writer::new(alloc);
@@ -57,11 +57,12 @@ fn cash(alloc: Global, input: Option<StateRef>, amount: u8) -> Result<Tx, Fail>
     )?;
     out.put_bytes(alloc, &[0, 0, 0, 0, 1, 0, 0, 0])?;
     let bytes = out.into_bytes();
-    Ok(Tx::decode(alloc, &mut Reader::new(bytes.as_slice()))?)
+    let tx = Tx::decode(alloc, &mut Reader::new(bytes.as_slice()))?;
+    Ok(WireTx::new(tx))
 }
 
 /// A transaction that makes 100 of a token for party 1, and consumes the state if there is one.
-fn transaction(alloc: Global, input: Option<StateRef>) -> Result<Tx, Fail>
+fn transaction(alloc: Global, input: Option<StateRef>) -> Result<WireTx, Fail>
     ensures { IfOk result (λ tx. IsTx tx) }
 {
     cash(alloc, input, 100)
@@ -81,7 +82,7 @@ fn apply(alloc: Global, ledger: &mut LedgerTables, change: LedgerChange) -> Resu
 }
 
 /// Records a transaction where it may be recorded.
-fn record(alloc: Global, ledger: &mut LedgerTables, tx: Tx) -> Result<bool, AllocError>
+fn record(alloc: Global, ledger: &mut LedgerTables, tx: WireTx) -> Result<bool, AllocError>
     requires { IsTx tx }
 {
     let tags = ListOf::new(alloc);
@@ -126,7 +127,7 @@ fn number_of(with: &Resumed) -> u16 {
 fn ask_notary(
     alloc: Global,
     ledger: &LedgerTables,
-    tx: &Tx,
+    tx: &WireTx,
 ) -> Result<(u16, usize, bool, bool), AllocError>
     requires { IsTx tx.now }
 {
@@ -153,7 +154,7 @@ fn ask(
     alloc: Global,
     ledger: &LedgerTables,
     id: &Hash32,
-    tx: &Tx,
+    tx: &WireTx,
 ) -> Result<[(u16, usize, bool, bool); 3], AllocError> {
     let token = Token {
         issuer: Party(3),
@@ -167,7 +168,7 @@ fn ask(
 }
 
 /// The ledger of party 1 in which the transaction is recorded.
-fn ledger_with(alloc: Global, tx: Tx) -> Result<LedgerTables, AllocError>
+fn ledger_with(alloc: Global, tx: WireTx) -> Result<LedgerTables, AllocError>
     requires { IsTx tx }
 {
     let mut ledger = new_ledger(alloc, Party(1));
@@ -365,7 +366,7 @@ fn settle(
 fn settle_verify(
     alloc: Global,
     store: &Store,
-    tx: Tx,
+    tx: WireTx,
 ) -> Result<(bool, (bool, u16), (u16, usize, bool, bool)), AllocError>
     requires { IsTx tx }
 {
@@ -377,7 +378,7 @@ fn settle_verify(
 fn settle_record(
     alloc: Global,
     store: &Store,
-    tx: Tx,
+    tx: WireTx,
 ) -> Result<(bool, (bool, u16), (u16, usize, bool, bool)), AllocError>
     requires { IsTx tx }
 {

@@ -122,6 +122,21 @@ balances_of held (t ∷ ts) = balance_lines held (t ∷ ts)
 abbrev pub balance_text : List Held → List ℕ
 balance_text held = balances_of held (tokens_of held)
 
+-- ---- totals
+
+-- the line of a token among the states of several vaults, without its end
+abbrev pub total_line : List Held → Token → List ℕ
+total_line held token = codes "total " ++ token_text token ++ codes " " ++ decimal (balance_of token held)
+
+-- a line for each of these tokens
+abbrev pub total_lines : List Held → List Token → List ℕ
+total_lines held [] = []
+total_lines held (t ∷ ts) = total_line held t ++ 10 ∷ total_lines held ts
+
+-- a line for each token of which there is Cash among the states of several vaults, ascending; none where there is none
+abbrev pub totals_text : List Held → List ℕ
+totals_text held = total_lines held (tokens_of held)
+
 -- ---- a notary's book
 
 -- what a notary answered: that it signed, or the code of its refusal

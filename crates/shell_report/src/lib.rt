@@ -13,7 +13,7 @@ mod names;
 mod states;
 mod transactions;
 
-pub use balances::balance_text;
+pub use balances::{balance_text, totals_text};
 pub use copies::copy_causes;
 pub use entries::book_text;
 pub use flows::{flow_text, flows_text};

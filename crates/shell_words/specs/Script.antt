@@ -9,7 +9,7 @@ use Rattle.net_base.specs.Numbers.{number_of}
 use Rattle.shell_words.specs.declared.commands.Command.{Command}
 use Rattle.shell_words.specs.declared.commands.TxName.{TxName}
 use Rattle.shell_words.specs.declared.commands.TxName.TheVariants.{Id, Place}
-use Rattle.shell_words.specs.declared.commands.Command.TheVariants.{Clock, Start, Turn, Post, Deliver, Repeat, Lose, Cut, Boot, Drain, Flows, Flow, Vault, Balance, Book, TxLine, History, Quit, Unknown}
+use Rattle.shell_words.specs.declared.commands.Command.TheVariants.{Clock, Start, Turn, Post, Deliver, Repeat, Lose, Cut, Boot, Drain, Flows, Flow, Vault, Balance, Book, TxLine, History, Load, Quit, Unknown}
 
 -- ---- lines
 
@@ -209,6 +209,12 @@ lose_of None place = Unknown
 lose_of (Some node) None = Unknown
 lose_of (Some node) (Some place) = Lose node place
 
+-- `load` with a seed and a count of at most 1,000 payments
+abbrev pub load_of : Option ℕ → Option ℕ → Command
+load_of None count = Unknown
+load_of (Some seed) None = Unknown
+load_of (Some seed) (Some count) = if nat_le count 1000 then Load seed count else Unknown
+
 -- what one word asks for: `drain`, `book`, `history` or `quit`
 abbrev pub one_word : List ℕ → Command
 one_word w = if bytes_eq w (codes "drain") then Drain else if bytes_eq w (codes "book") then Book else if bytes_eq w (codes "history") then History else if bytes_eq w (codes "quit") then Quit else Unknown
@@ -225,15 +231,19 @@ two_words w n = if bytes_eq w (codes "clock") then clock_of (number_of n) else i
 abbrev pub many_words : List ℕ → List ℕ → Command
 many_words w n = if bytes_eq w (codes "start") then start_of (number_of n) else Unknown
 
--- what three words ask for of a frame: `deliver N I`, `repeat N I` or `lose N I`; or `start N CLASS`
+-- what three words ask for where no other command has so many: `load SEED COUNT` or `start N CLASS`
+abbrev pub load_words : List ℕ → List ℕ → List ℕ → Command
+load_words w n m = if bytes_eq w (codes "load") then load_of (number_of n) (number_of m) else many_words w n
+
+-- what three words ask for of a frame: `deliver N I`, `repeat N I` or `lose N I`; or `load SEED COUNT` or `start N CLASS`
 abbrev pub frame_words : List ℕ → List ℕ → List ℕ → Command
 frame_words w n m =
     if bytes_eq w (codes "deliver") then deliver_of (number_of n) (number_of m)
     else if bytes_eq w (codes "repeat") then repeat_of (number_of n) (number_of m)
     else if bytes_eq w (codes "lose") then lose_of (number_of n) (number_of m)
-    else many_words w n
+    else load_words w n m
 
--- what three words ask for: `turn N F`, `flow N F`, `tx N NAME`, what is asked of a frame, or `start N CLASS`
+-- what three words ask for: `turn N F`, `flow N F`, `tx N NAME`, what is asked of a frame, `load SEED COUNT`, or `start N CLASS`
 abbrev pub three_words : List ℕ → List ℕ → List ℕ → Command
 three_words w n m = if bytes_eq w (codes "turn") then picked_turn_of (number_of n) (number_of m) else if bytes_eq w (codes "flow") then flow_of (number_of n) (number_of m) else if bytes_eq w (codes "tx") then tx_of (number_of n) (tx_name m) else frame_words w n m
 
@@ -278,6 +288,7 @@ asks_quit (Balance node) = false
 asks_quit Book = false
 asks_quit (TxLine node name) = false
 asks_quit History = false
+asks_quit (Load seed count) = false
 asks_quit Quit = true
 asks_quit Unknown = false
 

@@ -1,5 +1,5 @@
 ghost use Rattle.std.specs.Prelude.{◌≡◌, map, string_bytes, nat_le, if◌then◌else◌, Some, None};
-ghost use Rattle.shell_words.specs.Script.{asked, one_word, ledger_words, two_words, frame_words, three_words, four_words, many_words, command_of};
+ghost use Rattle.shell_words.specs.Script.{asked, one_word, ledger_words, two_words, load_words, frame_words, three_words, four_words, many_words, command_of};
 
 use super::words::tx_name;
 use net_base::{Hash32, number};
@@ -50,6 +50,8 @@ pub enum Command {
     TxLine { node: u64, name: TxName },
     /// `history`.
     History,
+    /// `load SEED COUNT`: payments between the nodes, drawn from the seed. The count is at most 1,000.
+    Load { seed: u64, count: u64 },
     /// `quit`.
     Quit,
     /// Any other words.
@@ -117,6 +119,25 @@ fn many_words(word: &str, node: &str) -> Option<Command>
     }
 }
 
+/// The count of payments of a load: 0 to 1,000.
+fn load_count(count: u64) -> Option<u64>
+    ensures { result ≡ (if nat_le count 1000 then Some count else None) }
+{
+    if count <= 1000 { Some(count) } else { None }
+}
+
+fn load_words(word: &str, seed: &str, count: &str) -> Option<Command>
+    ensures { asked result ≡ load_words word.now seed.now count.now }
+{
+    if word == "load" {
+        let seed = number(seed)?;
+        let count = load_count(number(count)?)?;
+        Some(Command::Load { seed, count })
+    } else {
+        many_words(word, seed)
+    }
+}
+
 fn frame_words(word: &str, node: &str, place: &str) -> Option<Command>
     ensures { asked result ≡ frame_words word.now node.now place.now }
 {
@@ -130,7 +151,7 @@ fn frame_words(word: &str, node: &str, place: &str) -> Option<Command>
         let (node, place) = (number(node)?, number(place)?);
         Some(Command::Lose { node, place })
     } else {
-        many_words(word, node)
+        load_words(word, node, place)
     }
 }
 

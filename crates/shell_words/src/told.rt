@@ -18,8 +18,7 @@ pub enum Told {
 const ABOUT: &str = "Runs a script of commands over a network of Corda nodes.
 The script comes from standard input, one command a line; the answers go to standard output.";
 
-/// The commands and the statuses, below its options: a line for each. The place of a command for
-/// loads is behind `history`.
+/// The commands and the statuses, below its options: a line for each.
 const COMMANDS: &str =
     "Commands (N, P: a node, from 0; F: the number of a flow; I: the place of a frame, from 0):
   clock T             sets the network's moment
@@ -39,6 +38,7 @@ const COMMANDS: &str =
   book                tells the notary's entries
   tx N ID             tells a transaction, by its id or by #K, the K-th recorded
   history             tells the transitions of the run
+  load SEED COUNT     issues cash to each node but the notary, and makes COUNT payments, drawn from SEED
   quit                ends the script
 A line that begins with # has no answer.
 

@@ -12,7 +12,7 @@ ghost use Rattle.tx_tear.specs.Tearing.{part_of, shown_group, hidden_group, torn
 use crate::values::group_value;
 use component_merkle::nonce;
 use ledger_types::parts::{ItsDeed, ItsSigners, Part, Whole};
-use ledger_types::{Command, TornGroup, TornPart, TornTx, Tx, TxState, Window};
+use ledger_types::{Command, TornGroup, TornPart, TornTx, Tx, TxState, Window, WireTx};
 use net_base::{Block, ByteList, Hash32, ListOf, Party, StateRef};
 use std::alloc::{AllocError, Global};
 
@@ -100,7 +100,7 @@ fn torn_groups(alloc: Global, tx: &Tx) -> Result<Vec<TornGroup>, AllocError>
 /// groups of inputs (0), notary (4), time window (5) and references (7), and hides the others. It is within the limits
 /// of a tear-off: at most 9 groups, with at most 96 shown components of at most 64 bytes each.
 #[tactic(auto, unfolding(crate::specs::Tearing::tear_of), using(crate::proofs::Groups::truncated))]
-pub fn tear(alloc: Global, tx: &Tx) -> Result<TornTx, AllocError>
+pub fn tear(alloc: Global, tx: &WireTx) -> Result<TornTx, AllocError>
     requires { IsTx tx.now }
     ensures torn { IfOk result (λ t. t ≡ tear_of tx.now) }
     ensures within { IfOk result IsTornTx }

@@ -2,7 +2,7 @@ ghost use Rattle.ledger_types.specs.Txs.{IsTx};
 
 use super::columns::{bytes, let_go};
 use anyhow::{Result, bail};
-use ledger_types::{TornTx, Tx, Visible};
+use ledger_types::{TornTx, Tx, Visible, WireTx};
 use net_base::{ByteList, Hash32, Reader, Writer};
 use std::alloc::Global;
 use tx_tear::{TearFault, tear, visible};
@@ -36,7 +36,7 @@ fn is_copied(alloc: Global, tx: &Tx) -> Result<bool> {
 }
 
 /// The bytes of the transaction's tear-off.
-fn torn_bytes(alloc: Global, tx: &Tx) -> Result<ByteList>
+fn torn_bytes(alloc: Global, tx: &WireTx) -> Result<ByteList>
     requires { IsTx tx.now }
 {
     let torn = tear(alloc, tx)?;
@@ -56,7 +56,7 @@ fn read_shown(alloc: Global, bytes: &[u8]) -> Result<Visible> {
 }
 
 /// The id of a transaction and its tear-off, whose bytes are read again before it is looked at.
-fn torn_text(alloc: Global, tx: &Tx) -> Result<String>
+fn torn_text(alloc: Global, tx: &WireTx) -> Result<String>
     requires { IsTx tx.now }
 {
     if !is_copied(alloc, tx)? {
@@ -80,8 +80,9 @@ pub fn transaction_of(alloc: Global, values: &[&str]) -> Result<String> {
         bail!("a transaction has one value")
     };
     let tx = Tx::decode(alloc, &mut Reader::new(bytes(alloc, column)?.as_slice()))?;
+    let tx = WireTx::new(tx);
     let text = torn_text(alloc, &tx);
-    let_go(tx);
+    let_go(tx.into_inner());
     text
 }
 

@@ -15,9 +15,10 @@ returns-in-Some-clause-vault c = λ locks v.
     let stx = c.into_inner-stx.result in
     let before = untagged store in
     let id : c.id.result ≡ tx_id stx.tx = (λ i. record { 0 = c.id.ensures i }) in
+    let noted = rw c.deref.ensures at c.note.ensures.vault in
     let next : may_record store (Some stx) ≡ true = subst (λ (o : Option SignedTx). may_record store o ≡ true) (c.in-Some.is ∙ ap (λ (x : SignedTx). Some x) (sym c.into_inner-stx.ensures)) c.requires.next in
     let may : may_note before c.id.result stx.tx ≡ true = subst (λ (x : Hash32). may_note before x stx.tx ≡ true) (sym id) (noted_next store stx next) in
     let put : c.put.result ≡ true = c.put.ensures.fresh ∙ (and_parts (not (is_stored store (tx_id stx.tx))) (has_dependencies store stx.tx) next).0 in
     let list : c.put.new.self.list ≡ store ++ (tx_id stx.tx, stx) ∷ [] = c.put.ensures.list ∙ ap (λ b. if b then store ++ (tx_id stx.tx, stx) ∷ [] else store) put in
     let after : before ++ (c.id.result, stx.tx) ∷ [] ≡ untagged c.put.new.self.list = ap (λ (x : Hash32). before ++ (x, stx.tx) ∷ []) id ∙ sym (untagged_more store (tx_id stx.tx) stx) ∙ ap untagged (sym list) in
-    subst (λ (l : List (Hash32 × Tx)). IsVault c.args.vault.now.party l locks c.note.new.self.held) after (c.note.ensures.vault before locks v may)
+    subst (λ (l : List (Hash32 × Tx)). IsVault c.args.vault.now.party l locks c.note.new.self.held) after (noted before locks v may)

@@ -5,6 +5,7 @@ use Rattle.shell_words.specs.declared.commands.Command.TheVariants as command
 use Rattle.node_shell.specs.Serve.{place_of, flow_of, frame_of}
 use Rattle.node_shell.specs.Responds.{given}
 use Rattle.node_shell.proofs.Asked.{made, answered, asked_as, asked_responds, shown_responds}
+use Rattle.node_shell.proofs.Loaded.{load_comes}
 use Rattle.node_shell.proofs.serving.serve.Goals as goal
 
 pub returns-in-Clock-clause-serves : goal.returns-in-Clock-clause-serves
@@ -263,3 +264,16 @@ returns-in-History-clause-responds g c =
     let m = meaning g.F.FlowSet.machine g.F.Spelt.reading (g.J.Judge.judges c.args.contracts.now) in
     let ws = map (λ s. string_bytes s) c.args.words.now in
     asked_responds m c.args.net.now c.args.net.now command.History ws (given c.print_history.result) c.in-History.ensures (shown_responds m c.args.net.now command.History ws c.print_history.result refl c.print_history.ensures.asks)
+
+pub returns-in-Load-clause-serves : goal.returns-in-Load-clause-serves
+returns-in-Load-clause-serves g c =
+    let m = meaning g.F.FlowSet.machine g.F.Spelt.reading (g.J.Judge.judges c.args.contracts.now) in
+    let ws = map (λ s. string_bytes s) c.args.words.now in
+    asked_as m c.args.net.now c.load.new.net (command.Load c.in-Load.seed c.in-Load.count) ws c.load.result c.in-Load.ensures
+    (load_comes m c.args.net.now c.load.new.net c.in-Load.seed c.in-Load.count ws c.load.result c.load.ensures.goes)
+
+pub returns-in-Load-clause-responds : goal.returns-in-Load-clause-responds
+returns-in-Load-clause-responds g c =
+    let m = meaning g.F.FlowSet.machine g.F.Spelt.reading (g.J.Judge.judges c.args.contracts.now) in
+    let ws = map (λ s. string_bytes s) c.args.words.now in
+    asked_responds m c.args.net.now c.load.new.net (command.Load c.in-Load.seed c.in-Load.count) ws (given c.load.result) c.in-Load.ensures c.load.ensures.goes

@@ -1,5 +1,5 @@
 use Rattle.std.proofs.Common.{◌∙◌, sym, refl, inl, inr}
-use Rattle.node_shell.specs.Serve.{reply_text}
+use Rattle.node_shell.specs.Replies.{reply_text}
 use Rattle.node_shell.proofs.session.answer.Goals as goal
 
 pub returns-in_default-clause-comes : goal.returns-in_default-clause-comes

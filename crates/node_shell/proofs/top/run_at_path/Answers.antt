@@ -1,4 +1,4 @@
-use Rattle.std.proofs.Common.{◌≡◌, inl, inr, ◌*◌, length, map, drop, [], Some, refl, sym, ◌∙◌, ap, subst}
+use Rattle.std.proofs.Common.{inl, inr, ◌*◌, length, map, drop, [], Some, sym, ◌∙◌, ap, subst}
 use Rattle.std.specs.Prelude.{Err}
 use Rattle.node_shell.specs.declared.statuses.Status.{Status}
 use Rattle.net_model.specs.Environment.{meaning}

@@ -1,4 +1,4 @@
-use Rattle.std.proofs.Common.{◌≡◌, inl, inr, ◌*◌, length, map, drop, [], None, ◌+◌, refl, sym, ◌∙◌, ap, subst, arith}
+use Rattle.std.proofs.Common.{inl, inr, ◌*◌, length, map, drop, [], None, ◌+◌, refl, sym, ◌∙◌, ap, subst}
 use Rattle.std.specs.Prelude.{Err}
 use Rattle.node_shell.specs.declared.statuses.Status.{Status}
 use Rattle.net_model.specs.Environment.{meaning, party}

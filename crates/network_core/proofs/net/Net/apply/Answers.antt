@@ -2,6 +2,7 @@ use Rattle.net_model.specs.Environment.{meaning, unjudged}
 use Rattle.std.specs.contracts.alloc.AllocError.{the_row}
 use Rattle.network_core.specs.declared.steps.Step.TheVariants as step
 use Rattle.std.proofs.Common.{inl, inr, Ok, refl, sym, ◌∙◌, ap, arith, true, false, Some, None}
+use Rattle.network_core.specs.declared.refusal.Refusal.TheVariants as refusal
 use Rattle.network_core.specs.declared.steps.Outcome.TheVariants as outcome
 use Rattle.network_core.specs.Rounds.{drain_outcome}
 use Rattle.network_core.proofs.Places.{start_world, turn_world, cut_within, clock_world, lose_world}
@@ -131,4 +132,4 @@ pub returns-in-Err-clause-pairs : goal.returns-in-Err-clause-pairs
 returns-in-Err-clause-pairs g c = rw c.in-Drain.is (pair_drain (meaning g.F.FlowSet.machine g.F.Spelt.reading (g.J.Judge.judges c.args.contracts.now)) c.args.self.now c.drain.new.self None c.drain.ensures.clock (drained_as (meaning g.F.FlowSet.machine g.F.Spelt.reading (g.J.Judge.judges c.args.contracts.now)) c.args.self.now c.drain.new.self c.drain.result None (ap drain_outcome c.in-Err.is) c.drain.ensures).pairs)
 
 pub returns-then-outcome-gt3-clause-pairs : goal.returns-then-outcome-gt3-clause-pairs
-returns-then-outcome-gt3-clause-pairs g c = rw c.in-Cut.is (pair_step {E = the_row.Denot} (meaning g.F.FlowSet.machine g.F.Spelt.reading (g.J.Judge.judges c.args.contracts.now)) c.args.self.now c.args.self.now (Ok (outcome.Refused 1)) (step.Cut c.in-Cut.node c.in-Cut.calls c.in-Cut.outcome) (λ drain. cc) (λ id w shows coherent. (w, shows, coherent, inl (c.if-outcome-gt3.true, refl, refl))) (inl (c.if-outcome-gt3.true, refl, refl)))
+returns-then-outcome-gt3-clause-pairs g c = rw c.in-Cut.is (pair_step {E = the_row.Denot} (meaning g.F.FlowSet.machine g.F.Spelt.reading (g.J.Judge.judges c.args.contracts.now)) c.args.self.now c.args.self.now (Ok (outcome.Refused refusal.Syntax)) (step.Cut c.in-Cut.node c.in-Cut.calls c.in-Cut.outcome) (λ drain. cc) (λ id w shows coherent. (w, shows, coherent, inl (c.if-outcome-gt3.true, refl, refl))) (inl (c.if-outcome-gt3.true, refl, refl)))

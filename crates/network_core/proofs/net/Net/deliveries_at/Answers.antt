@@ -1,6 +1,7 @@
 use Rattle.net_model.specs.Environment.{judge_without_contracts, meaning, unjudged}
 use Rattle.std.proofs.Common.{◌≡◌, ◌+◌, ◌<◌, None, Some, Ok, false, true, refl, arith, ap, sym, ◌∙◌, length, slice_get, Option}
 use Rattle.std.specs.contracts.alloc.AllocError.{the_row}
+use Rattle.network_core.specs.declared.refusal.Refusal.TheVariants as refusal
 use Rattle.network_core.specs.declared.steps.Outcome.{Outcome}
 use Rattle.network_core.specs.declared.steps.Outcome.TheVariants as outcome
 use Rattle.network_core.specs.Answers.{said}
@@ -36,7 +37,7 @@ returns-in_err-outcome-clause-drives g c =
 pub returns-in-Full-clause-drives : goal.returns-in-Full-clause-drives
 returns-in-Full-clause-drives g c =
     let p = c.args.place in
-    let full : Option Outcome = Some (outcome.Refused 9) in
+    let full : Option Outcome = Some (outcome.Refused refusal.Full) in
     λ judge. drives_then (meaning g.F.FlowSet.machine g.F.Spelt.reading judge) _ _ _ (λ W s w v. Counts c.frames.moved (Hands s p c.frames.counter) w v) (λ W s w v. (p < s.count w) × s.hand p w full v) (λ W s w v. HandStops s p full w v)
     (λ W s laws w u v a b. hand_stops s p c.frames.counter c.frames.moved full w u v a b.1)
     (c.frames.invariant.drives judge)

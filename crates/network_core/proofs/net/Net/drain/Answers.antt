@@ -1,5 +1,6 @@
 use Rattle.net_model.specs.Environment.{meaning}
 use Rattle.std.proofs.Common.{true, Some, None, Option, refl, sym, subst}
+use Rattle.network_core.specs.declared.refusal.Refusal.TheVariants as refusal
 use Rattle.network_core.specs.declared.steps.Outcome.{Outcome}
 use Rattle.network_core.specs.declared.steps.Outcome.TheVariants as outcome
 use Rattle.network_core.specs.Drains.{Drains}
@@ -22,7 +23,7 @@ returns-in_err-round g c =
 
 pub returns-in-Full : goal.returns-in-Full
 returns-in-Full g c =
-    let full : Option Outcome = Some (outcome.Refused 9) in
+    let full : Option Outcome = Some (outcome.Refused refusal.Full) in
     drains_stopped (meaning g.F.FlowSet.machine g.F.Spelt.reading (g.J.Judge.judges c.args.contracts.now)) _ _ (Some (outcome.Drained true)) (λ is. cc)
     (drives_then (meaning g.F.FlowSet.machine g.F.Spelt.reading (g.J.Judge.judges c.args.contracts.now)) _ _ _ (λ W s w v. SomeRounds s w v) (λ W s w v. Turns c.round.result (Round s) (RoundStops s) w v) (λ W s w v. DrainStops s full w v)
     (λ W s laws w u v a b. drain_stops s full w u v a (turns_full (Round s) (RoundStops s) u v c.round.result _ c.in_ok-round.was c.in-Full.is b))

@@ -93,8 +93,8 @@ take_at-requires g c =
     let node_at = slice_get_read items (length items) p c.index_mut-node.result.now refl inside c.index_mut-node.ensures.value in
     all_get (λ (k : NodeSeen). IsBy g.F.Spelt.reading k.journal c.self.inside.now.0) items p c.index_mut-node.result.now c.self.invariant.0 node_at
 
-pub invariant_of-self-in_err-reply : goal.invariant_of-self-in_err-reply
-invariant_of-self-in_err-reply g c =
+pub invariant_of-self-in_err-delivery : goal.invariant_of-self-in_err-delivery
+invariant_of-self-in_err-delivery g c =
     let frames_of = λ (w : WaitingSeen). w.frames in
     let items = c.self.inside.nodes.items in
     let lists = c.self.inside.waiting.items in
@@ -110,8 +110,8 @@ invariant_of-self-in_err-reply g c =
     let long = set_length items p c.take_at.new.node in
     (all_set (λ (k : NodeSeen). IsBy g.F.Spelt.reading k.journal c.self.inside.now.0) items p c.take_at.new.node i.0 c.take_at.ensures.by, i.1, omega (arith, i.2, long), omega (arith, i.3, long), omega (arith, i.4, long, count))
 
-pub returns-in_err-reply : goal.returns-in_err-reply
-returns-in_err-reply g c =
+pub returns-in_err-delivery : goal.returns-in_err-delivery
+returns-in_err-delivery g c =
     let frames_of = λ (w : WaitingSeen). w.frames in
     let items = c.self.inside.nodes.items in
     let lists = c.self.inside.waiting.items in
@@ -133,7 +133,7 @@ returns-in_err-reply g c =
     let old : NetSeen = record { nodes = items; waiting = map frames_of lists; now = c.self.inside.now.0 } in
     let new : NetSeen = record { nodes = slice_set items p c.take_at.new.node; waiting = map frames_of c.make_room.new.waiting.items; now = c.self.inside.now.0 } in
     rw (← c.self.view_is)
-    (handed_err (unjudged g.F.FlowSet.machine g.F.Spelt.reading) c.args.repeated p c.args.at old new n frames at c.requires.node.2 waits c.from_residual-in_err-reply.result c.take_at.result _ c.unwrap-bytes.result.now c.take_at.new.node c.from_residual-in_err-reply.ensures.0 c.in_err-reply.was found serves refl c.make_room.ensures.frames refl)
+    (handed_err (unjudged g.F.FlowSet.machine g.F.Spelt.reading) c.args.repeated p c.args.at old new n frames at c.requires.node.2 waits c.from_residual-in_err-delivery.result c.take_at.result _ c.unwrap-bytes.result.now c.take_at.new.node c.from_residual-in_err-delivery.ensures.0 c.in_err-delivery.was found serves refl c.make_room.ensures.frames refl)
 
 pub settle-requires-clause-place : goal.settle-requires-clause-place
 settle-requires-clause-place g c =
@@ -169,7 +169,7 @@ invariant_of-self-2 g c =
     let i = c.self.invariant in
     let long = set_length items p c.take_at.new.node in
     let settled = c.settle.ensures c.index.result.now here in
-    let lists_long = settled_lists frames_of c.make_room.new.waiting.items c.settle.new.waiting.items (option_to_list c.in_ok-reply.reply.ack) c.waits_on-waits.result p c.args.at c.index.result.now.frames settled in
+    let lists_long = settled_lists frames_of c.make_room.new.waiting.items c.settle.new.waiting.items (option_to_list c.in_ok-delivery.delivery.ack) c.waits_on-waits.result p c.args.at c.index.result.now.frames settled in
     (all_set (λ (k : NodeSeen). IsBy g.F.Spelt.reading k.journal c.self.inside.now.0) items p c.take_at.new.node i.0 c.take_at.ensures.by, i.1, omega (arith, i.2, long), omega (arith, i.3, long), omega (arith, i.4, long, count, lists_long))
 
 pub returns : goal.returns
@@ -195,10 +195,10 @@ returns g c =
     let old : NetSeen = record { nodes = items; waiting = map frames_of lists; now = c.self.inside.now.0 } in
     let new : NetSeen = record { nodes = slice_set items p c.take_at.new.node; waiting = map frames_of c.settle.new.waiting.items; now = c.self.inside.now.0 } in
     let b = c.waits_on-waits.result in
-    let ack = option_to_list c.in_ok-reply.reply.ack in
+    let ack = option_to_list c.in_ok-delivery.delivery.ack in
     let waiting = c.settle.ensures c.index.result.now here ∙ ap (λ l. mailed ack (parted b p c.args.at l (map frames_of c.make_room.new.waiting.items))) list_is ∙ ap (λ ws. mailed ack (parted b p c.args.at frames ws)) c.make_room.ensures.frames in
     rw (← c.self.view_is)
-    (handed_done (unjudged g.F.FlowSet.machine g.F.Spelt.reading) c.args.repeated p c.args.at old new n frames at c.requires.node.2 waits the_row.Denot c.take_at.result c.in_ok-reply.reply c.unwrap-bytes.result.now c.take_at.new.node b c.in_ok-reply.was found serves c.waits_on-waits.ensures refl waiting refl)
+    (handed_done (unjudged g.F.FlowSet.machine g.F.Spelt.reading) c.args.repeated p c.args.at old new n frames at c.requires.node.2 waits the_row.Denot c.take_at.result c.in_ok-delivery.delivery c.unwrap-bytes.result.now c.take_at.new.node b c.in_ok-delivery.was found serves c.waits_on-waits.ensures refl waiting refl)
 
 pub invariant_of-self : goal.invariant_of-self
 invariant_of-self g c =

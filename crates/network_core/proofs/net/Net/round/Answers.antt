@@ -2,6 +2,7 @@ use Rattle.net_model.specs.Environment.{judge_without_contracts, meaning}
 use Rattle.std.proofs.Common.{Some, None, Ok, ⊎_elim, sym, ◌∙◌, Option, subst, arith}
 use Rattle.std.specs.contracts.alloc.AllocError.{the_row}
 use Rattle.network_core.specs.declared.net.Turning.{Turning}
+use Rattle.network_core.specs.declared.refusal.Refusal.TheVariants as refusal
 use Rattle.network_core.specs.declared.steps.Outcome.{Outcome}
 use Rattle.network_core.specs.declared.steps.Outcome.TheVariants as outcome
 use Rattle.network_core.specs.Rounds.{DeliversAt, HandsStop, InOrder, Posts, Round, RoundStops, Turns, TurnsAt, TurnsStop}
@@ -20,7 +21,7 @@ returns-in_err-turns-clause-drives g c =
 -- a turn met a full journal
 pub returns-then-is_full-clause-drives : goal.returns-then-is_full-clause-drives
 returns-then-is_full-clause-drives g c =
-    let full : Option Outcome = Some (outcome.Refused 9) in
+    let full : Option Outcome = Some (outcome.Refused refusal.Full) in
     drives_map (meaning g.F.FlowSet.machine g.F.Spelt.reading (g.J.Judge.judges c.args.contracts.now)) _ _ (λ W s w v. Turns c.turns.result (InOrder (TurnsAt s) (s.count w)) (TurnsStop s) w v) (λ W s w v. RoundStops s full w v)
     (λ W s laws w v h. round_stops_turns s full w v (turns_full (InOrder (TurnsAt s) (s.count w)) (TurnsStop s) w v c.turns.result _ c.in_ok-turns.was (c.is_full.ensures.full c.if-is_full.true) h))
     c.turns.ensures.drives

@@ -1,6 +1,7 @@
 use Rattle.net_model.specs.Environment.{meaning}
 use Rattle.std.proofs.Common.{◌≡◌, ◌+◌, ◌<◌, Some, None, true, refl, arith, ap, sym, ◌∙◌, length, Ok, Option}
 use Rattle.network_core.specs.Worlds.{NetSeen}
+use Rattle.network_core.specs.declared.refusal.Refusal.TheVariants as refusal
 use Rattle.network_core.specs.declared.steps.Outcome.{Outcome}
 use Rattle.network_core.specs.declared.steps.Outcome.TheVariants as outcome
 use Rattle.network_core.specs.Drains.{room}
@@ -38,7 +39,7 @@ returns-in-Full-clause-drives g c =
     let p = c.places.place in
     let before = c.places.invariant in
     let lt : p < length c.places.self.nodes = omega (arith, c.places.invariant.count, ap (λ (z : NetSeen). length z.nodes) c.self.view_is, c.self.inside.nodes.ok.0, c.len-count.ensures, c.places-test.true) in
-    let full : Option Outcome = Some (outcome.Refused 9) in
+    let full : Option Outcome = Some (outcome.Refused refusal.Full) in
     drives_then (meaning g.F.FlowSet.machine g.F.Spelt.reading (g.J.Judge.judges c.args.contracts.now)) _ _ _ (λ W s w v. (s.count w ≡ length c.args.self.now.nodes) × Counts c.places.any_moved (InOrder (TurnsAt s) p) w v) (λ W s w v. Turns c.turns_at.result (TurnsAt s p) (StopsAt s p) w v) (λ W s w v. TurnsStop s full w v)
     (λ W s laws w u v a b. turns_stop_at s full p c.places.any_moved w u v (omega (arith, a.0, before.count, lt)) a.1 (turns_full (TurnsAt s p) (StopsAt s p) u v c.turns_at.result _ c.in_ok-turns_at.was c.in-Full.is b))
     (drives_counted (meaning g.F.FlowSet.machine g.F.Spelt.reading (g.J.Judge.judges c.args.contracts.now)) _ _ (λ W s w v. Counts c.places.any_moved (InOrder (TurnsAt s) p) w v) before.drives)

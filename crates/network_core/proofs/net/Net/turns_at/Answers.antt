@@ -1,5 +1,6 @@
 use Rattle.net_model.specs.Environment.{meaning}
 use Rattle.std.proofs.Common.{◌<◌, None, Some, Ok, true, refl, arith, ap, sym, ◌∙◌, Option}
+use Rattle.network_core.specs.declared.refusal.Refusal.TheVariants as refusal
 use Rattle.network_core.specs.declared.steps.Outcome.{Outcome}
 use Rattle.network_core.specs.declared.steps.Outcome.TheVariants as outcome
 use Rattle.network_core.specs.Answers.{said}
@@ -49,7 +50,7 @@ turns-preserved g c =
 pub returns-in-Full-clause-drives : goal.returns-in-Full-clause-drives
 returns-in-Full-clause-drives g c =
     let p = c.args.place in
-    let full : Option Outcome = Some (outcome.Refused 9) in
+    let full : Option Outcome = Some (outcome.Refused refusal.Full) in
     drives_then (meaning g.F.FlowSet.machine g.F.Spelt.reading (g.J.Judge.judges c.args.contracts.now)) _ _ _ (λ W s w v. Counts c.turns.moved (Moves s p) w v) (λ W s w v. (p < s.count w) × s.turn p w full v) (λ W s w v. StopsAt s p full w v)
     (λ W s laws w u v a b. stops_at s p c.turns.moved full w u v a b.1)
     c.turns.invariant.drives

@@ -20,7 +20,7 @@ returns-in-Err-rebuild-clause-refused g c =
     let list = c.in-Ok.opened.1 in
     let old = g.D.Disk.seen c.args.disk in
     let opening : Opening c.args.identity old journal list = record { format = o.opened; told = o.list; ready = o.ready; left = o.left; same = o.same; counts = o.counts; moments = o.moments; young = o.young; sound = o.sound; later = o.later; calm = o.calm; power = o.power; burns = o.burns; no_more = o.no_more; attached = o.attached; rest = o.of_file } in
-    rw (c.rebuild_fault.ensures, c.into_disk.ensures) (unbooted g.F.Spelt.reading c.args.identity old journal list c.in-Err-rebuild.why opening c.in-Err-rebuild.ensures)
+    rw (c.from-in-Err-rebuild.ensures, c.into_disk.ensures) (unbooted g.F.Spelt.reading c.args.identity old journal list c.in-Err-rebuild.why opening c.in-Err-rebuild.ensures)
 
 pub returns-in-Err-clause-refused : goal.returns-in-Err-clause-refused
 returns-in-Err-clause-refused g c =
@@ -28,4 +28,4 @@ returns-in-Err-clause-refused g c =
     let old = g.D.Disk.seen c.args.disk in
     let new = g.D.Disk.seen c.in-Err.refused.disk in
     let closing : Closing c.args.identity old c.in-Err.refused.why new = record { refused = o.refused; begun = o.begun; was = o.was; kept = o.kept; bytes = o.bytes; moments = o.moments; young = o.young; sound = o.sound; cause = o.cause; later = o.later; calm = o.calm; power = o.refused_power; burns = o.refused_burns; no_more = o.no_more; attached = o.attached; rest = o.of_file } in
-    rw c.boot_fault.ensures (unopened g.F.Spelt.reading c.args.identity old new c.in-Err.refused.why closing)
+    rw c.from.ensures (unopened g.F.Spelt.reading c.args.identity old new c.in-Err.refused.why closing)

@@ -1,0 +1,4 @@
+pub mod Drains
+pub mod Joins
+pub mod Moved
+pub mod Spreading

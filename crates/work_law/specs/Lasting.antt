@@ -1,0 +1,30 @@
+-- What a node's history leaves as it was, over any disk.
+use Rattle.std.specs.Prelude.{◌≡◌, ℕ, ◌≤◌, true, List, ◌++◌, length, None, Some}
+use Rattle.outside.specs.Faults.{Rose}
+use Rattle.session_frames.specs.declared.sending.Outgoing.{Outgoing}
+use Rattle.net_model.specs.Environment.{Meaning}
+use Rattle.node_core.specs.Seen.{NodeSeen}
+use Rattle.work_law.specs.Calls.{Went}
+
+-- the journal goes on from the other one by so many records
+pub record GoesOnBy (count : ℕ) (old new : List (List ℕ)) : Type 0 where
+  pub more : List (List ℕ)
+  pub front : new ≡ old ++ more
+  pub counted : length more ≡ count
+
+-- a node went on, over any disk, and committed so many records
+pub record Lasts (count : ℕ) (old new : NodeSeen) : Type 0 where
+  pub identity : new.identity ≡ old.identity
+  pub down : old.journal ≡ None → (new ≡ old) × (count ≡ 0)
+  pub journal : (bodies more : List (List ℕ)) → old.journal ≡ Some bodies → new.journal ≡ Some more → GoesOnBy count bodies more
+  pub rose : (bodies : List (List ℕ)) → old.journal ≡ Some bodies → new.journal ≡ None → Rose old.disk.faults new.disk.faults
+  pub later : old.disk.faults ≤ new.disk.faults
+  -- a calm disk gives no fault and stays calm
+  pub calm : old.disk.calm ≡ true → new.disk.calm ≡ true
+  pub stays_up : (bodies : List (List ℕ)) → old.disk.calm ≡ true → old.journal ≡ Some bodies → new.journal ≡ None → ⊥
+  pub file : new.disk.of_file ≡ old.disk.of_file
+  pub tells : new.disk.tells ≡ old.disk.tells
+
+-- the law: a node that went on so lasts, and it committed 65,536 records at most
+abbrev pub HistoriesLast : (F : Type 0) → Type 0
+HistoriesLast F = (m : Meaning F) (now : ℕ) (from n : NodeSeen) (took : List (List ℕ)) (sent : List Outgoing) (count : ℕ) → Went m now from n took sent count → Lasts count from n × (count ≤ 65536)
