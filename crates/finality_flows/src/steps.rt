@@ -11,7 +11,7 @@ use crate::signers::{asks_notary, next_signer};
 use crate::tagging::{tag_by, with_tag};
 use flow_forms::{Call, Goes};
 use flow_machine::{Act, Place, Resumed};
-use ledger_types::{NotaryAnswer, Request, SignedTx, Value, Verdict};
+use ledger_types::{NotaryAnswer, Request, SignedTx, Value, Verdict, with_id};
 use net_base::{Boxed, Hash32, Key, Party, Tag, TryCopy};
 use std::alloc::{AllocError, Global};
 use tx_tear::tear;
@@ -28,16 +28,6 @@ fn tag_stx(alloc: Global, tag: Tag, stx: Boxed<SignedTx>) -> Result<Boxed<Signed
 {
     let SignedTx { tx, tags } = stx.into_inner();
     let tags = with_tag(alloc, tag, &tags)?;
-    Boxed::new(alloc, SignedTx { tx, tags })
-}
-
-/// The transaction with its id beside it, which all that follows asks for.
-fn with_id(alloc: Global, stx: Boxed<SignedTx>) -> Result<Boxed<SignedTx>, AllocError>
-    requires { IsTx stx.tx }
-    ensures { IfOk result (λ s. s ≡ stx) }
-{
-    let SignedTx { tx, tags } = stx.into_inner();
-    let tx = tx.with_id();
     Boxed::new(alloc, SignedTx { tx, tags })
 }
 

@@ -32,4 +32,4 @@ pub use tx::{
 };
 pub use value::Value;
 pub use verdict::Verdict;
-pub use wire::WireTx;
+pub use wire::{WireTx, with_id};

@@ -4,14 +4,15 @@ ghost use Rattle.std.specs.Prelude.{◌≡◌, IfOk};
 ghost use Rattle.ledger_types.specs.Ids.{id_of};
 ghost use Rattle.ledger_types.specs.Txs.{IsTx, tx, tx_at, tx_laws};
 
-use crate::tx::Tx;
-use net_base::{Hash32, PartFault, Reader, Spelt, TryCopy, Writer};
+use crate::tx::{SignedTx, Tx};
+use net_base::{Boxed, Hash32, PartFault, Reader, Spelt, TryCopy, Writer};
 use std::alloc::{AllocError, Global};
 use std::marker::Model;
 use std::ops::Deref;
 
 /// A transaction with its id beside it, once that was computed (Corda 4 documentation, `WireTransaction`). Contracts see it as the
-/// transaction, and it is spelt as the transaction. One that was read has its id beside it.
+/// transaction, and it is spelt as the transaction. One that was just read has none: who goes on to ask for it computes it first
+/// ([`WireTx::with_id`]).
 #[derive(Debug, Drop)]
 pub struct WireTx {
     tx: Tx,
@@ -87,6 +88,16 @@ impl WireTx {
     }
 }
 
+/// The signed transaction with its id beside it, for a holder who asks for the id more than once. The only error is want of memory.
+pub fn with_id(alloc: Global, stx: Boxed<SignedTx>) -> Result<Boxed<SignedTx>, AllocError>
+    requires { IsTx stx.tx }
+    ensures { IfOk result (λ s. s ≡ stx) }
+{
+    let SignedTx { tx, tags } = stx.into_inner();
+    let tx = tx.with_id();
+    Boxed::new(alloc, SignedTx { tx, tags })
+}
+
 impl Deref for WireTx {
     type Target = Tx;
 
@@ -108,9 +119,7 @@ impl Spelt for WireTx {
     ghost laws = { tx_laws };
 
     fn read_part(alloc: Global, from: &mut Reader) -> Result<WireTx, PartFault> {
-        let _place = from.place();
-        let tx = Tx::read_part(alloc, from)?;
-        Ok(WireTx::new(tx).with_id())
+        Ok(WireTx::new(Tx::read_part(alloc, from)?))
     }
 
     fn write_part(&self, alloc: Global, out: &mut Writer) -> Result<(), AllocError> {

@@ -221,6 +221,7 @@ impl<F: Spelt + Drop> NodeTables<F> {
         let Some(step) = read_step::<F>(alloc, body)? else {
             return Ok(None);
         };
+        let step = with_id(alloc, step)?;
         if self.fits(&step) {
             return Ok(Some(step));
         }
@@ -362,6 +363,15 @@ impl<F: Spelt + Drop> NodeTables<F> {
     {
         let _ = &self.bodies;
     }
+}
+
+/// The step, the id of the transaction that it records beside that, since the tables ask for it more than once.
+fn with_id<F: Spelt + Drop>(alloc: Global, step: Step<F>) -> Result<Step<F>, AllocError>
+    requires { IsStep F.within step }
+    ensures { IfOk result (λ s. s ≡ step) }
+{
+    let ledger = step.ledger.with_id(alloc)?;
+    Ok(Step { ledger, ..step })
 }
 
 /// Whether nothing was recorded, locked or booked.

@@ -12,7 +12,7 @@ ghost use Rattle.resolve_flows.specs.ResolveLaws.{kept, numbers, is_form};
 use crate::ids::{read_ids, widened, write_ids};
 use flow_forms::{ByCall, Call, Fields, Frame, Goes, Machine, Numbered, copy_option};
 use flow_machine::{Act, Place, Resumed};
-use ledger_types::{IdList, SignedTx, Value};
+use ledger_types::{IdList, SignedTx, Value, with_id};
 use net_base::{Boxed, Hash32, Key, ListOf, PartFault, Reader, Spelt, TryCopy, Writer};
 use std::alloc::{AllocError, Global};
 
@@ -162,10 +162,13 @@ impl Resolve {
     }
 
     fn lists(self, alloc: Global) -> Moved
+        requires { IsTx self.stx.tx }
         ensures { IfOk result (λ g. g ≡ lists self) }
     {
-        let act = missing(alloc, self.stx.get())?;
-        Ok(Goes::on(ResolvePlace::Listing, self, act))
+        let stx = with_id(alloc, self.stx)?;
+        let act = missing(alloc, stx.get())?;
+        let fields = Resolve { stx, ..self };
+        Ok(Goes::on(ResolvePlace::Listing, fields, act))
     }
 
     fn listed(self, alloc: Global, with: &Resumed) -> Moved
@@ -198,11 +201,11 @@ impl Resolve {
         }
     }
 
-    fn takes(self, alloc: Global, stx: &Boxed<SignedTx>) -> Moved
-        ensures { IfOk result (λ g. g ≡ takes stx.now self) }
+    fn takes(self, alloc: Global, stx: Boxed<SignedTx>) -> Moved
+        ensures { IfOk result (λ g. g ≡ takes stx self) }
     {
         let act = missing(alloc, stx.get())?;
-        let current = Some(stx.try_copy(alloc)?);
+        let current = Some(stx);
         let fields = Resolve { current, ..self };
         Ok(Goes::on(ResolvePlace::Lacking, fields, act))
     }
@@ -215,6 +218,7 @@ impl Resolve {
             Resumed::Got {
                 value: Value::Tx(stx),
             } => {
+                let stx = with_id(alloc, stx.try_copy(alloc)?)?;
                 if has_id(last_of(&self.pending), stx.get()) {
                     self.takes(alloc, stx)
                 } else {
