@@ -30,10 +30,23 @@ impl LedgerChange {
         requires { IfSome self.recorded (λ stx. IsTx stx.tx) }
         ensures { IfOk result (λ change. change ≡ self) }
     {
-        let recorded = match self.recorded {
+        let LedgerChange {
+            recorded,
+            locked,
+            owner,
+            ended,
+            booked,
+        } = self;
+        let recorded = match recorded {
             None => None,
             Some(stx) => Some(with_id(alloc, stx)?),
         };
-        Ok(LedgerChange { recorded, ..self })
+        Ok(LedgerChange {
+            recorded,
+            locked,
+            owner,
+            ended,
+            booked,
+        })
     }
 }

@@ -370,8 +370,19 @@ fn with_id<F: Spelt + Drop>(alloc: Global, step: Step<F>) -> Result<Step<F>, All
     requires { IsStep F.within step }
     ensures { IfOk result (λ s. s ≡ step) }
 {
-    let ledger = step.ledger.with_id(alloc)?;
-    Ok(Step { ledger, ..step })
+    let Step {
+        cause,
+        flow,
+        session,
+        ledger,
+    } = step;
+    let ledger = ledger.with_id(alloc)?;
+    Ok(Step {
+        cause,
+        flow,
+        session,
+        ledger,
+    })
 }
 
 /// Whether nothing was recorded, locked or booked.
