@@ -1,6 +1,9 @@
 -- What comes out of the locks is put together.
 use Rattle.wire_rows.specs.Rows.{Spread}
 use Rattle.std.proofs.Common.{◌-◌, ◌<◌, ◌≡◌, ◌⊎◌, inl, inr, ⊎_elim, ℕ, zero, suc, ◌+◌, ◌≤◌, List, [], ◌∷◌, ◌++◌, length, map, drop, slice_get, Option, Some, None, refl, sym, ap, subst, ◌∙◌, arith, length-append}
+use Rattle.std.proofs.lemmas.List.{length-map}
+use Rattle.atomic_table.specs.Seated.{TableId}
+use Rattle.wire_queue.specs.declared.inbox.InboxPass.{InboxPass}
 use Rattle.net_base.proofs.Lists.{get_beside, get_push}
 use Rattle.net_base.proofs.Options.{some_eq}
 use Rattle.net_model.specs.Environment.{Meaning}
@@ -162,3 +165,17 @@ module _ {F : Type 0} (m : Meaning F) (now : ℕ) (came : List NodeSeen) where
       less [] i x at = cc
       less (y ∷ xs) zero x at = omega arith
       less (y ∷ xs) (suc i) x at = omega (arith, less xs i x at)
+
+-- the same of what it is called elsewhere
+pub works_here : {F : Type 0} (m k : Meaning F) (a b : ℕ) (came nodes : List NodeSeen) (waited : List (List Frame)) (after : List NodeSeen) (waiting : List (List Frame)) (commits : ℕ) → m ≡ k → a ≡ b → came ≡ nodes → Works m a came waited after waiting commits → Works k b nodes waited after waiting commits
+works_here m k a b came nodes waited after waiting commits same_meaning same_now same_nodes w =
+    subst (λ (l : List NodeSeen). Works k b l waited after waiting commits) same_nodes
+    (subst (λ (t : ℕ). Works k t came waited after waiting commits) same_now (subst (λ (z : Meaning _). Works z a came waited after waiting commits) same_meaning w))
+
+pub drained_count : (n k : ℕ) (lists : List (List Frame)) (own : List Seen) → n ≡ k → Drained n lists own → Drained k lists own
+drained_count n k lists own is d = subst (λ (j : ℕ). Drained j lists own) is d
+
+pub seen_length : (own : List InboxPass) (ids : List TableId) (k : ℕ) → map (λ (p : InboxPass). p.of) own ≡ ids → length ids ≡ k → length (map (λ (p : InboxPass). p.seen) own) ≡ k
+seen_length own ids k of is =
+    let a = ap (λ (l : List TableId). length l) of in
+    omega (arith, a, is, length-map own (λ (p : InboxPass). p.of), length-map own (λ (p : InboxPass). p.seen))

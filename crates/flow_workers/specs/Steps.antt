@@ -1,5 +1,5 @@
 -- What a turn at a node comes to for a worker.
-use Rattle.std.specs.Prelude.{⊤, Result, Ok, Err}
+use Rattle.std.specs.Prelude.{ℕ, ⊤, Result, Ok, Err}
 use Rattle.ledger_acts.specs.Jobs.{IsJob}
 use Rattle.node_core.specs.declared.faults.SharedTurn.{SharedTurn}
 use Rattle.node_core.specs.declared.faults.SharedTurn.TheVariants as shared
@@ -23,3 +23,9 @@ IsOut _ = ⊤
 abbrev pub HandsOut : Turn → Type 0
 HandsOut (turn.Waits job) = IsJob job
 HandsOut _ = ⊤
+
+-- how many records it came to
+abbrev pub committed : Turn → ℕ
+committed turn.Still = 0
+committed turn.Committed = 1
+committed (turn.Waits job) = 0

@@ -57,7 +57,8 @@ impl<'a, J: Call, C: Judge> Model for Board<'a, J, C> {
 
     ghost view = { λ b. b.inboxes.items };
 
-    ghost invariant = { λ b. (b.inboxes.items ≡ J.inboxes) × (b.now.0 ≡ J.now) × (C.judges b.contracts.now ≡ J.judge) };
+    ghost invariant = { λ b. (b.inboxes.items ≡ J.inboxes) × (b.now.0 ≡ J.now)
+        × (C.judges b.contracts.now ≡ J.judge) };
 }
 
 impl<'a, J: Call, C: Judge> Board<'a, J, C> {

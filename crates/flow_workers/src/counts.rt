@@ -4,7 +4,7 @@ ghost use Rattle.std.specs.Prelude.{◌≡◌, ◌≤◌, Ok};
 ghost use Rattle.std.specs.Option.{option_to_list};
 ghost use Rattle.network_core.specs.Answers.{IsCounted, take_sent};
 ghost use Rattle.work_law.specs.Calls.{settle_commits, take_commits, turn_commits};
-ghost use Rattle.flow_workers.specs.Steps.{HandsOut, IsOut, turn_of};
+ghost use Rattle.flow_workers.specs.Steps.{HandsOut, IsOut, committed, turn_of};
 
 use ledger_acts::Job;
 use net_base::Boxed;
@@ -37,6 +37,7 @@ pub fn turn_count(answer: &Result<SharedTurn, TurnFault>) -> u64
 pub fn turn_of(answer: Result<SharedTurn, TurnFault>) -> Turn
     requires { IsOut answer }
     ensures is { result ≡ turn_of answer }
+    ensures commits { committed result ≡ turn_commits answer }
     ensures job { HandsOut result }
 {
     match answer {

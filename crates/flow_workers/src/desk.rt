@@ -10,7 +10,7 @@ ghost use Rattle.net_model.specs.Environment.{meaning};
 ghost use Rattle.ledger_acts.specs.Jobs.{IsRun};
 ghost use Rattle.node_core.specs.Seen.{IsBy};
 ghost use Rattle.flow_workers.specs.Desks.{Kept};
-ghost use Rattle.flow_workers.specs.Steps.{HandsOut};
+ghost use Rattle.flow_workers.specs.Steps.{HandsOut, committed};
 
 use super::board::{Board, Call};
 use super::counts::{Turn, heard, settle_count, turn_count, turn_of};
@@ -47,10 +47,16 @@ impl<J: Call, D: Disk, F: FlowSet> Model for Desk<J, D, F> {
 
     ghost Value = { DeskSeen };
 
-    ghost view = { λ d. record { place = d.place; node = d.node.node; seen = map (λ p. p.seen) d.passes.items; commits = d.commits } };
+    ghost view = { λ d. record {
+      place = d.place;
+      node = d.node.node;
+      seen = map (λ p. p.seen) d.passes.items;
+      commits = d.commits;
+    } };
 
     ghost invariant = { λ d. (map (λ p. p.of) d.passes.items ≡ J.inboxes)
-        × Kept (meaning F.machine F.reading J.judge) J.now J.came d.place d.node.node (map (λ p. p.seen) d.passes.items) d.commits };
+        × Kept (meaning F.machine F.reading J.judge) J.now J.came d.place d.node.node
+        (map (λ p. p.seen) d.passes.items) d.commits };
 }
 
 /// What came out from under a node's lock.
@@ -90,6 +96,7 @@ impl<J: Call, D: Disk, F: FlowSet> Desk<J, D, F> {
     /// Lets a flow go on, and says what that came to. The job of a flow that waits for one is handed out, and is to be settled.
     pub fn turn<C: Judge>(&mut self, alloc: Global, board: &Board<J, C>) -> Turn
         ensures job { HandsOut result }
+        ensures commits { self.new.commits ≡ self.old.commits + committed result }
         ensures seen { self.new.seen ≡ self.old.seen }
     {
         let answer = self.node.turn(alloc, board.now(), None);
@@ -158,7 +165,8 @@ impl<J: Call, D: Disk, F: FlowSet> Desk<J, D, F> {
     pub fn into_parts(self) -> Left<D, F>
         ensures place { result.place ≡ self.place }
         ensures of { map (λ p. p.of) result.passes.items ≡ J.inboxes }
-        ensures kept { Kept (meaning F.machine F.reading J.judge) J.now J.came result.place result.node (map (λ p. p.seen) result.passes.items) result.commits }
+        ensures kept { Kept (meaning F.machine F.reading J.judge) J.now J.came result.place
+            result.node (map (λ p. p.seen) result.passes.items) result.commits }
     {
         let Desk {
             node,
@@ -186,9 +194,11 @@ fn post_again<R: Wait>(
     again: bool,
 )
     requires of { map (λ p. p.of) passes.old.items ≡ inboxes.now }
-    requires had { (s : Seen) → slice_get (map (λ p. p.seen) passes.old.items) at ≡ Some s → IsIn frame s.pulled }
+    requires had { (s : Seen) → slice_get (map (λ p. p.seen) passes.old.items) at ≡ Some s
+        → IsIn frame s.pulled }
     ensures of { map (λ p. p.of) passes.new.items ≡ inboxes.now }
-    ensures moves { Moves at [] [] (map (λ p. p.seen) passes.old.items) (map (λ p. p.seen) passes.new.items) }
+    ensures moves { Moves at [] [] (map (λ p. p.seen) passes.old.items)
+        (map (λ p. p.seen) passes.new.items) }
 {
     if again {
         post_back(rt, inboxes, passes, at, frame);

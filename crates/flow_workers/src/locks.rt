@@ -55,7 +55,8 @@ fn of_place<J: Call, D: Disk, F: FlowSet, R: Wait>(
     place: usize,
 ) -> Left<D, F>
     ensures of { map (λ p. p.of) result.passes.items ≡ J.inboxes }
-    ensures kept { Kept (meaning F.machine F.reading J.judge) J.now J.came place result.node (map (λ p. p.seen) result.passes.items) result.commits }
+    ensures kept { Kept (meaning F.machine F.reading J.judge) J.now J.came place result.node
+        (map (λ p. p.seen) result.passes.items) result.commits }
 {
     let left = lock.into_inner().into_parts();
     if left.place != place {
@@ -80,7 +81,9 @@ pub fn gather<J: Call, D: Disk, F: FlowSet, C: Judge, R: Wait>(
     ensures of { map (λ p. p.of) own.new.items ≡ J.inboxes }
     ensures count { length result.0.items ≡ length desks.items }
     ensures by { AllByRecursion (λ n. IsBy F.reading n.journal J.now) result.0.items }
-    ensures gathered { Gathers (meaning F.machine F.reading J.judge) J.now J.came (map (λ p. p.seen) own.old.items) result.0.items (map (λ p. p.seen) own.new.items) result.1 }
+    ensures gathered { Gathers (meaning F.machine F.reading J.judge) J.now J.came
+        (map (λ p. p.seen) own.old.items) result.0.items
+        (map (λ p. p.seen) own.new.items) result.1 }
 {
     let mut nodes = back;
     let mut commits = 0u64;

@@ -53,10 +53,12 @@ pub fn set_up<R: Wait>(
     waiting: &mut Vec<Waiting>,
 ) -> Result<Stage, AllocError>
     requires few { length waiting.old.items ≤ 16 }
-    ensures frames { map (λ w. w.frames) waiting.new.items ≡ map (λ w. w.frames) waiting.old.items }
+    ensures frames { map (λ w. w.frames) waiting.new.items
+        ≡ map (λ w. w.frames) waiting.old.items }
     ensures room { OnOk result (AllByRecursion HasRoom waiting.new.items) }
     ensures stage { IfOk result (λ s. IsStage (length waiting.old.items) s) }
-    ensures spread { IfOk result (λ s. Spread (map (λ w. w.frames) waiting.old.items) (length waiting.old.items) (map (λ p. p.seen) s.own.items)) }
+    ensures spread { IfOk result (λ s. Spread (map (λ w. w.frames) waiting.old.items)
+        (length waiting.old.items) (map (λ p. p.seen) s.own.items)) }
 {
     make_rooms(waiting)?;
     let heads = heads_of(alloc, waiting)?;

@@ -75,9 +75,13 @@ fn work_as<
     requires by { AllByRecursion (λ n. IsBy F.reading n.journal now.0) nodes.items }
     requires few { length nodes.items ≤ 16 }
     requires stage { IsStage (length nodes.items) stage }
-    ensures works { IfOk result (λ r. (waited : List (List Frame)) → Spread waited (length nodes.items) (map (λ p. p.seen) stage.own.items) → length waited ≡ length nodes.items
-        → Works (meaning F.machine F.reading (C.judges contracts.now)) now.0 nodes.items waited r.nodes.items (map (λ v. v.items) r.lists.items) r.commits) }
-    ensures by { IfOk result (λ r. AllByRecursion (λ n. IsBy F.reading n.journal now.0) r.nodes.items) }
+    ensures works { IfOk result (λ r. (waited : List (List Frame))
+        → Spread waited (length nodes.items) (map (λ p. p.seen) stage.own.items)
+        → length waited ≡ length nodes.items
+        → Works (meaning F.machine F.reading (C.judges contracts.now)) now.0 nodes.items waited
+        r.nodes.items (map (λ v. v.items) r.lists.items) r.commits) }
+    ensures by { IfOk result (λ r. AllByRecursion (λ n. IsBy F.reading n.journal now.0)
+        r.nodes.items) }
     ensures few { IfOk result (λ r. AllByRecursion (λ v. length v.items ≤ 1024) r.lists.items) }
     ensures same { IfErr result (λ back. back.items ≡ nodes.items) }
 {
@@ -144,8 +148,10 @@ pub fn work<
     gate: &G,
 ) -> Worked<D, F>
     requires { IsNet F.reading (net_of nodes.items waiting.items now.0) }
-    ensures { WorkedOn (meaning F.machine F.reading (C.judges contracts.now)) (net_of nodes.items waiting.items now.0)
-        (net_of result.nodes.items result.waiting.items now.0) result.commits result.short }
+    ensures { WorkedOn (meaning F.machine F.reading (C.judges contracts.now))
+        (net_of nodes.items waiting.items now.0)
+        (net_of result.nodes.items result.waiting.items now.0)
+        result.commits result.short }
 {
     let mut waiting = waiting;
     let Ok(stage) = set_up(rt, alloc, &mut waiting) else {
