@@ -67,3 +67,23 @@ first_spread own heads waiting is heads_are = record {
       let had : IsIn x found.0 = subst (λ (z : Seen). IsIn x z.origins) (sym found.2) there in
       (waits.0.frames, get_map (λ (w : WaitingSeen). w.frames) waiting q waits.0 waits.1, in_take 1024 waits.0.frames x (subst (λ (l : List Frame). IsIn x l) (sym waits.2) had));
 }
+
+-- ---- what is set up
+
+pub same_length : (old mid : List WaitingSeen) → map (λ (w : WaitingSeen). w.frames) mid ≡ map (λ (w : WaitingSeen). w.frames) old → length mid ≡ length old
+same_length old mid same =
+    let l = ap (λ (x : List (List Frame)). length x) same in
+    omega (arith, l, length-map mid (λ (w : WaitingSeen). w.frames), length-map old (λ (w : WaitingSeen). w.frames))
+
+-- there are as many inboxes as nodes
+pub as_many : (old mid : List WaitingSeen) (heads : List (List Frame)) (n : ℕ) → map (λ (w : WaitingSeen). w.frames) mid ≡ map (λ (w : WaitingSeen). w.frames) old → heads ≡ map head_of mid → n ≡ length heads → n ≡ length old
+as_many old mid heads n same heads_are is =
+    let l = ap (λ (x : List (List Frame)). length x) heads_are in
+    omega (arith, l, is, length-map mid head_of, same_length old mid same)
+
+pub set_spread : (own kept : List InboxPass) (heads : List (List Frame)) (mid old : List WaitingSeen) (count : ℕ) → map (λ (p : InboxPass). p.seen) own ≡ map first_of heads → heads ≡ map head_of mid → map (λ (w : WaitingSeen). w.frames) mid ≡ map (λ (w : WaitingSeen). w.frames) old → count ≡ length old
+    → ((waited : List (List Frame)) → Spread waited 0 (map (λ (p : InboxPass). p.seen) own) → Spread waited count (map (λ (p : InboxPass). p.seen) kept)) → Spread (map (λ (w : WaitingSeen). w.frames) old) (length old) (map (λ (p : InboxPass). p.seen) kept)
+set_spread own kept heads mid old count is heads_are same all spread =
+    let first = first_spread own heads mid is heads_are in
+    let here = subst (λ (l : List (List Frame)). Spread l 0 (map (λ (p : InboxPass). p.seen) own)) same first in
+    subst (λ (n : ℕ). Spread (map (λ (w : WaitingSeen). w.frames) old) n (map (λ (p : InboxPass). p.seen) kept)) all (spread (map (λ (w : WaitingSeen). w.frames) old) here)
