@@ -221,11 +221,11 @@ impl<F: Spelt + Drop> NodeTables<F> {
         let Some(step) = read_step::<F>(alloc, body)? else {
             return Ok(None);
         };
-        let step = with_id(alloc, step)?;
-        if self.fits(&step) {
-            return Ok(Some(step));
+        let known = with_id(alloc, step)?;
+        if self.fits(&known) {
+            return Ok(Some(known));
         }
-        let_go(step);
+        let_go(known);
         Ok(None)
     }
 
