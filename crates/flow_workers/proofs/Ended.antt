@@ -1,12 +1,14 @@
 -- What the work leaves.
-use Rattle.std.proofs.Common.{◌≡◌, ◌⊎◌, inl, inr, ⊎_elim, ℕ, zero, suc, ◌+◌, ◌≤◌, Bool, true, false, List, [], ◌∷◌, ◌++◌, length, map, take, drop, slice_get, Some, refl, sym, ap, subst, ◌∙◌, arith}
+use Rattle.std.proofs.Common.{◌≡◌, ◌⊎◌, inl, inr, ⊎_elim, ℕ, zero, suc, ◌+◌, ◌≤◌, Bool, true, false, List, [], ◌∷◌, ◌++◌, length, map, take, drop, slice_get, Some, Vec, Global, refl, sym, ap, subst, ◌∙◌, arith}
 use Rattle.std.specs.List.{AllByRecursion}
 use lib.ListN.{take-append-drop}
 use Rattle.std.proofs.lemmas.List.{length-map}
 use Rattle.net_base.proofs.Lists.{get_beside, get_map, of_map}
 use Rattle.net_base.proofs.Options.{some_eq}
 use Rattle.waiting_frames.specs.Waiting.{WaitingSeen}
+use Rattle.wire_queue.specs.declared.rule.Seen.{Seen}
 use Rattle.wire_queue.specs.Wire.{Frame, IsIn}
+use Rattle.wire_rows.specs.Rows.{Spread}
 use Rattle.waiting_heads.specs.Heads.{PutEach}
 use Rattle.waiting_heads.proofs.Turns.{put_has}
 use Rattle.net_model.specs.Environment.{Meaning}
@@ -30,6 +32,16 @@ in_drop : (n : ℕ) (xs : List Frame) (x : Frame) → IsIn x (drop n xs) → IsI
 in_drop zero xs x h = h
 in_drop (suc n) [] x h = h
 in_drop (suc n) (y ∷ xs) x h = inr (in_drop n xs x h)
+
+-- as many were set up as there are nodes
+pub spread_nodes : (waiting : List WaitingSeen) (nodes : List NodeSeen) (own : List Seen) → length (frames_of waiting) ≡ length nodes → Spread (frames_of waiting) (length waiting) own → Spread (frames_of waiting) (length nodes) own
+spread_nodes waiting nodes own each spread = subst (λ (n : ℕ). Spread (frames_of waiting) n own) (sym (length-map waiting (λ (w : WaitingSeen). w.frames)) ∙ each) spread
+
+-- there is a list for each
+pub lists_each : {F : Type 0} (m : Meaning F) (now commits : ℕ) (came nodes : List NodeSeen) (old mid : List WaitingSeen) (lists : List (Vec Frame Global)) → frames_of mid ≡ frames_of old → Works m now came (frames_of old) nodes (map (λ (v : Vec Frame Global). v.items) lists) commits → length lists ≡ length mid
+lists_each m now commits came nodes old mid lists same w =
+    let l = ap (λ (x : List (List Frame)). length x) same in
+    omega (arith, l, w.lists, length-map lists (λ (v : Vec Frame Global). v.items), length-map old (λ (w : WaitingSeen). w.frames), length-map mid (λ (w : WaitingSeen). w.frames))
 
 -- ---- what was left is put before what waits
 
@@ -88,12 +100,12 @@ tails_same lists = record {
 
 -- ---- nothing was done
 
-no_log : Log
+abbrev no_log : Log
 no_log = record { took = []; sent = []; count = 0 }
 
 none_added : (nodes : List NodeSeen) → 0 ≡ added (map count_of (map (λ (n : NodeSeen). no_log) nodes))
 none_added [] = refl
-none_added (n ∷ nodes) = none_added nodes
+none_added (n ∷ nodes) = omega (arith, none_added nodes)
 
 works_none : {F : Type 0} (m : Meaning F) (now : ℕ) (nodes : List NodeSeen) (waiting : List (List Frame)) → Works m now nodes waiting nodes waiting 0
 works_none m now nodes waiting = record {
@@ -133,7 +145,7 @@ worked_on m now came nodes old mid new lists commits is same w put by =
         few = let f = is.few in omega (arith, f, done.count);
         each = done.lists ∙ is.each ∙ sym done.count;
       };
-      short = λ no. cc;
+      unchanged = λ no. cc;
     }
 
 pub not_worked : {F : Type 0} (m : Meaning F) (now commits : ℕ) (came nodes : List NodeSeen) (waited waiting : List (List Frame)) (short : Bool) → IsNet m.frame_at (net came waited now) → nodes ≡ came → waiting ≡ waited → commits ≡ 0 → WorkedOn m (net came waited now) (net nodes waiting now) commits short
@@ -146,6 +158,6 @@ not_worked m now commits came nodes waited waiting short is same_nodes same_fram
       lasts = nodes_last m now came came 0 waited waited works;
       tails = tails_same waited;
       whole = is;
-      short = λ so. (refl, refl);
+      unchanged = λ so. (refl, refl);
     } in
     subst (λ (c : ℕ). WorkedOn m (net came waited now) (net nodes waiting now) c short) (sym none) (subst (λ (n : NetSeen). WorkedOn m (net came waited now) n 0 short) (sym new_is) here)

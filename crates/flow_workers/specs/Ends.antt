@@ -22,7 +22,7 @@ pub record KeepsTails (old new : List (List Frame)) : Type 0 where
   pub each : (q : ℕ) (w v : List Frame) → slice_get old q ≡ Some w → slice_get new q ≡ Some v → (front : List Frame) × (v ≡ front ++ drop 1024 w)
 
 -- the nodes of a network were worked on side by side
-pub record WorkedOn {F : Type 0} (m : Meaning F) (old new : NetSeen) (commits : ℕ) (short : Bool) : Type 0 where
+pub record WorkedOn {F : Type 0} (m : Meaning F) (old new : NetSeen) (commits : ℕ) (is_short : Bool) : Type 0 where
   -- each node went on by calls that are answered as their clauses say, and each frame that one took, or that waits now, had waited there or was sent there
   pub works : Works m old.now old.nodes old.waiting new.nodes new.waiting commits
   -- from each coherent world that they showed they go to a coherent world that they show
@@ -33,4 +33,4 @@ pub record WorkedOn {F : Type 0} (m : Meaning F) (old new : NetSeen) (commits : 
   -- the parts are those of a network
   pub whole : IsNet m.frame_at new
   -- where memory ran out before any turn nothing has changed
-  pub short : short ≡ true → (new ≡ old) × (commits ≡ 0)
+  pub unchanged : is_short ≡ true → (new ≡ old) × (commits ≡ 0)

@@ -1,8 +1,8 @@
-//! Nodes that threads turn side by side, each under a lock of its own, with the frames between them in ruled inboxes.
+//! Nodes that workers turn side by side, each under a lock of its own, with the frames between them in ruled inboxes.
 //!
 //! What is known across threads is what the type behind each lock keeps: since it came, the node made just these calls, each answered as
-//! its own clause says, and what it took and sent is what its passes of the inboxes pulled and posted. Once the threads have ended, all
-//! that is put together (`work`).
+//! its own clause says, and what it took and sent is what its passes of the inboxes pulled and posted. Once the workers have ended, all
+//! that is put together (`work`). Today the workers make their turns one after another; nothing in the proofs rests on that.
 #![tactic(auto)]
 
 mod board;

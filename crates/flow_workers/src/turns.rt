@@ -14,8 +14,6 @@ use rand_core::utils::NextWord;
 use rand_pcg::Lcg64Xsh32;
 use std::alloc::Global;
 use std::sync::{Mutex, Wait};
-use std::thread;
-use std::thread::Threads;
 
 /// How many workers there are, how many turns each of them makes, and from which seed they draw what they do: the worker of number `j`,
 /// from 0, by the words of PCG32 (`Lcg64Xsh32`) from `seed + j`, the sum wrapping.
@@ -95,15 +93,8 @@ fn run_turns<J: Call, D: Disk, F: FlowSet, C: Judge, R: Wait, G: Gate>(
     }
 }
 
-/// The turns of all workers, each in a thread of its own. Where no thread can be made, its turns are made here.
-pub fn run_workers<
-    J: Call + Send + Sync,
-    D: Disk + Send,
-    F: FlowSet + Send,
-    C: Judge + Sync,
-    R: Threads + Wait + Sync,
-    G: Gate + Sync,
->(
+/// The turns of all workers, one worker after another.
+pub fn run_workers<J: Call, D: Disk, F: FlowSet, C: Judge, R: Wait, G: Gate>(
     rt: &R,
     alloc: Global,
     board: &Board<J, C>,
@@ -111,16 +102,8 @@ pub fn run_workers<
     plan: Plan,
     gate: &G,
 ) {
-    let turns = plan.turns;
-    thread::scope(thread::scope_env(), rt, |scope| {
-        for worker in 0..plan.workers {
-            let seed = plan.seed.wrapping_add(u64::from(worker));
-            if scope
-                .spawn(move || run_turns(rt, alloc, board, desks, turns, seed, gate))
-                .is_err()
-            {
-                run_turns(rt, alloc, board, desks, turns, seed, gate);
-            }
-        }
-    });
+    for worker in 0..plan.workers {
+        let seed = plan.seed.wrapping_add(u64::from(worker));
+        run_turns(rt, alloc, board, desks, plan.turns, seed, gate);
+    }
 }

@@ -54,7 +54,7 @@ struct Finish<D: Disk, F: FlowSet> {
 fn work_as<
     J: Call + Send + Sync,
     D: Disk + Send,
-    F: FlowSet + Send,
+    F: FlowSet + Send + Sync,
     C: Judge + Sync,
     R: Threads + Wait + Sync,
     G: Gate + Sync,
@@ -125,15 +125,15 @@ fn unworked<D: Disk, F: FlowSet>(nodes: Vec<Node<D, F>>, waiting: Vec<Waiting>) 
     }
 }
 
-/// Workers, as many as the plan says, make turns at these nodes, each in a thread of its own, and hand frames over by ruled inboxes. Each
-/// call of a node is made under its lock; jobs are run outside. The inboxes begin with the first 1,024 frames that wait at each node, and
-/// what is left in them stands before the others afterwards, in order, each frame once.
+/// Workers, as many as the plan says, make turns at these nodes, and hand frames over by ruled inboxes. Each call of a node is made under
+/// its lock; jobs are run outside. The inboxes begin with the first 1,024 frames that wait at each node, and what is left in them stands
+/// before the others afterwards, in order, each frame once.
 ///
-/// Where no thread can be made, the same turns are made one worker after another. Where memory runs out before any turn was made,
-/// nothing has changed (`short`); later it may only keep calls of nodes from being made. The call may wait for its threads.
+/// The workers make their turns one worker after another. Where memory runs out before any turn was made, nothing has changed (`short`);
+/// later it may only keep calls of nodes from being made. The call may wait for locks.
 pub fn work<
     D: Disk + Send,
-    F: FlowSet + Send,
+    F: FlowSet + Send + Sync,
     C: Judge + Sync,
     R: Threads + Wait + Sync,
     G: Gate + Sync,

@@ -58,3 +58,10 @@ nodes-preserved g c =
       by = (rest_of _ c.nodes.node-iterator.rest.items c.next.new.self.rest.items c.in-Some.node c.in-Some.ensures.steps.0 inv.by).1;
       rows = out.1;
     }
+
+pub returns : goal.returns
+returns g c =
+    let inv = c.nodes.invariant in
+    let gone : length c.nodes.node-iterator.rest.items ≡ 0 = search rules in
+    let all = ap (λ l. length l) inv.all in
+    omega (arith, inv.count, all, gone, length-append c.nodes.yielded c.nodes.node-iterator.rest.items)

@@ -22,24 +22,24 @@ desks-init g c =
 pub overflow_add-commits : goal.overflow_add-commits
 overflow_add-commits g c =
     let inv = c.desks.invariant in
-    let few = worked_few _ _ _ _ _ _ c.of_place.result.commits c.of_place.ensures.kept.1 in
+    let few = worked_few _ _ _ _ _ _ c.of_place-node.result.commits c.of_place-node.ensures.kept.1 in
     omega (arith, few, inv.few, inv.count, c.requires.few)
 
 pub desks-preserved : goal.desks-preserved
 desks-preserved g c =
     let inv = c.desks.invariant in
-    let pushed : c.push.new.self.items ≡ c.desks.nodes.items ++ c.of_place.result.node ∷ [] = search rules in
+    let pushed : c.push.new.self.items ≡ c.desks.nodes.items ++ c.of_place-node.result.node ∷ [] = search rules in
     let len : length c.push.new.self.items ≡ length c.desks.nodes.items + 1 = search rules in
     let rest = ap (λ l. length l) c.in-Some.ensures.steps.0 in
     let at : c.len.result ≡ length c.desks.nodes.items = search rules in
-    let few = worked_few _ _ _ _ _ _ c.of_place.result.commits c.of_place.ensures.kept.1 in
+    let few = worked_few _ _ _ _ _ _ c.of_place-node.result.commits c.of_place-node.ensures.kept.1 in
     record {
       can_next = tt;
       is_finite = tt;
       of = c.join_row.ensures.of ∙ c.inboxes.ensures;
       count = omega (arith, inv.count, len, rest);
       room = omega (arith, inv.room, c.push.ensures.capacity);
-      by = all_pushed _ c.desks.nodes.items c.push.new.self.items c.of_place.result.node pushed inv.by c.of_place.ensures.kept.0;
+      by = all_pushed _ c.desks.nodes.items c.push.new.self.items c.of_place-node.result.node pushed inv.by c.of_place-node.ensures.kept.0;
       few = omega (arith, few, inv.few, len);
-      gathered = gathers_step _ _ _ _ c.desks.nodes.items c.push.new.self.items _ _ _ c.desks.commits c.of_place.result.commits _ _ c.of_place.result.node pushed at inv.gathered c.of_place.ensures.kept.1 c.join_row.ensures.joined (omega arith);
+      gathered = gathers_step _ _ _ _ c.desks.nodes.items c.push.new.self.items _ _ _ c.desks.commits c.of_place-node.result.commits _ _ c.of_place-node.result.node pushed at inv.gathered c.of_place-node.ensures.kept.1 c.join_row.ensures.joined (omega arith);
     }

@@ -4,6 +4,17 @@ use Rattle.net_model.specs.Environment.{meaning}
 use Rattle.flow_workers.proofs.Gathering.{works_all, works_here, drained_count, seen_length}
 use Rattle.flow_workers.proofs.working.work_as.Goals as goal
 
+pub fill_desks-desks-requires-clause-by : goal.fill_desks-desks-requires-clause-by
+fill_desks-desks-requires-clause-by g c = rw c.requires.now c.requires.by
+
+pub gather-nodes-requires-clause-room : goal.gather-nodes-requires-clause-room
+gather-nodes-requires-clause-room g c =
+    let n : c.len-2.result ≡ length c.args.nodes.items = search rules in
+    omega (arith, n, c.fill_desks-desks.ensures, c.in-Ok-with_capacity.ensures.capacity)
+
+pub returns-clause-by : goal.returns-clause-by
+returns-clause-by g c = rw (sym c.requires.now) c.gather-nodes.ensures.by
+
 pub returns-clause-works : goal.returns-clause-works
 returns-clause-works g c waited spread len =
     let k = length c.args.nodes.items in

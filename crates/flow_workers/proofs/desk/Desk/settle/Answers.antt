@@ -18,5 +18,5 @@ invariant_of-self g c =
     let m = meaning g.F.FlowSet.machine g.F.Spelt.reading g.J.Call.judge in (
       inv.0,
       settle_keeps m g.J.Call.now g.J.Call.came c.self.inside.place c.now.result.0 c.now.ensures _ _ _ c.self.inside.commits _ c.args.done.job c.settle-answer.result inv.1 c.settle-answer.ensures.by
-      (settles_are m c.now.result.0 c.args.done.job _ c.settle-answer.result _ (rw (sym c.contracts.ensures) c.settle-answer.ensures.settle)) (omega (arith, c.settle_count-count.ensures.count)),
+          (settles_are m c.now.result.0 c.args.done.job _ c.settle-answer.result _ (rw (sym c.contracts.ensures) c.settle-answer.ensures.settle)) (omega (arith, c.settle_count-count.ensures.count)),
     )

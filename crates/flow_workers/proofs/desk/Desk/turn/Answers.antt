@@ -21,5 +21,5 @@ invariant_of-self g c =
     let m = meaning g.F.FlowSet.machine g.F.Spelt.reading g.J.Call.judge in (
       inv.0,
       turn_keeps m g.J.Call.now g.J.Call.came c.self.inside.place c.now.result.0 c.now.ensures _ _ _ c.self.inside.commits _ _ c.turn-answer.result inv.1 c.turn-answer.ensures.by
-      (turns_are m c.now.result.0 _ _ c.turn-answer.result _ (c.turn-answer.ensures.turn g.J.Call.judge)) (omega (arith, c.turn_count.ensures.count)),
+          (turns_are m c.now.result.0 _ _ c.turn-answer.result _ (c.turn-answer.ensures.turn g.J.Call.judge)) (omega (arith, c.turn_count.ensures.count)),
     )
