@@ -1,0 +1,5 @@
+pub mod Stepped
+pub mod Histories
+pub mod Gathering
+pub mod Filling
+pub mod Ended

@@ -1,0 +1,5 @@
+pub mod Desks
+pub mod Steps
+pub mod Gathers
+pub mod Stages
+pub mod Ends
