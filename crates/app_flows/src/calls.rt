@@ -41,7 +41,11 @@ impl Opens<Called> for CallFrames {
 
     ghost see = { see };
 
-    ghost opens = { opens_by ⟦<CountFrame as Flows>⟧.within ⟦<ClientFrame as Flows>⟧.within ⟦<ResolveFrame as Flows>⟧.within ⟦<FinalityFrame as Flows>⟧.within ⟦<CountFrame as Flows>⟧.part ⟦<ClientFrame as Flows>⟧.part ⟦<ResolveFrame as Flows>⟧.part ⟦<FinalityFrame as Flows>⟧.part none asks resolves ends none_opens asks_opens resolves_opens ends_opens };
+    ghost opens = { opens_by ⟦<CountFrame as Flows>⟧.within ⟦<ClientFrame as Flows>⟧.within
+        ⟦<ResolveFrame as Flows>⟧.within ⟦<FinalityFrame as Flows>⟧.within
+        ⟦<CountFrame as Flows>⟧.part ⟦<ClientFrame as Flows>⟧.part ⟦<ResolveFrame as Flows>⟧.part
+        ⟦<FinalityFrame as Flows>⟧.part none asks resolves ends none_opens asks_opens resolves_opens
+        ends_opens };
 
     fn open(alloc: Global, call: Call) -> Result<Called, AllocError> {
         Ok(match call {

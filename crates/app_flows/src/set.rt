@@ -65,7 +65,8 @@ pub fn called_means_its_table()
 /// The law of the machines that answer an Init: their flows are those of the table that is written out, with its numbers, names, classes and Inits.
 /// It does nothing when it runs.
 pub fn answering_means_its_table()
-    ensures { SameFlows ⟦<Answering as Tabled>⟧.put ⟦<Answering as Tabled>⟧.take ⟦<Answering as Flows>⟧.part
+    ensures { SameFlows ⟦<Answering as Tabled>⟧.put ⟦<Answering as Tabled>⟧.take
+        ⟦<Answering as Flows>⟧.part
         (table_part answering) }
 {
     means_its_table::<Answering>();
@@ -83,7 +84,8 @@ pub fn cash_means_its_table()
 /// The law of the machines that only talk: their flows are those of the table that is written out, with its numbers, names, classes and Inits.
 /// It does nothing when it runs.
 pub fn talking_means_its_table()
-    ensures { SameFlows ⟦<Talking as Tabled>⟧.put ⟦<Talking as Tabled>⟧.take ⟦<Talking as Flows>⟧.part
+    ensures { SameFlows ⟦<Talking as Tabled>⟧.put ⟦<Talking as Tabled>⟧.take
+        ⟦<Talking as Flows>⟧.part
         (table_part talking) }
 {
     means_its_table::<Talking>();

@@ -55,7 +55,8 @@ fn is_conserved(tx: &Tx, resolved: &Resolved, token: &Token) -> bool
 }
 
 fn loses_of_states(states: &[TxState], tx: &Tx, resolved: &Resolved) -> bool
-    ensures { result ≡ list_any (λ token. not (is_conserved tx.now resolved.now token)) (tokens_of_states states.now) }
+    ensures { result ≡ list_any (λ token. not (is_conserved tx.now resolved.now token))
+        (tokens_of_states states.now) }
 {
     states
         .iter()
@@ -64,14 +65,16 @@ fn loses_of_states(states: &[TxState], tx: &Tx, resolved: &Resolved) -> bool
 }
 
 fn loses_of_any_state(tx: &Tx, resolved: &Resolved) -> bool
-    ensures { result ≡ list_any (λ token. not (is_conserved tx.now resolved.now token)) (tokens_of_states resolved.now.inputs ++ tokens_of_states tx.now.outputs) }
+    ensures { result ≡ list_any (λ token. not (is_conserved tx.now resolved.now token))
+        (tokens_of_states resolved.now.inputs ++ tokens_of_states tx.now.outputs) }
 {
     loses_of_states(resolved.inputs.as_slice(), tx, resolved)
         || loses_of_states(tx.outputs.as_slice(), tx, resolved)
 }
 
 fn loses_of_commands(tx: &Tx, resolved: &Resolved) -> bool
-    ensures { result ≡ list_any (λ token. not (is_conserved tx.now resolved.now token)) (tokens_of_commands tx.now) }
+    ensures { result ≡ list_any (λ token. not (is_conserved tx.now resolved.now token))
+        (tokens_of_commands tx.now) }
 {
     tx.commands
         .as_slice()

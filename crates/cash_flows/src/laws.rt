@@ -58,7 +58,8 @@ pub fn reserved_is_accepted()
 
 /// The bytes that the words of an issue, `issue CODE AMOUNT`, give begin a flow by the arguments of these words, where these are in range.
 pub fn issue_begins_by_its_words()
-    ensures { BeginsByWords (codes "issue") 3 amount.args_of amount.args amount.args_at issue.begins }
+    ensures { BeginsByWords (codes "issue") 3 amount.args_of amount.args amount.args_at
+        issue.begins }
 {
     begins_by_its_words::<IssuePlace, Issue>();
 }
@@ -95,7 +96,8 @@ pub fn reserved_exit_is_accepted()
 
 /// The bytes that the words of a spend, `spend ID INDEX P`, give begin a flow by the arguments of these words, where these are in range.
 pub fn spend_begins_by_its_words()
-    ensures { BeginsByWords (codes "spend") 8 spend_words.args_of spend_words.args spend_words.args_at spend.begins }
+    ensures { BeginsByWords (codes "spend") 8 spend_words.args_of spend_words.args
+        spend_words.args_at spend.begins }
 {
     begins_by_its_words::<SpendPlace, Spend>();
 }

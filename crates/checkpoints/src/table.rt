@@ -40,9 +40,14 @@ impl<F> Model for Flows<F> {
 
     ghost Value = { Table F };
 
-    ghost view = { λ t. record { flows = t.states.items; room = min (vec_capacity t.states - vec_len t.states) (vec_capacity t.live - vec_len t.live) } };
+    ghost view = { λ t. record {
+      flows = t.states.items;
+      room = min (vec_capacity t.states - vec_len t.states)
+          (vec_capacity t.live - vec_len t.live);
+    } };
 
-    ghost invariant = { λ t. (t.live.items ≡ live_numbers t.states.items) × (AreNumberedFrom 0 t.states.items × (length t.states.items < 2 ^ 32)) };
+    ghost invariant = { λ t. (t.live.items ≡ live_numbers t.states.items)
+        × (AreNumberedFrom 0 t.states.items × (length t.states.items < 2 ^ 32)) };
 }
 
 impl<F: Drop> Flows<F> {
@@ -123,7 +128,8 @@ fn goes_on<F>(state: &FlowState<F>) -> bool
 fn put_at<T: Drop>(items: &mut Vec<T>, place: usize, item: T)
     requires room { vec_len items.old < vec_capacity items.old }
     requires place { place ≤ length items.old.items }
-    ensures items { items.new.items ≡ take place items.old.items ++ item ∷ drop (suc place) items.old.items }
+    ensures items { items.new.items ≡ take place items.old.items ++ item
+        ∷ drop (suc place) items.old.items }
     ensures capacity { vec_capacity items.old ≤ vec_capacity items.new }
     ensures len { vec_len items.new ≤ vec_len items.old + 1 }
 {
@@ -157,7 +163,10 @@ fn lent<F>(state: &FlowState<F>) -> FlowView<'_, F>
 fn place_of(live: &[u32], flow: u32) -> Result<usize, usize>
     requires { IsRising live.now }
     ensures range { MatchResult result (λ at. at < length live.now) (λ at. at ≤ length live.now) }
-    ensures place { (lower upper : List ℕ) (there : Bool) → live.now ≡ lower ++ (where_true there flow ++ upper) → AllByRecursion (λ n. n < flow) lower → AllByRecursion (λ n. flow < n) upper → result ≡ (if there then Ok (length lower) else Err (length lower)) }
+    ensures place { (lower upper : List ℕ) (there : Bool)
+        → live.now ≡ lower ++ (where_true there flow ++ upper)
+        → AllByRecursion (λ n. n < flow) lower → AllByRecursion (λ n. flow < n) upper
+        → result ≡ (if there then Ok (length lower) else Err (length lower)) }
 {
     live.binary_search(&flow)
 }
@@ -166,7 +175,10 @@ fn place_of(live: &[u32], flow: u32) -> Result<usize, usize>
 fn mark(live: &mut Vec<u32>, flow: u32, is_live: bool)
     requires room { vec_len live.old < vec_capacity live.old }
     requires rising { IsRising live.old.items }
-    ensures marked { (lower upper : List ℕ) (there : Bool) → live.old.items ≡ lower ++ (where_true there flow ++ upper) → AllByRecursion (λ n. n < flow) lower → AllByRecursion (λ n. flow < n) upper → live.new.items ≡ lower ++ (where_true is_live flow ++ upper) }
+    ensures marked { (lower upper : List ℕ) (there : Bool)
+        → live.old.items ≡ lower ++ (where_true there flow ++ upper)
+        → AllByRecursion (λ n. n < flow) lower → AllByRecursion (λ n. flow < n) upper
+        → live.new.items ≡ lower ++ (where_true is_live flow ++ upper) }
     ensures capacity { vec_capacity live.old ≤ vec_capacity live.new }
     ensures len { vec_len live.new ≤ vec_len live.old + 1 }
 {

@@ -31,7 +31,8 @@ pub struct PickShort {
 /// looked at; where these don't reach the amount, the answer is `PickShort` with their sum.
 pub fn pick(coins: &[Coin], amount: u64) -> Result<usize, PickShort>
     ensures picked { IfOk result (IsLeastPrefix coins.now amount) }
-    ensures short { IfErr result (λ e. (e.have ≡ worth_of (candidates coins.now)) × (e.have < amount)) }
+    ensures short { IfErr result (λ e. (e.have ≡ worth_of (candidates coins.now))
+        × (e.have < amount)) }
 {
     let looked = coins.len().min(LIMIT);
     let mut have: u128 = 0;

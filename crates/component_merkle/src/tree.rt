@@ -9,7 +9,8 @@ use crate::digests::node;
 /// Hashes the leaves in pairs, in place: the k-th hash is the node above the leaves 2k and 2k + 1. A leaf without a
 /// partner is hashed with `pad`.
 fn fold_pairs(leaves: &mut [[u8; 32]], pad: &[u8; 32])
-    ensures { (k : ℕ) → 2 * k < length leaves.old → slice_index_or leaves.new k [] ≡ pair_at pad.now leaves.old k }
+    ensures { (k : ℕ) → 2 * k < length leaves.old
+        → slice_index_or leaves.new k [] ≡ pair_at pad.now leaves.old k }
 {
     let count = leaves.len();
     let half = count / 2 + count % 2;
@@ -38,7 +39,8 @@ fn pad_above(pad: &[u8; 32], half: usize) -> [u8; 32]
 /// The root of the leaves, padded by `pad` up to the next power of two. It leaves unstated bytes in the slice.
 fn root_padded(leaves: &mut [[u8; 32]], pad: &[u8; 32]) -> [u8; 32]
     requires { 0 < length leaves.old }
-    ensures { (d : ℕ) → length leaves.old ≤ 2 ^ d → 2 ^ d < 2 * length leaves.old → result ≡ tree d pad.now leaves.old }
+    ensures { (d : ℕ) → length leaves.old ≤ 2 ^ d → 2 ^ d < 2 * length leaves.old
+        → result ≡ tree d pad.now leaves.old }
 {
     let count = leaves.len();
     if count == 1 {

@@ -13,7 +13,8 @@ pub struct Played {
 impl Played {
     /// Whether the status and the answers are these.
     pub fn is_wanted(&self, status: u8, answers: &str) -> bool
-        ensures { IsTrue result ↔ ((self.now.status ≡ status) × (self.now.answers.written ≡ answers.now)) }
+        ensures { IsTrue result ↔ ((self.now.status ≡ status)
+            × (self.now.answers.written ≡ answers.now)) }
     {
         self.status == status && self.answers.bytes() == answers.as_bytes()
     }

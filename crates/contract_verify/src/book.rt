@@ -27,7 +27,8 @@ impl ContractBook {
     pub fn verify(&self, tx: &Tx, resolved: &Resolved) -> Verdict
         requires inputs { length resolved.now.inputs ≡ length tx.now.inputs }
         requires references { length resolved.now.references ≡ length tx.now.references }
-        ensures { result ≡ verdict_of (told_by (λ b. number b) (λ b. says b) self.now.contracts.items) tx.now resolved.now }
+        ensures { result ≡ verdict_of (told_by (λ b. number b)
+            (λ b. says b) self.now.contracts.items) tx.now resolved.now }
     {
         verdict_among::<BoxedContract>(&self.contracts, tx, resolved)
     }

@@ -57,7 +57,8 @@ fn refusal<C: LedgerContract>(
     tx: &Tx,
     resolved: &Resolved,
 ) -> Option<Verdict>
-    ensures { result ≡ refusal_of (governs resolved.now.inputs id || governs tx.now.outputs id) id (told_by C.number C.says contracts.now id tx.now resolved.now) }
+    ensures { result ≡ refusal_of (governs resolved.now.inputs id || governs tx.now.outputs id) id
+        (told_by C.number C.says contracts.now id tx.now resolved.now) }
 {
     if !is_governed(resolved.inputs.as_slice(), id) && !is_governed(tx.outputs.as_slice(), id) {
         return None;
@@ -75,7 +76,9 @@ fn refusal<C: LedgerContract>(
 /// What the contracts of these numbers say, of those that govern an input or an output.
 #[tactic(auto, using(crate::proofs::Skips::judged_at))]
 fn judge<C: LedgerContract>(contracts: &[C], ids: &[u8], tx: &Tx, resolved: &Resolved) -> Verdict
-    ensures { result ≡ judged_by (λ id. told_by C.number C.says contracts.now id tx.now resolved.now) (filter (λ id. governs resolved.now.inputs id || governs tx.now.outputs id) ids.now) }
+    ensures { result ≡ judged_by (λ id.
+        told_by C.number C.says contracts.now id tx.now resolved.now)
+        (filter (λ id. governs resolved.now.inputs id || governs tx.now.outputs id) ids.now) }
 {
     for id in ids {
         if let Some(verdict) = refusal(contracts, *id, tx, resolved) {

@@ -7,7 +7,7 @@
 ghost use Rattle.std.specs.Prelude.{◌≡◌, ◌⊎◌, IfOk, length, map, string_bytes, All, [], true, None};
 ghost use Rattle.std.specs.IoError.{error_kind};
 ghost use Rattle.std.specs.declared.io.ErrorKind.TheVariants.{OutOfMemory};
-ghost use Rattle.outside.specs.Disk.{DiskView, clean};
+ghost use Rattle.outside.specs.Disk.{DiskSeen, clean};
 ghost use Rattle.outside.specs.Faults.{Rose};
 ghost use Rattle.shell_words.specs.Program.{network_of_words};
 
@@ -48,7 +48,9 @@ fn status_of(fault: &io::Error) -> u8
 
 /// An empty disk in memory.
 fn empty_disk<'a, R: Files<File = File>>(alloc: Global, rt: &'a R) -> HostDisk<'a, R>
-    ensures { (result.state ≡ record { kept = []; now = clean []; past = [] }) × (result.calm ≡ true) × (result.power ≡ true) × (result.fuse ≡ None) × (result.faults ≡ 0) }
+    ensures { (result.state ≡ record { kept = []; now = clean []; past = [] })
+        × (result.calm ≡ true) × (result.power ≡ true) × (result.fuse ≡ None)
+        × (result.faults ≡ 0) }
 {
     HostDisk::new(alloc, rt)
 }
@@ -59,7 +61,9 @@ fn empty_disks<'a, R: Files<File = File>>(
     rt: &'a R,
 ) -> Result<Vec<HostDisk<'a, R>>, AllocError>
     ensures count { IfOk result (λ disks. length disks.items ≡ 32) }
-    ensures empty { IfOk result (λ disks. All (λ (d : DiskView). (d.state ≡ record { kept = []; now = clean []; past = [] }) × (d.calm ≡ true) × (d.power ≡ true) × (d.fuse ≡ None) × (d.faults ≡ 0)) disks.items) }
+    ensures empty { IfOk result (λ disks.
+        All (λ (d : DiskSeen). (d.state ≡ record { kept = []; now = clean []; past = [] })
+        × (d.calm ≡ true) × (d.power ≡ true) × (d.fuse ≡ None) × (d.faults ≡ 0)) disks.items) }
 {
     let mut disks = Vec::new(alloc);
     'disks: for _ in 0..32u8 {
@@ -88,10 +92,14 @@ fn run_shipped<S: Source, K: Sink, R: Files<File = File>>(
     disks: Vec<HostDisk<'_, R>>,
 ) -> Result<u8, AllocError>
     requires { length disks.items ≡ 32 }
-    ensures words { IfOk result (λ status. status ≡ 2 → network_of_words (map (λ s. string_bytes s) words.now) ≡ None) }
-    ensures refused { IfOk result (λ status. network_of_words (map (λ s. string_bytes s) words.now) ≡ None → (status ≡ 2) ⊎ (status ≡ 7)) }
-    ensures read_fault { IfOk result (λ status. status ≡ 4 → Rose (S.faults source.old) (S.faults source.new)) }
-    ensures write_fault { IfOk result (λ status. status ≡ 5 → Rose (K.faults sink.old) (K.faults sink.new)) }
+    ensures words { IfOk result (λ status. status ≡ 2
+        → network_of_words (map (λ s. string_bytes s) words.now) ≡ None) }
+    ensures refused { IfOk result (λ status. network_of_words (map (λ s. string_bytes s) words.now)
+        ≡ None → (status ≡ 2) ⊎ (status ≡ 7)) }
+    ensures read_fault { IfOk result (λ status. status ≡ 4
+        → Rose (S.faults source.old) (S.faults source.new)) }
+    ensures write_fault { IfOk result (λ status. status ≡ 5
+        → Rose (K.faults sink.old) (K.faults sink.new)) }
 {
     let mut contracts: Vec<BoxedContract> = Vec::new(alloc);
     contracts.push(Box::new(alloc, Cash)?)?;

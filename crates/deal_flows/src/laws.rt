@@ -19,7 +19,8 @@ use flow_forms::begins_by_its_words;
 
 /// The bytes that the words of a fact, `fact P NAME VALUE`, give begin a flow by the arguments of these words, where these are in range.
 pub fn fact_begins_by_its_words()
-    ensures { BeginsByWords (codes "fact") 6 fact_words.args_of fact_words.args fact_words.args_at fact.begins }
+    ensures { BeginsByWords (codes "fact") 6 fact_words.args_of fact_words.args fact_words.args_at
+        fact.begins }
 {
     begins_by_its_words::<FactPlace, Fact>();
 }
@@ -31,7 +32,8 @@ pub fn fact_is_accepted()
 
 /// The bytes that the words of a changed fact, `refact ID INDEX VALUE`, give begin a flow by the arguments of these words, where these are in range.
 pub fn refact_begins_by_its_words()
-    ensures { BeginsByWords (codes "refact") 7 refact_words.args_of refact_words.args refact_words.args_at refact.begins }
+    ensures { BeginsByWords (codes "refact") 7 refact_words.args_of refact_words.args
+        refact_words.args_at refact.begins }
 {
     begins_by_its_words::<RefactPlace, Refact>();
 }
@@ -43,7 +45,8 @@ pub fn refact_is_accepted()
 
 /// The bytes that the words of a debt, `iou P CODE ISSUER AMOUNT`, give begin a flow by the arguments of these words, where these are in range.
 pub fn iou_begins_by_its_words()
-    ensures { BeginsByWords (codes "iou") 9 iou_words.args_of iou_words.args iou_words.args_at iou.begins }
+    ensures { BeginsByWords (codes "iou") 9 iou_words.args_of iou_words.args iou_words.args_at
+        iou.begins }
 {
     begins_by_its_words::<IouPlace, Iou>();
 }

@@ -28,10 +28,10 @@ pub struct HostDisk<'a, R: Files<File = File>> {
 }
 
 impl<'a, R: Files<File = File>> Model for HostDisk<'a, R> {
-    ghost use Rattle.outside.specs.Disk.{DiskView};
+    ghost use Rattle.outside.specs.Disk.{DiskSeen};
     ghost use Rattle.disk_host.specs.Host.{host_of};
 
-    ghost Value = { DiskView };
+    ghost Value = { DiskSeen };
 
     ghost view = { λ d. host_of d.file d.memory d.faults };
 }
@@ -42,7 +42,8 @@ impl<'a, R: Files<File = File>> HostDisk<'a, R> {
     pub fn new(alloc: Global, rt: &'a R) -> HostDisk<'a, R>
         ensures state { result.state ≡ record { kept = []; now = clean []; past = [] } }
         ensures tells { result.tells ≡ true }
-        ensures calm { (result.calm ≡ true) × (result.power ≡ true) × (result.fuse ≡ None) × (result.faults ≡ 0) }
+        ensures calm { (result.calm ≡ true) × (result.power ≡ true) × (result.fuse ≡ None)
+            × (result.faults ≡ 0) }
         ensures attached { result.attached ≡ None }
     {
         HostDisk {
@@ -120,16 +121,24 @@ impl<'a, R: Files<File = File>> Disk for HostDisk<'a, R> {
 
 impl<'a, R: Files<File = File>> Bay for HostDisk<'a, R> {
     fn attach(&mut self, alloc: Global, dir: Option<&str>, name: &str) -> Result<(), AttachFault>
-        ensures file { IsSome dir.entry → OnOk result (self.new ≡ file_view self.old.faults self.new.attached) }
+        ensures file { IsSome dir.entry → OnOk result
+            (self.new ≡ file_view self.old.faults self.new.attached) }
         ensures done { IsNone dir.entry → IsOk result }
-        ensures attached { OnOk result (self.new.attached ≡ Some (record { folder = option_map (λ s. s.now) dir.entry; name = name.now })) }
-        ensures in_memory { IsNone dir.entry → self.new ≡ record self.old { faults = self.new.faults; attached = self.new.attached } }
-        ensures calm { IsNone dir.entry → self.old.calm ≡ true → ¬ (IsErrOf result AttachFault.Failed) }
+        ensures attached { OnOk result (self.new.attached
+            ≡ Some (record { folder = option_map (λ s. s.now) dir.entry; name = name.now })) }
+        ensures in_memory { IsNone dir.entry
+            → self.new ≡ record self.old {
+              faults = self.new.faults;
+              attached = self.new.attached;
+            } }
+        ensures calm { IsNone dir.entry → self.old.calm ≡ true
+            → ¬ (IsErrOf result AttachFault.Failed) }
         ensures refused { OnErr result (self.new ≡ record self.old { faults = self.new.faults }) }
         ensures silent { self.old.tells ≡ false → self.new.tells ≡ false }
         ensures later { self.old.faults ≤ self.new.faults }
         ensures cause { IsErrOf result AttachFault.Failed → Rose self.old.faults self.new.faults }
-        ensures uncounted { (IsErrOf result AttachFault.Failed → ⊥) → self.new.faults ≡ self.old.faults }
+        ensures uncounted { (IsErrOf result AttachFault.Failed → ⊥)
+            → self.new.faults ≡ self.old.faults }
     {
         if let Some(dir) = dir {
             match LockedFile::open(self.rt, alloc, dir, name) {

@@ -4,7 +4,7 @@ use Rattle.std.proofs.lemmas.Bool.Decides.{nat_tests}
 use Rattle.outside.specs.Disk.{DiskState, IsImage, EachImage, clean, with_range, overwritten}
 use Rattle.outside.proofs.Moments.{started, weaker, then, clean_image, Either}
 use Rattle.net_base.specs.declared.names.Identity.{Identity}
-use Rattle.disk_journal.specs.Journal.{body_limit, record_limit, extent, journal_of, IsSound, IsOldOrNew, JournalView, Stands, entry, is_full_at}
+use Rattle.disk_journal.specs.Journal.{body_limit, record_limit, extent, journal_of, IsSound, IsOldOrNew, JournalSeen, Stands, entry, is_full_at}
 use Rattle.disk_journal.proofs.Crash.{Parts, torn_parts, gate, gate_within}
 use Rattle.disk_journal.proofs.Steps.{put_parts, before_gate, at_gate, after_gate, staged_within}
 
@@ -16,10 +16,10 @@ not_full count len is = (grind (arith, nat_tests), grind (arith, nat_tests))
 abbrev pub Good : Identity → List ℕ → List ℕ → List ℕ → Type 0
 Good id old b c = IsOldOrNew (journal_of old) b c × IsSound id c
 
-pub stays : (j : JournalView) (d : DiskState) (b : List ℕ) → Stands j d → EachImage d d (Good j.of d.kept b)
+pub stays : (j : JournalSeen) (d : DiskState) (b : List ℕ) → Stands j d → EachImage d d (Good j.of d.kept b)
 stays j d b st = started d (Good j.of d.kept b) (λ c image. subst (Good j.of d.kept b) (sym (clean_image d.kept c (subst (λ s. IsImage s c) st.synced image))) (inl refl, st.sound))
 
-module _ (j : JournalView) (d : DiskState) (b : List ℕ) (st : Stands j d) (small : length b ≤ body_limit) (fewer : length (journal_of d.kept) < record_limit) where
+module _ (j : JournalSeen) (d : DiskState) (b : List ℕ) (st : Stands j d) (small : length b ≤ body_limit) (fewer : length (journal_of d.kept) < record_limit) where
   abbrev g : ℕ
   g = gate j.of d.kept st.sound
 
@@ -104,7 +104,7 @@ module _ (j : JournalView) (d : DiskState) (b : List ℕ) (st : Stands j d) (sma
     second_kept e (inl same) = (subst P (sym (same ∙ is_staged)) staged_good).0
     second_kept e (inr pending) = (torn_two e.kept (subst (λ (k : ℕ). IsImage (with_range m.now k 1) e.kept) place_before pending)).0
 
-    pub stands : (e : DiskState) (k : JournalView) → e.kept ≡ overwritten m.kept (j.length - 1) (1 ∷ []) → e.now ≡ clean e.kept → k.of ≡ j.of → k.length ≡ j.length + (5 + length b) → k.count ≡ j.count + 1
+    pub stands : (e : DiskState) (k : JournalSeen) → e.kept ≡ overwritten m.kept (j.length - 1) (1 ∷ []) → e.now ≡ clean e.kept → k.of ≡ j.of → k.length ≡ j.length + (5 + length b) → k.count ≡ j.count + 1
         → Stands k e × (journal_of e.kept ≡ journal_of d.kept ++ b ∷ [])
     stands e k kept_e synced_e same_of len count =
         let is : e.kept ≡ opened = kept_e ∙ (λ i. overwritten (is_staged i) (place_before i) (1 ∷ [])) in

@@ -2,7 +2,7 @@
 use Rattle.std.specs.Prelude.{◌≡◌, ◌⊎◌, ℕ, zero, suc, ◌+◌, ◌<◌, ◌≤◌, ◌==◌, nat_lt, nat_le, not, ◌&&◌, ◌||◌, Bool, true, List, [], ◌∷◌, ◌++◌, length, take, drop, slice_index, codes, Option, Some, None, if◌then◌else◌}
 use Rattle.std.specs.Int.{w32, to_be_bytes, from_be_bytes}
 use Rattle.std.specs.Str.{bytes_eq}
-use Rattle.outside.specs.Disk.{DiskState, DiskView, IsImage, clean}
+use Rattle.outside.specs.Disk.{DiskState, DiskSeen, IsImage, clean}
 use Rattle.net_base.specs.declared.names.Identity.{Identity}
 use Rattle.disk_journal.specs.declared.fault.OpenFault.{OpenFault}
 use Rattle.disk_journal.specs.declared.fault.OpenFault.TheVariants.{Fault, Memory, NotAJournal, WrongNode, Damaged}
@@ -81,8 +81,8 @@ abbrev pub entry : List ℕ → List ℕ
 entry body = to_be_bytes w32 (length body) ++ (body ++ 0 ∷ [])
 
 -- a journal as contracts see it
-pub record JournalView : Type 0 where
-  pub disk : DiskView
+pub record JournalSeen : Type 0 where
+  pub disk : DiskSeen
   pub of : Identity
   -- one more than the place of the closed gate that ends it
   pub length : ℕ
@@ -95,18 +95,18 @@ abbrev pub is_full_at : ℕ → ℕ → Bool
 is_full_at count len = nat_le 65536 count || nat_lt 133693435 len
 
 -- what a node's journal is between two calls, where its disk tells its content
-pub record Stands (j : JournalView) (d : DiskState) : Type 0 where
+pub record Stands (j : JournalSeen) (d : DiskState) : Type 0 where
   pub synced : d.now ≡ clean d.kept
   pub sound : IsSound j.of d.kept
   pub ends : j.length ≡ 17 + extent record_limit (drop 16 d.kept)
   pub counts : j.count ≡ length (journal_of d.kept)
 
 -- no append answered a fault since the opening
-abbrev pub IsReady : JournalView → Type 0
+abbrev pub IsReady : JournalSeen → Type 0
 IsReady j = j.disk.tells ≡ true → Stands j j.disk.state
 
 -- there is room for a record with a body of so many bytes
-pub record HasRoom (j : JournalView) (size : ℕ) : Type 0 where
+pub record HasRoom (j : JournalSeen) (size : ℕ) : Type 0 where
   pub end : j.length + 5 + size ≤ j.disk.room_end
   pub writes : 2 ≤ j.disk.room_writes
   pub buffer : 5 + size ≤ j.buffer

@@ -36,11 +36,17 @@ pub struct Journal<D: Disk> {
 
 impl<D: Disk> Model for Journal<D> {
     ghost use Rattle.std.specs.Prelude.{◌≤◌, vec_capacity};
-    ghost use Rattle.disk_journal.specs.Journal.{JournalView};
+    ghost use Rattle.disk_journal.specs.Journal.{JournalSeen};
 
-    ghost Value = { JournalView };
+    ghost Value = { JournalSeen };
 
-    ghost view = { λ j. record { disk = D.seen j.disk; of = j.of; length = j.length; count = j.count; buffer = vec_capacity j.buffer } };
+    ghost view = { λ j. record {
+      disk = D.seen j.disk;
+      of = j.of;
+      length = j.length;
+      count = j.count;
+      buffer = vec_capacity j.buffer;
+    } };
 
     ghost invariant = { λ j. 17 ≤ j.length };
 }
@@ -76,64 +82,106 @@ impl<D: Disk> Journal<D> {
         identity: Identity,
     ) -> Result<(Journal<D>, RecordList), OpenRefused<D>>
         requires { IsIdentity identity }
-        ensures opened { (D.seen disk).tells ≡ true → OnOk result (refusal identity (D.seen disk).state.kept ≡ None) }
-        ensures list { (D.seen disk).tells ≡ true → IfOk result (λ r. r.1 ≡ placed 16 (journal_of (D.seen disk).state.kept)) }
+        ensures opened { (D.seen disk).tells ≡ true
+            → OnOk result (refusal identity (D.seen disk).state.kept ≡ None) }
+        ensures list { (D.seen disk).tells ≡ true
+            → IfOk result (λ r. r.1 ≡ placed 16 (journal_of (D.seen disk).state.kept)) }
         ensures ready { IfOk result (λ r. IsReady r.0 × (r.0.of ≡ identity)) }
-        ensures same { IfOk result (λ r. IfTold (D.seen disk) r.0.disk (λ d e. journal_of e.kept ≡ journal_of d.kept)) }
+        ensures same { IfOk result (λ r. IfTold (D.seen disk) r.0.disk
+            (λ d e. journal_of e.kept ≡ journal_of d.kept)) }
 
         // Also over a disk that tells nothing.
-        ensures counts { IfOk result (λ r. (r.0.count ≡ length r.1) × (r.0.length ≡ 17 + size_of r.1) × (r.0.count ≤ 65536)) }
-        ensures refused { (D.seen disk).tells ≡ true → IfErr result (λ r. GivesUp r.why ⊎ (refusal identity (D.seen disk).state.kept ≡ Some r.why)) }
+        ensures counts { IfOk result (λ r. (r.0.count ≡ length r.1)
+            × (r.0.length ≡ 17 + size_of r.1) × (r.0.count ≤ 65536)) }
+        ensures refused { (D.seen disk).tells ≡ true
+            → IfErr result (λ r. GivesUp r.why
+            ⊎ (refusal identity (D.seen disk).state.kept ≡ Some r.why)) }
 
         // Over a disk that had length 0 once nothing else can come.
-        ensures begun { (D.seen disk).tells ≡ true → IsYoung identity (D.seen disk).state.kept → IfErr result (λ r. GivesUp r.why) }
-        ensures kept { IfErr result (λ r. (r.why ≡ OpenFault.Fault → ⊥) → IfTold (D.seen disk) (D.seen r.disk) (λ d e. journal_of e.kept ≡ journal_of d.kept)) }
+        ensures begun { (D.seen disk).tells ≡ true → IsYoung identity (D.seen disk).state.kept
+            → IfErr result (λ r. GivesUp r.why) }
+        ensures kept { IfErr result (λ r. (r.why ≡ OpenFault.Fault → ⊥)
+            → IfTold (D.seen disk) (D.seen r.disk)
+            (λ d e. journal_of e.kept ≡ journal_of d.kept)) }
 
         // Only a disk on which no journal was begun, or not finished, is written, and that not before a refusal for want of
         // memory.
-        ensures left { IfOk result (λ r. IfTold (D.seen disk) r.0.disk (λ d e. e.kept ≡ formatted identity d.kept)) }
-        ensures bytes { IfErr result (λ r. (r.why ≡ OpenFault.Fault → ⊥) → IfTold (D.seen disk) (D.seen r.disk) (λ d e. (e.kept ≡ d.kept) × (e.now ≡ clean e.kept))) }
+        ensures left { IfOk result (λ r. IfTold (D.seen disk) r.0.disk
+            (λ d e. e.kept ≡ formatted identity d.kept)) }
+        ensures bytes { IfErr result (λ r. (r.why ≡ OpenFault.Fault → ⊥)
+            → IfTold (D.seen disk) (D.seen r.disk)
+            (λ d e. (e.kept ≡ d.kept) × (e.now ≡ clean e.kept))) }
         ensures unwritten { MatchResult result
-            (λ r. IfTold (D.seen disk) r.0.disk (λ d e. is_unformatted d.kept ≡ false → EachImage d e (IsImage d.now)))
-            (λ r. IfTold (D.seen disk) (D.seen r.disk) (λ d e. is_unformatted d.kept ≡ false → EachImage d e (IsImage d.now) × IsImage d.now e.kept)) }
+            (λ r. IfTold (D.seen disk) r.0.disk
+            (λ d e. is_unformatted d.kept ≡ false → EachImage d e (IsImage d.now)))
+            (λ r. IfTold (D.seen disk) (D.seen r.disk)
+            (λ d e. is_unformatted d.kept ≡ false
+            → EachImage d e (IsImage d.now) × IsImage d.now e.kept)) }
 
         // A fuse counts each write and sync.
-        ensures fuse { (D.seen disk).tells ≡ true → IfOk result (λ r. r.0.disk.fuse ≡ burnt_by (opening_calls (D.seen disk).state.kept) (D.seen disk).fuse) }
+        ensures fuse { (D.seen disk).tells ≡ true
+            → IfOk result (λ r. r.0.disk.fuse ≡ burnt_by (opening_calls (D.seen disk).state.kept)
+            (D.seen disk).fuse) }
         ensures power { IfOk result (λ r. ((D.seen disk).power ≡ true) × (r.0.disk.power ≡ true)) }
 
         // A refusal that is no fault comes after the one sync alone, with the power on.
-        ensures refused_fuse { IfErr result (λ r. (r.why ≡ OpenFault.Fault → ⊥) → (D.seen r.disk).fuse ≡ burnt (D.seen disk).fuse) }
-        ensures refused_power { IfErr result (λ r. (r.why ≡ OpenFault.Fault → ⊥) → ((D.seen disk).power ≡ true) × ((D.seen r.disk).power ≡ true)) }
+        ensures refused_fuse { IfErr result
+            (λ r. (r.why ≡ OpenFault.Fault → ⊥) → (D.seen r.disk).fuse ≡ burnt (D.seen disk).fuse) }
+        ensures refused_power { IfErr result
+            (λ r. (r.why ≡ OpenFault.Fault → ⊥)
+            → ((D.seen disk).power ≡ true) × ((D.seen r.disk).power ≡ true)) }
 
         // No call of it brings power back, and where a fuse ends within its calls, it fails.
-        ensures burns { (D.seen disk).tells ≡ true → IfOk result (λ r. Burns (opening_calls (D.seen disk).state.kept) (D.seen disk) r.0.disk) }
-        ensures refused_burns { IfErr result (λ r. (r.why ≡ OpenFault.Fault → ⊥) → Burns 1 (D.seen disk) (D.seen r.disk)) }
+        ensures burns { (D.seen disk).tells ≡ true
+            → IfOk result (λ r. Burns (opening_calls (D.seen disk).state.kept)
+            (D.seen disk) r.0.disk) }
+        ensures refused_burns { IfErr result
+            (λ r. (r.why ≡ OpenFault.Fault → ⊥) → Burns 1 (D.seen disk) (D.seen r.disk)) }
         ensures no_more { MatchResult result
             (λ r. BurnsUpTo 7 (D.seen disk) r.0.disk)
             (λ r. BurnsUpTo 7 (D.seen disk) (D.seen r.disk)) }
 
         // What was kept as the call began was one of the images then.
-        ensures was { (D.seen disk).tells ≡ true → IsImage (D.seen disk).state.now (D.seen disk).state.kept }
+        ensures was { (D.seen disk).tells ≡ true
+            → IsImage (D.seen disk).state.now (D.seen disk).state.kept }
 
         // At each moment each image spells a list that an image spelt as the call began,
         ensures moments { MatchResult result
             (λ r. IfTold (D.seen disk) r.0.disk (λ d e. EachImage d e (WasSpelt d)))
-            (λ r. IfTold (D.seen disk) (D.seen r.disk) (λ d e. EachImage d e (WasSpelt d) × WasSpelt d e.kept)) }
+            (λ r. IfTold (D.seen disk) (D.seen r.disk)
+            (λ d e. EachImage d e (WasSpelt d) × WasSpelt d e.kept)) }
 
         // is one over which an opening gives no refusal, where each image was,
         ensures young { MatchResult result
-            (λ r. IfTold (D.seen disk) r.0.disk (λ d e. ((c : List ℕ) → IsImage d.now c → IsYoung identity c) → EachImage d e (IsYoung identity)))
-            (λ r. IfTold (D.seen disk) (D.seen r.disk) (λ d e. ((c : List ℕ) → IsImage d.now c → IsYoung identity c) → EachImage d e (IsYoung identity))) }
+            (λ r. IfTold (D.seen disk) r.0.disk
+            (λ d e. ((c : List ℕ) → IsImage d.now c → IsYoung identity c)
+            → EachImage d e (IsYoung identity)))
+            (λ r. IfTold (D.seen disk) (D.seen r.disk)
+            (λ d e. ((c : List ℕ) → IsImage d.now c → IsYoung identity c)
+            → EachImage d e (IsYoung identity))) }
 
         // and is sound, where each image was.
         ensures sound { MatchResult result
-            (λ r. IfTold (D.seen disk) r.0.disk (λ d e. ((c : List ℕ) → IsImage d.now c → IsSound identity c) → EachImage d e (IsSound identity)))
-            (λ r. IfTold (D.seen disk) (D.seen r.disk) (λ d e. ((c : List ℕ) → IsImage d.now c → IsSound identity c) → EachImage d e (IsSound identity))) }
-        ensures cause { IfErr result (λ r. r.why ≡ OpenFault.Fault → Rose (D.seen disk).faults (D.seen r.disk).faults) }
-        ensures later { MatchResult result (λ r. (D.seen disk).faults ≤ r.0.disk.faults) (λ r. (D.seen disk).faults ≤ (D.seen r.disk).faults) }
-        ensures calm { (D.seen disk).calm ≡ true → MatchResult result (λ r. r.0.disk.calm ≡ true) (λ r. ((D.seen r.disk).calm ≡ true) × (r.why ≡ OpenFault.Fault → ⊥)) }
-        ensures attached { MatchResult result (λ r. r.0.disk.attached ≡ (D.seen disk).attached) (λ r. (D.seen r.disk).attached ≡ (D.seen disk).attached) }
-        ensures of_file { MatchResult result (λ r. (r.0.disk.of_file ≡ (D.seen disk).of_file) × (r.0.disk.tells ≡ (D.seen disk).tells)) (λ r. ((D.seen r.disk).of_file ≡ (D.seen disk).of_file) × ((D.seen r.disk).tells ≡ (D.seen disk).tells)) }
+            (λ r. IfTold (D.seen disk) r.0.disk
+            (λ d e. ((c : List ℕ) → IsImage d.now c → IsSound identity c)
+            → EachImage d e (IsSound identity)))
+            (λ r. IfTold (D.seen disk) (D.seen r.disk)
+            (λ d e. ((c : List ℕ) → IsImage d.now c → IsSound identity c)
+            → EachImage d e (IsSound identity))) }
+        ensures cause { IfErr result (λ r. r.why ≡ OpenFault.Fault
+            → Rose (D.seen disk).faults (D.seen r.disk).faults) }
+        ensures later { MatchResult result (λ r. (D.seen disk).faults ≤ r.0.disk.faults)
+            (λ r. (D.seen disk).faults ≤ (D.seen r.disk).faults) }
+        ensures calm { (D.seen disk).calm ≡ true
+            → MatchResult result (λ r. r.0.disk.calm ≡ true)
+            (λ r. ((D.seen r.disk).calm ≡ true) × (r.why ≡ OpenFault.Fault → ⊥)) }
+        ensures attached { MatchResult result (λ r. r.0.disk.attached ≡ (D.seen disk).attached)
+            (λ r. (D.seen r.disk).attached ≡ (D.seen disk).attached) }
+        ensures of_file { MatchResult result
+            (λ r. (r.0.disk.of_file ≡ (D.seen disk).of_file)
+            × (r.0.disk.tells ≡ (D.seen disk).tells))
+            (λ r. ((D.seen r.disk).of_file ≡ (D.seen disk).of_file)
+            × ((D.seen r.disk).tells ≡ (D.seen disk).tells)) }
     {
         let mut disk = disk;
         match prepare(alloc, &mut disk, &identity) {
@@ -155,8 +203,14 @@ impl<D: Disk> Journal<D> {
     pub fn make_room(&mut self, alloc: Global, bytes: usize) -> Result<(), AllocError>
         ensures room { OnOk result (HasRoom self.new bytes) }
         ensures more { (size : ℕ) → HasRoom self.old size → HasRoom self.new size }
-        ensures same { self.new ≡ record self.old { disk = self.new.disk; buffer = self.new.buffer } }
-        ensures disk { self.new.disk ≡ record self.old.disk { room_end = self.new.disk.room_end; room_writes = self.new.disk.room_writes } }
+        ensures same { self.new ≡ record self.old {
+          disk = self.new.disk;
+          buffer = self.new.buffer;
+        } }
+        ensures disk { self.new.disk ≡ record self.old.disk {
+          room_end = self.new.disk.room_end;
+          room_writes = self.new.disk.room_writes;
+        } }
         ensures ready { IsReady self.old → IsReady self.new }
     {
         let size = bytes.checked_add(5).ok_or(AllocError)?;
@@ -204,11 +258,14 @@ impl<D: Disk> Journal<D> {
         requires ready { IsReady self.old }
         requires room { HasRoom self.old (length body.now) }
         requires small { length body.now ≤ 524288 }
-        ensures full { IsErrOf result AppendFault.Full ↔ is_full_at self.old.count self.old.length ≡ true }
+        ensures full { IsErrOf result AppendFault.Full ↔ is_full_at self.old.count self.old.length
+            ≡ true }
         ensures unchanged { IsErrOf result AppendFault.Full → self.new ≡ self.old }
         ensures ready { OnOk result (IsReady self.new) }
-        ensures done { OnOk result (IfTold self.old.disk self.new.disk (λ d e. journal_of e.kept ≡ journal_of d.kept ++ body.now ∷ [])) }
-        ensures counts { OnOk result ((self.new.length ≡ self.old.length + 5 + length body.now) × (self.new.count ≡ self.old.count + 1)) }
+        ensures done { OnOk result (IfTold self.old.disk self.new.disk
+            (λ d e. journal_of e.kept ≡ journal_of d.kept ++ body.now ∷ [])) }
+        ensures counts { OnOk result ((self.new.length ≡ self.old.length + 5 + length body.now)
+            × (self.new.count ≡ self.old.count + 1)) }
         ensures fuse { OnOk result (self.new.disk.fuse ≡ burnt_by 4 self.old.disk.fuse) }
         ensures power { OnOk result ((self.old.disk.power ≡ true) × (self.new.disk.power ≡ true)) }
 
@@ -217,11 +274,16 @@ impl<D: Disk> Journal<D> {
         ensures no_more { BurnsUpTo 4 self.old.disk self.new.disk }
 
         // At each moment each image spells the old records or these with the new one, and is sound.
-        ensures moments { IfTold self.old.disk self.new.disk (λ d e. EachImage d e (λ c. IsOldOrNew (journal_of d.kept) body.now c × IsSound self.old.of c)) }
-        ensures kept { IfTold self.old.disk self.new.disk (λ d e. IsOldOrNew (journal_of d.kept) body.now e.kept) }
+        ensures moments { IfTold self.old.disk self.new.disk
+            (λ d e. EachImage d e (λ c. IsOldOrNew (journal_of d.kept) body.now c
+            × IsSound self.old.of c)) }
+        ensures kept { IfTold self.old.disk self.new.disk
+            (λ d e. IsOldOrNew (journal_of d.kept) body.now e.kept) }
         ensures later { self.old.disk.faults ≤ self.new.disk.faults }
-        ensures cause { IsErrOf result AppendFault.Fault → Rose self.old.disk.faults self.new.disk.faults }
-        ensures calm { self.old.disk.calm ≡ true → (self.new.disk.calm ≡ true) × (IsErrOf result AppendFault.Fault → ⊥) }
+        ensures cause { IsErrOf result AppendFault.Fault
+            → Rose self.old.disk.faults self.new.disk.faults }
+        ensures calm { self.old.disk.calm ≡ true
+            → (self.new.disk.calm ≡ true) × (IsErrOf result AppendFault.Fault → ⊥) }
         ensures rest { SameRest self.old.disk self.new.disk × (self.new.of ≡ self.old.of) }
     {
         if self.is_full() {
@@ -244,7 +306,11 @@ impl<D: Bay> Journal<D> {
         requires outcome { outcome ≤ 3 }
         ensures refused { IsErr result ↔ (self.old.disk.of_file ≡ true) }
         ensures unchanged { OnErr result (self.new ≡ self.old) }
-        ensures armed { OnOk result (self.new.disk ≡ record self.old.disk { fuse = Some (calls, outcome); calm = self.new.disk.calm }) }
+        ensures armed { OnOk result (self.new.disk
+            ≡ record self.old.disk {
+              fuse = Some (calls, outcome);
+              calm = self.new.disk.calm;
+            }) }
         ensures same { self.new ≡ record self.old { disk = self.new.disk } }
         ensures ready { IsReady self.old → IsReady self.new }
         ensures room { (size : ℕ) → HasRoom self.old size → HasRoom self.new size }

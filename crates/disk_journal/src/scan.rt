@@ -27,7 +27,8 @@ fn length_behind(bytes: &[u8], at: usize) -> u32
 #[tactic(auto, unfolding(crate::specs::Journal::is_whole))]
 fn whole_at(bytes: &[u8], at: usize) -> Option<usize>
     requires { at ≤ length bytes.now }
-    ensures { result ≡ (if is_whole (drop at bytes.now) then Some (length_at (drop at bytes.now)) else None) }
+    ensures { result ≡ (if is_whole (drop at bytes.now) then Some (length_at (drop at bytes.now))
+        else None) }
 {
     if bytes.len() - at < 6 || bytes[at] != 1 {
         return None;
@@ -43,7 +44,8 @@ fn whole_at(bytes: &[u8], at: usize) -> Option<usize>
 /// The same, where a record more may be read.
 fn next_at(bytes: &[u8], at: usize, left: u32) -> Option<usize>
     requires { at ≤ length bytes.now }
-    ensures { result ≡ (if nat_lt 0 left && is_whole (drop at bytes.now) then Some (length_at (drop at bytes.now)) else None) }
+    ensures { result ≡ (if nat_lt 0 left && is_whole (drop at bytes.now)
+        then Some (length_at (drop at bytes.now)) else None) }
 {
     if left == 0 {
         return None;
@@ -78,10 +80,12 @@ pub fn read_records(
     requires { start ≤ length bytes.now }
     ensures list { IfOk result (λ s. s.list ≡ placed start (bodies limit (drop start bytes.now))) }
     ensures count { IfOk result (λ s. s.count ≡ length (bodies limit (drop start bytes.now))) }
-    ensures sizes { IfOk result (λ s. (s.count ≡ length s.list) × (s.gate ≡ start + size_of s.list) × (s.count ≤ limit)) }
+    ensures sizes { IfOk result (λ s. (s.count ≡ length s.list) × (s.gate ≡ start + size_of s.list)
+        × (s.count ≤ limit)) }
     ensures gate { IfOk result (λ s. s.gate ≡ start + extent limit (drop start bytes.now)) }
     ensures place { IfOk result (λ s. (start ≤ s.gate) × (s.gate ≤ length bytes.now)) }
-    ensures closed { IfOk result (λ s. damage limit start (drop start bytes.now) ≡ (if s.is_closed then None else Some s.gate)) }
+    ensures closed { IfOk result (λ s. damage limit start (drop start bytes.now)
+        ≡ (if s.is_closed then None else Some s.gate)) }
 {
     let mut list = RecordList::new(alloc);
     let mut at = start;

@@ -1,6 +1,6 @@
 -- A disk in memory, as contracts see it.
 use Rattle.std.specs.Prelude.{◌≡◌, ℕ, ◌+◌, ◌-◌, ◌*◌, ◌/◌, take, drop, ◌<◌, ◌≤◌, min, List, length, Contains, map, Vec, Option, Some, None, option_map, vec_len, vec_capacity, Bool, true, false, not, ◌&&◌}
-use Rattle.outside.specs.Disk.{Attached, DiskState, DiskView, Durable, IsImage, IsFilled, overwritten, written, blows}
+use Rattle.outside.specs.Disk.{Attached, DiskState, DiskSeen, Durable, IsImage, IsFilled, overwritten, written, blows}
 use Rattle.disk_mem.specs.declared.lay.Medium.{Medium}
 use Rattle.disk_mem.specs.declared.lay.Last.{Last}
 use Rattle.disk_mem.specs.declared.lay.Fuse.{Fuse}
@@ -47,7 +47,7 @@ pub record IsLeft (outcome : ℕ) (s : Durable) (last : LastWrite) (kept new : L
   pub filled : outcome ≡ 3 → IsFilled s.pending kept new
 
 -- a disk in memory, as contracts see it; the last write is that since the last sync, where something is pending
-pub record MemView : Type 0 where
+pub record MemSeen : Type 0 where
   pub state : DiskState
   pub last : LastWrite
   pub faults : ℕ
@@ -65,19 +65,19 @@ has_no_fuse None = true
 has_no_fuse (Some f) = false
 
 -- as every disk is seen: it tells its content, is no file, and is calm where it has power and no fuse
-abbrev pub disk_of : MemView → DiskView
+abbrev pub disk_of : MemSeen → DiskSeen
 disk_of m = record { tells = true; state = m.state; faults = m.faults; calm = m.power && has_no_fuse m.fuse; power = m.power; fuse = m.fuse; of_file = false; attached = m.attached; room_end = m.room_end; room_writes = m.room_writes }
 
 -- a write or a sync is done
-abbrev pub answers : MemView → Bool
+abbrev pub answers : MemSeen → Bool
 answers m = m.power && not (blows m.fuse)
 
 -- after a write was done
-abbrev pub wrote : MemView → ℕ → List ℕ → MemView
+abbrev pub wrote : MemSeen → ℕ → List ℕ → MemSeen
 wrote m at bytes = record m { state = written m.state at bytes; last = record { at = at; count = length bytes; was = m.state.kept } }
 
 -- the power was cut with this outcome: where nothing is pending nothing changes, and else what is left is what the table says
-pub record CutsBy (outcome : ℕ) (old new : MemView) : Type 0 where
+pub record CutsBy (outcome : ℕ) (old new : MemSeen) : Type 0 where
   pub same : length old.state.now.pending ≡ 0 → new.state ≡ old.state
   pub left : 0 < length old.state.now.pending → IsLeft outcome old.state.now old.last old.state.kept new.state.kept
 

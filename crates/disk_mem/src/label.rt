@@ -36,7 +36,8 @@ impl Label {
 
     /// Keeps both for clauses.
     pub fn of(dir: Option<&str>, name: &str) -> Label
-        ensures { attached_of (Some result) ≡ Some (record { folder = option_map (λ s. s.now) dir.entry; name = name.now }) }
+        ensures { attached_of (Some result)
+            ≡ Some (record { folder = option_map (λ s. s.now) dir.entry; name = name.now }) }
     {
         let folder = match dir {
             Some(dir) => Some(Said::of(dir.as_bytes())),

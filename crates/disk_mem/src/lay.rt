@@ -79,9 +79,11 @@ pub fn cover(last: &mut Last, content: &Vec<u8>, at: usize, count: usize)
     requires place { at ≤ length content.now.items }
     requires fits { at + count < 2 ^ 64 }
     requires room { at + count ≤ vec_capacity last.old.covered }
-    ensures place { (last.new.at ≡ at) × (last.new.count ≡ count) × (last.new.before ≡ length content.now.items) }
+    ensures place { (last.new.at ≡ at) × (last.new.count ≡ count)
+        × (last.new.before ≡ length content.now.items) }
     ensures was { last.new.was.value ≡ content.now }
-    ensures covered { last.new.covered.items ≡ take (min count (length content.now.items - at)) (drop at content.now.items) }
+    ensures covered { last.new.covered.items
+        ≡ take (min count (length content.now.items - at)) (drop at content.now.items) }
     ensures capacity { vec_capacity last.old.covered ≤ vec_capacity last.new.covered }
 {
     let n = count.min(content.len() - at);
@@ -101,7 +103,8 @@ pub fn settle(medium: &mut Medium, content: &[u8])
     requires room { length content.now ≤ vec_capacity medium.old.synced }
     ensures durable { durable_of medium.new ≡ clean content.now }
     ensures synced { vec_capacity medium.old.synced ≤ vec_capacity medium.new.synced }
-    ensures pending { (vec_capacity medium.old.pending ≤ vec_capacity medium.new.pending) × (vec_len medium.new.pending ≡ 0) }
+    ensures pending { (vec_capacity medium.old.pending ≤ vec_capacity medium.new.pending)
+        × (vec_len medium.new.pending ≡ 0) }
 {
     copy_ranges(&mut medium.synced, &medium.pending, content);
     medium.pending.clear();
@@ -122,7 +125,9 @@ fn copy_ranges(synced: &mut Vec<u8>, pending: &[(usize, usize)], content: &[u8])
 /// Copies the ranges of what is there.
 fn copy_pending(synced: &mut [u8], pending: &[(usize, usize)], content: &[u8])
     requires { length synced.old ≡ length content.now }
-    ensures { (i : ℕ) → (IsUntouched pending.now i → slice_index synced.old i ≡ slice_index content.now i) → slice_index synced.new i ≡ slice_index content.now i }
+    ensures { (i : ℕ) → (IsUntouched pending.now i
+        → slice_index synced.old i ≡ slice_index content.now i)
+        → slice_index synced.new i ≡ slice_index content.now i }
 {
     for range in pending {
         copy_range(synced, content, range.0, range.1);
@@ -132,8 +137,10 @@ fn copy_pending(synced: &mut [u8], pending: &[(usize, usize)], content: &[u8])
 /// Copies one range of what is there.
 fn copy_range(synced: &mut [u8], content: &[u8], at: usize, n: usize)
     requires { length synced.old ≡ length content.now }
-    ensures within { (i : ℕ) → at ≤ i → i < at + n → slice_index synced.new i ≡ slice_index content.now i }
-    ensures beside { (i : ℕ) → (i < at) ⊎ (at + n ≤ i) → slice_index synced.new i ≡ slice_index synced.old i }
+    ensures within { (i : ℕ) → at ≤ i → i < at + n
+        → slice_index synced.new i ≡ slice_index content.now i }
+    ensures beside { (i : ℕ) → (i < at) ⊎ (at + n ≤ i)
+        → slice_index synced.new i ≡ slice_index synced.old i }
 {
     let start = at.min(content.len());
     let end = at.saturating_add(n).min(content.len());
@@ -146,7 +153,8 @@ pub fn leave(content: &mut Vec<u8>, medium: &Medium, last: &Last, outcome: u8)
     requires last { IsLast medium.now last.now content.old.items }
     requires room { vec_len content.old ≤ vec_capacity content.old }
     ensures image { IsImage (durable_of medium.now) content.new.items }
-    ensures left { IsLeft outcome (durable_of medium.now) (last_of last.now) content.old.items content.new.items }
+    ensures left { IsLeft outcome (durable_of medium.now)
+        (last_of last.now) content.old.items content.new.items }
     ensures capacity { vec_capacity content.old ≤ vec_capacity content.new }
     ensures no_longer { vec_len content.new ≤ vec_len content.old }
 {
@@ -174,7 +182,8 @@ fn fill_pending(content: &mut [u8], pending: &[(usize, usize)])
 fn put_over(content: &mut Vec<u8>, from: usize, bytes: &[u8])
     requires { from + length bytes.now ≤ length content.old.items }
     ensures items { content.new.items ≡ overwritten content.old.items from bytes.now }
-    ensures beside { (i : ℕ) → (i < from) ⊎ (from + length bytes.now ≤ i) → slice_index content.new.items i ≡ slice_index content.old.items i }
+    ensures beside { (i : ℕ) → (i < from) ⊎ (from + length bytes.now ≤ i)
+        → slice_index content.new.items i ≡ slice_index content.old.items i }
     ensures len { length content.new.items ≡ length content.old.items }
     ensures capacity { vec_capacity content.old ≤ vec_capacity content.new }
 {
@@ -186,7 +195,8 @@ fn halve(content: &mut Vec<u8>, medium: &Medium, last: &Last)
     requires image { IsImage (durable_of medium.now) content.old.items }
     requires last { IsLast medium.now last.now content.old.items }
     ensures image { IsImage (durable_of medium.now) content.new.items }
-    ensures half { content.new.items ≡ overwritten last.now.was.value.items last.now.at (take (last.now.count / 2) (drop last.now.at content.old.items)) }
+    ensures half { content.new.items ≡ overwritten last.now.was.value.items last.now.at
+        (take (last.now.count / 2) (drop last.now.at content.old.items)) }
     ensures capacity { vec_capacity content.old ≤ vec_capacity content.new }
     ensures no_longer { vec_len content.new ≤ vec_len content.old }
 {
@@ -198,8 +208,10 @@ fn halve(content: &mut Vec<u8>, medium: &Medium, last: &Last)
 
 /// Fills one range with 0xA5, as far as there are bytes.
 fn fill_range(content: &mut [u8], at: usize, n: usize)
-    ensures within { (i : ℕ) → at ≤ i → i < at + n → i < length content.old → slice_index content.new i ≡ 165 }
-    ensures beside { (i : ℕ) → (i < at) ⊎ (at + n ≤ i) → slice_index content.new i ≡ slice_index content.old i }
+    ensures within { (i : ℕ) → at ≤ i → i < at + n → i < length content.old
+        → slice_index content.new i ≡ 165 }
+    ensures beside { (i : ℕ) → (i < at) ⊎ (at + n ≤ i)
+        → slice_index content.new i ≡ slice_index content.old i }
 {
     let start = at.min(content.len());
     let end = at.saturating_add(n).min(content.len());

@@ -30,9 +30,9 @@ pub struct MemDisk {
 }
 
 impl Model for MemDisk {
-    ghost use Rattle.disk_mem.specs.Mem.{MemView, state_of, last_of, fuse_of, attached_of, IsSound};
+    ghost use Rattle.disk_mem.specs.Mem.{MemSeen, state_of, last_of, fuse_of, attached_of, IsSound};
 
-    ghost Value = { MemView };
+    ghost Value = { MemSeen };
 
     ghost view = { λ m. record {
       state = state_of m.content.items m.medium m.past.items;
@@ -94,7 +94,9 @@ impl MemDisk {
         requires place { at ≤ length self.old.state.kept }
         requires end { at + length from.now ≤ self.old.room_end }
         requires writes { 0 < self.old.room_writes }
-        ensures done { self.new ≡ record (wrote self.old at from.now) { room_writes = self.new.room_writes } }
+        ensures done { self.new ≡ record (wrote self.old at from.now) {
+          room_writes = self.new.room_writes;
+        } }
         ensures writes { self.old.room_writes ≡ self.new.room_writes + 1 }
     {
         let at = at as usize;
@@ -140,9 +142,17 @@ impl MemDisk {
         requires { self.old.power ≡ true }
         ensures result { result ≡ not (blows self.old.fuse) }
         ensures yes { result ≡ true → self.new ≡ record self.old { fuse = burnt self.old.fuse } }
-        ensures no { result ≡ false → CutsPower self.old.state self.new.state × Rose self.old.faults self.new.faults × (self.old.faults ≤ self.new.faults) }
-        ensures left { (outcome : ℕ) → self.old.fuse ≡ Some (1, outcome) → CutsBy outcome self.old self.new }
-        ensures dark { result ≡ false → self.new ≡ record self.old { state = self.new.state; faults = self.new.faults; power = false; fuse = None } }
+        ensures no { result ≡ false → CutsPower self.old.state self.new.state
+            × Rose self.old.faults self.new.faults × (self.old.faults ≤ self.new.faults) }
+        ensures left { (outcome : ℕ) → self.old.fuse ≡ Some (1, outcome)
+            → CutsBy outcome self.old self.new }
+        ensures dark { result ≡ false → self.new
+            ≡ record self.old {
+              state = self.new.state;
+              faults = self.new.faults;
+              power = false;
+              fuse = None;
+            } }
     {
         let Some(fuse) = self.fuse else {
             return true;
@@ -213,7 +223,8 @@ impl Disk for MemDisk {
     fn read_at(&mut self, at: u64, into: &mut [u8]) -> Result<(), Failed>
         requires { at + length into.old ≤ length self.old.state.kept }
         ensures answers { IsOk result ↔ (self.old.power ≡ true) }
-        ensures value { OnOk result (into.new ≡ take (length into.old) (drop at self.old.state.kept)) }
+        ensures value { OnOk result (into.new
+            ≡ take (length into.old) (drop at self.old.state.kept)) }
         ensures done { OnOk result (self.new ≡ self.old) }
         ensures same { self.new ≡ record self.old { faults = self.new.faults } }
         ensures cause { HasCause self.old.faults self.new.faults result }
@@ -230,13 +241,28 @@ impl Disk for MemDisk {
         requires end { at + length from.now ≤ self.old.room_end }
         requires writes { 0 < self.old.room_writes }
         ensures answers { IsOk result ↔ (answers self.old ≡ true) }
-        ensures done { OnOk result (self.new ≡ record (wrote self.old at from.now) { fuse = burnt self.old.fuse; room_writes = self.new.room_writes }) }
+        ensures done { OnOk result (self.new
+            ≡ record (wrote self.old at from.now) {
+              fuse = burnt self.old.fuse;
+              room_writes = self.new.room_writes;
+            }) }
 
         // Without power nothing changes but the count of faults. Where the fuse blew, the outcome says what is left, the
         // failing write included.
-        ensures dark { self.old.power ≡ false → self.new ≡ record self.old { faults = self.new.faults } }
-        ensures blown { (outcome : ℕ) → self.old.power ≡ true → self.old.fuse ≡ Some (1, outcome) → CutsBy outcome (wrote self.old at from.now) self.new }
-        ensures cut { self.old.power ≡ true → OnErr result (CutsPower (written self.old.state at from.now) self.new.state × (self.new ≡ record self.old { state = self.new.state; last = self.new.last; faults = self.new.faults; power = false; fuse = None; room_writes = self.new.room_writes })) }
+        ensures dark { self.old.power ≡ false
+            → self.new ≡ record self.old { faults = self.new.faults } }
+        ensures blown { (outcome : ℕ) → self.old.power ≡ true → self.old.fuse ≡ Some (1, outcome)
+            → CutsBy outcome (wrote self.old at from.now) self.new }
+        ensures cut { self.old.power ≡ true
+            → OnErr result (CutsPower (written self.old.state at from.now) self.new.state
+            × (self.new ≡ record self.old {
+              state = self.new.state;
+              last = self.new.last;
+              faults = self.new.faults;
+              power = false;
+              fuse = None;
+              room_writes = self.new.room_writes;
+            })) }
         ensures writes { self.old.power ≡ true → self.old.room_writes ≡ self.new.room_writes + 1 }
         ensures cause { HasCause self.old.faults self.new.faults result }
     {
@@ -253,12 +279,25 @@ impl Disk for MemDisk {
 
     fn sync(&mut self) -> Result<(), Failed>
         ensures answers { IsOk result ↔ (answers self.old ≡ true) }
-        ensures done { OnOk result (Syncs self.old.state self.new.state × (self.new ≡ record self.old { state = self.new.state; fuse = burnt self.old.fuse })) }
+        ensures done { OnOk result (Syncs self.old.state self.new.state
+            × (self.new ≡ record self.old {
+              state = self.new.state;
+              fuse = burnt self.old.fuse;
+            })) }
 
         // Without power nothing changes but the count of faults. Where the fuse blew, the outcome says what is left.
-        ensures dark { self.old.power ≡ false → self.new ≡ record self.old { faults = self.new.faults } }
-        ensures blown { (outcome : ℕ) → self.old.power ≡ true → self.old.fuse ≡ Some (1, outcome) → CutsBy outcome self.old self.new }
-        ensures cut { self.old.power ≡ true → OnErr result (CutsPower self.old.state self.new.state × (self.new ≡ record self.old { state = self.new.state; faults = self.new.faults; power = false; fuse = None })) }
+        ensures dark { self.old.power ≡ false
+            → self.new ≡ record self.old { faults = self.new.faults } }
+        ensures blown { (outcome : ℕ) → self.old.power ≡ true → self.old.fuse ≡ Some (1, outcome)
+            → CutsBy outcome self.old self.new }
+        ensures cut { self.old.power ≡ true
+            → OnErr result (CutsPower self.old.state self.new.state
+            × (self.new ≡ record self.old {
+              state = self.new.state;
+              faults = self.new.faults;
+              power = false;
+              fuse = None;
+            })) }
         ensures kept { KeepsImage (disk_of self.old) }
         ensures cause { HasCause self.old.faults self.new.faults result }
     {
@@ -281,7 +320,8 @@ impl Disk for MemDisk {
 impl Bay for MemDisk {
     fn attach(&mut self, _alloc: Global, dir: Option<&str>, name: &str) -> Result<(), AttachFault>
         ensures answers { IsOk result }
-        ensures attached { self.new.attached ≡ Some (record { folder = option_map (λ s. s.now) dir.entry; name = name.now }) }
+        ensures attached { self.new.attached
+            ≡ Some (record { folder = option_map (λ s. s.now) dir.entry; name = name.now }) }
         ensures same { self.new ≡ record self.old { attached = self.new.attached } }
     {
         self.attached = Some(Label::of(dir, name));
@@ -292,7 +332,8 @@ impl Bay for MemDisk {
         ensures answers { IsOk result }
         ensures left { calls ≡ 0 → CutsBy outcome self.old self.new }
         ensures outcome { calls ≡ 0 → LeavesBy outcome self.old.state self.new.state }
-        ensures now { calls ≡ 0 → CutsPower self.old.state self.new.state × (self.new ≡ record self.old { state = self.new.state; power = false; fuse = None }) }
+        ensures now { calls ≡ 0 → CutsPower self.old.state self.new.state
+            × (self.new ≡ record self.old { state = self.new.state; power = false; fuse = None }) }
         ensures armed { 0 < calls → self.new ≡ record self.old { fuse = Some (calls, outcome) } }
     {
         self.fuse = None;

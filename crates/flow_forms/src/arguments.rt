@@ -46,7 +46,8 @@ pub trait Arguments: Spelt {
         ensures { result ≡ worded (map (λ s. string_bytes s) words.now) };
 
     /// Words give arguments within their limits.
-    ghost worded_within: { (words : List (List ℕ)) (v : Self) → worded words ≡ Some v → Self.within v };
+    ghost worded_within: { (words : List (List ℕ)) (v : Self) → worded words ≡ Some v
+        → Self.within v };
 
     /// Arguments have at most so many bytes.
     ghost few: { (v : Self) → Self.within v → length (Self.spelling v) ≤ most };
@@ -200,7 +201,8 @@ impl<A: Argument, B: Arguments> Arguments for Then<A, B> {
 
     ghost most = { A.Argument.most + B.Arguments.most };
 
-    ghost worded_within = { then_within A.Argument.worded B.Arguments.worded A.worded_within B.worded_within };
+    ghost worded_within = { then_within A.Argument.worded B.Arguments.worded A.worded_within
+        B.worded_within };
 
     ghost few = { then_few A.spelling B.spelling A.Argument.most B.Arguments.most A.few B.few };
 

@@ -141,7 +141,9 @@ impl<P, S: Worded<P>> Begins<P, S> for ByWords {
 
     ghost way = { by_words S.name S.CLASS S.Args.worded S.Args.spelling S.Args.reading S.begins };
 
-    ghost is_way = { by_words_laws S.kept.within S.form S.name S.CLASS S.Args.most S.Args.worded S.Args.spelling S.Args.reading S.begins S.Args.laws S.Args.worded_within S.Args.few S.args_fit S.begins_within };
+    ghost is_way = { by_words_laws S.kept.within S.form S.name S.CLASS S.Args.most S.Args.worded
+        S.Args.spelling S.Args.reading S.begins S.Args.laws S.Args.worded_within S.Args.few
+        S.args_fit S.begins_within };
 
     fn read_words(
         alloc: Global,

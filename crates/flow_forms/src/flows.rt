@@ -268,7 +268,8 @@ impl<P: Numbered, S: Machine<P>, W: Begins<P, S>> Flows for Frame<P, S, W> {
 
     ghost within = { IsFrame (placed W.CALLABLE P.numbers) S.kept.within };
 
-    ghost part = { part_of S.form W.way (content_of (λ f. S.MACHINE) (body_of (placed W.CALLABLE P.numbers) S.kept.spelling)) };
+    ghost part = { part_of S.form W.way
+        (content_of (λ f. S.MACHINE) (body_of (placed W.CALLABLE P.numbers) S.kept.spelling)) };
 
     ghost kinds = { S.MACHINE ∷ [] };
 
@@ -278,7 +279,9 @@ impl<P: Numbered, S: Machine<P>, W: Begins<P, S>> Flows for Frame<P, S, W> {
 
     ghost reading = { λ k bytes. body_at (placed W.CALLABLE P.numbers) S.kept.reading bytes };
 
-    ghost laws = { frame_laws (placed W.CALLABLE P.numbers) (are_placed W.CALLABLE P.numbers) S.kept.within S.form W.way S.MACHINE S.kept.spelling S.is_form W.is_way S.kept.short };
+    ghost laws = { frame_laws (placed W.CALLABLE P.numbers)
+        (are_placed W.CALLABLE P.numbers) S.kept.within S.form W.way S.MACHINE S.kept.spelling
+        S.is_form W.is_way S.kept.short };
 
     ghost contents = { λ f. refl };
 

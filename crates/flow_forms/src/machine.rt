@@ -88,7 +88,8 @@ impl<P: Numbered, S: Machine<P>, W> Frame<P, S, W> {
         requires fits { S.kept.within self.now.fields }
         requires small { IsResumed with.now }
         requires place { IsPlace here.now }
-        ensures { IfOk result (λ g. g ≡ next_at S.form self.now.at self.now.fields with.now here.entry.now) }
+        ensures { IfOk result (λ g. g ≡ next_at S.form self.now.at self.now.fields with.now
+            here.entry.now) }
     {
         let fields = self.fields.copy_fields(alloc)?;
         match self.at {
@@ -108,7 +109,8 @@ impl<P: Numbered, S: Machine<P>, W> Frame<P, S, W> {
         requires fits { S.kept.within self.now.fields }
         requires small { IsResumed with.now }
         requires place { IsPlace here.now }
-        ensures { IfOk result (λ g. g ≡ frame (next_at S.form self.now.at self.now.fields with.now here.entry.now)) }
+        ensures { IfOk result (λ g. g ≡ frame
+            (next_at S.form self.now.at self.now.fields with.now here.entry.now)) }
     {
         Ok(self.goes(alloc, with, here)?.settle())
     }

@@ -53,7 +53,8 @@ fn standing<P: Numbered, W: Callable>(n: u8) -> Option<At<P>>
 /// Reads the byte of a place.
 #[tactic(auto, unfolding(crate::specs::Bytes::place_at))]
 pub(crate) fn read_place<P: Numbered, W: Callable>(from: &mut Reader) -> Result<At<P>, PartFault>
-    ensures { Gives (λ x. x) result from.old from.new (place_at (placed W.CALLABLE P.numbers) from.old.left) }
+    ensures { Gives (λ x. x) result from.old from.new
+        (place_at (placed W.CALLABLE P.numbers) from.old.left) }
 {
     let left = from.remaining();
     let n = read_u8(from)?;

@@ -35,13 +35,17 @@ impl<P: Numbered, S: Machine<P>, W: Begins<P, S>> Tabled for Frame<P, S, W> {
     ghost use Rattle.flow_forms.specs.Tables.{row_of};
     ghost use Rattle.flow_forms.specs.TableLaws.{put_one, take_one, one_row};
 
-    ghost table = { row_of S.MACHINE (placed W.CALLABLE P.numbers) S.kept.spelling S.form W.way ∷ [] };
+    ghost table = { row_of S.MACHINE (placed W.CALLABLE P.numbers) S.kept.spelling S.form W.way
+        ∷ [] };
 
-    ghost put = { put_one (row_of S.MACHINE (placed W.CALLABLE P.numbers) S.kept.spelling S.form W.way) };
+    ghost put = { put_one (row_of S.MACHINE
+        (placed W.CALLABLE P.numbers) S.kept.spelling S.form W.way) };
 
-    ghost take = { take_one (row_of S.MACHINE (placed W.CALLABLE P.numbers) S.kept.spelling S.form W.way) };
+    ghost take = { take_one (row_of S.MACHINE
+        (placed W.CALLABLE P.numbers) S.kept.spelling S.form W.way) };
 
-    ghost tabled = { one_row (row_of S.MACHINE (placed W.CALLABLE P.numbers) S.kept.spelling S.form W.way) };
+    ghost tabled = { one_row (row_of S.MACHINE
+        (placed W.CALLABLE P.numbers) S.kept.spelling S.form W.way) };
 }
 
 impl<A: Tabled, B: Tabled> Tabled for Sum<A, B> {

@@ -32,7 +32,8 @@ fn read_frames<F: Spelt>(
     from: &mut Reader,
     count: u8,
 ) -> Result<Vec<Arc<F>>, PartFault>
-    ensures given { Gives (λ x. frames_in x.items) result from.old from.new (items_at F.reading count from.old.left) }
+    ensures given { Gives (λ x. frames_in x.items) result from.old from.new
+        (items_at F.reading count from.old.left) }
     ensures few { IfOk result (λ x. length x.items ≤ count) }
 {
     let mut frames = Vec::with_capacity(alloc, count as usize)?;
@@ -136,7 +137,8 @@ impl<F: Spelt> Checkpoint<F> {
     /// `Malformed` with the reader's place exactly where no spelling begins there, and `Memory`. The reader
     /// then stays where it was.
     pub fn decode(alloc: Global, from: &mut Reader) -> Result<Checkpoint<F>, DecodeFault>
-        ensures { Decodes (IsCheckpoint F.within) (checkpoint_text F.spelling) result from.old from.new }
+        ensures { Decodes (IsCheckpoint F.within)
+            (checkpoint_text F.spelling) result from.old from.new }
     {
         decode(alloc, from)
     }
@@ -147,5 +149,6 @@ impl<F: Spelt> Checkpoint<F> {
 /// checkpoints. It does nothing when it runs; its contract is the law.
 pub fn same_bytes<F: Spelt>()
     ensures { (see : F → FrameBytes) → SameBytes F.within F.spelling IsFrameBytes frame_bytes see
-        → SameBytes (IsCheckpoint F.within) (checkpoint_text F.spelling) (IsCheckpoint IsFrameBytes) (checkpoint_text frame_bytes) (checkpoint_with see) }
+        → SameBytes (IsCheckpoint F.within) (checkpoint_text F.spelling) (IsCheckpoint IsFrameBytes)
+        (checkpoint_text frame_bytes) (checkpoint_with see) }
 {}

@@ -72,7 +72,8 @@ pub trait FlowSet: Spelt + Drop {
     ///
     /// `UnknownClass` and `BadArgs` exactly where `machine.worded` says so, `Memory` for want of memory.
     fn read_words(alloc: Global, class: &str, args: &[String]) -> Result<(u16, ByteList), WordFault>
-        ensures { GivesWords result (machine.worded class.now (map (λ s. string_bytes s) args.now)) };
+        ensures { GivesWords result (machine.worded class.now
+            (map (λ s. string_bytes s) args.now)) };
 
     /// The frame and the act with which a flow of the class begins.
     ///

@@ -24,7 +24,10 @@ impl<F> Model for Stack<F> {
 
     ghost Value = { Frames F };
 
-    ghost view = { λ s. record { top = arc_value s.top; below = reverse (frames_in s.below.items) } };
+    ghost view = { λ s. record {
+      top = arc_value s.top;
+      below = reverse (frames_in s.below.items);
+    } };
 
     ghost invariant = { λ s. length s.below.items ≤ 7 };
 }
@@ -47,7 +50,8 @@ impl<F> Stack<F> {
 
     /// The frame that waits for the top one to return, `None` where the top one is the only one.
     pub fn caller(&self) -> Option<&F>
-        ensures { MatchOption result (self.now.below ≡ []) (λ frame. self.now.below ≡ frame.now ∷ drop 1 self.now.below) }
+        ensures { MatchOption result (self.now.below ≡ [])
+            (λ frame. self.now.below ≡ frame.now ∷ drop 1 self.now.below) }
     {
         match self.below.last() {
             Some(frame) => Some(&**frame),
@@ -103,7 +107,8 @@ impl<F: Drop> Stack<F> {
     /// `AllocError` for want of memory.
     pub fn with_callee(&self, alloc: Global, top: F) -> Result<Stack<F>, AllocError>
         requires { length self.now.below < 7 }
-        ensures { IfOk result (λ stack. stack ≡ record { top = top; below = self.now.top ∷ self.now.below }) }
+        ensures { IfOk result (λ stack. stack
+            ≡ record { top = top; below = self.now.top ∷ self.now.below }) }
     {
         let top = Arc::new(alloc, top)?;
         let mut below = shared(alloc, self.below.as_slice())?;
@@ -118,7 +123,8 @@ impl<F: Drop> Stack<F> {
     /// `AllocError` for want of memory.
     pub fn with_caller(&self, alloc: Global, caller: F) -> Result<Stack<F>, AllocError>
         requires { 0 < length self.now.below }
-        ensures { IfOk result (λ stack. stack ≡ record { top = caller; below = drop 1 self.now.below }) }
+        ensures { IfOk result (λ stack. stack
+            ≡ record { top = caller; below = drop 1 self.now.below }) }
     {
         let top = Arc::new(alloc, caller)?;
         let below = shared(alloc, &self.below[..self.below.len() - 1])?;

@@ -45,7 +45,8 @@ fn flow_after<F: Spelt + Drop>(
 ) -> Result<Option<(u32, FlowState<F>)>, AllocError>
     requires { IsFlowPart part }
     ensures tells { IfOk result (TellsFlow F.within (flow_part F.reading part)) }
-    ensures own { IfOk result (λ r. IfSome r (λ s. (s.0 ≡ part_flow part) × (is_over s.1 ≡ part_over part))) }
+    ensures own { IfOk result (λ r. IfSome r
+        (λ s. (s.0 ≡ part_flow part) × (is_over s.1 ≡ part_over part))) }
 {
     match part {
         FlowPart::Absent => Ok(None),
@@ -97,7 +98,8 @@ fn part_told<F: Spelt + Drop>(
 ) -> Result<Option<Option<FlowAfter<F>>>, AllocError>
     requires { IsFlowPart part }
     ensures tells { IfOk result (TellsAfter F.within (flow_part F.reading part)) }
-    ensures own { IfOk result (λ r. IfSome r (λ flow. (owner_of flow ≡ part_flow part) × (ends_with flow ≡ part_over part))) }
+    ensures own { IfOk result (λ r. IfSome r
+        (λ flow. (owner_of flow ≡ part_flow part) × (ends_with flow ≡ part_over part))) }
 {
     let absent = is_absent(&part);
     let told = flow_after(alloc, part)?;
@@ -159,7 +161,8 @@ pub fn read_step<F: Spelt + Drop>(
     bytes: &[u8],
 ) -> Result<Option<Step<F>>, AllocError>
     ensures tells { IfOk result (TellsStep F.within (record_of F.reading bytes.now)) }
-    ensures few { IfOk result (λ r. IfSome r (λ step. length (session_text step.session) ≤ length bytes.now)) }
+    ensures few { IfOk result (λ r. IfSome r
+        (λ step. length (session_text step.session) ≤ length bytes.now)) }
 {
     match decode_record(alloc, bytes) {
         Ok((cause, effect)) => step_of(alloc, cause, effect),

@@ -131,10 +131,12 @@ fn part_after<F: FlowSet>(
 pub fn spell_step<F: FlowSet>(alloc: Global, step: &Step<F>) -> Result<ByteList, AllocError>
     requires cause { IsCause step.now.cause }
     requires flow { IfSome step.now.flow (IsAfter F.within) }
-    requires session { IsSession (owner_of step.now.flow) (came_key_of step.now.cause.event) step.now.session }
+    requires session { IsSession (owner_of step.now.flow)
+        (came_key_of step.now.cause.event) step.now.session }
     requires ledger { IsLedger (owner_of step.now.flow) (ends_with step.now.flow) step.now.ledger }
     requires few { length (session_text step.now.session) ≤ 50000 }
-    ensures record { IfOk result (λ bytes. record_of F.reading bytes ≡ Some (step_record step.now)) }
+    ensures record { IfOk result (λ bytes. record_of F.reading bytes
+        ≡ Some (step_record step.now)) }
     ensures size { IfOk result (λ bytes. length bytes ≤ 524288) }
 {
     let part = part_after(alloc, &step.flow)?;

@@ -34,7 +34,9 @@ fn flow_for<F: FlowSet>(
     requires identity { IsIdentity identity.now }
     requires key { IsKey key.now }
     requires body { IsBody init.now }
-    ensures flow { IfOk result (λ flow. flow ≡ begun_for (environment (unjudged F.machine F.reading) identity.now) identity.now.party.0 now.0 number key.now init.now) }
+    ensures flow { IfOk result (λ flow. flow
+        ≡ begun_for (environment (unjudged F.machine F.reading) identity.now)
+        identity.now.party.0 now.0 number key.now init.now) }
     ensures within { IfOk result (λ flow. IfSome flow (IsAfter F.within)) }
 {
     let Body::Init { class, .. } = init else {
@@ -59,7 +61,12 @@ fn whole<F>(
     flow: Option<FlowAfter<F>>,
     session: SessionChange,
 ) -> Step<F>
-    ensures { result ≡ record { cause = cause; flow = flow; session = session; ledger = no_ledger (owner_of flow) (ends_with flow) } }
+    ensures { result ≡ record {
+      cause = cause;
+      flow = flow;
+      session = session;
+      ledger = no_ledger (owner_of flow) (ends_with flow);
+    } }
 {
     let ledger = unchanged_ledger(alloc, &flow);
     Step {
@@ -86,8 +93,12 @@ pub fn answer_init<F: FlowSet>(
     requires key { IsKey key }
     requires body { IsBody init }
     requires init { is_init init ≡ true }
-    ensures cause { IfOk result (λ step. step.cause ≡ record { stamp = stamp; moment = now; event = event.Answer key }) }
-    ensures ready { IfOk result (λ step. (s : NodeState F) → length s.flows ≡ number → is_new_key identity.now.nodes identity.now.party s.sessions key ≡ true → IsReady (environment (unjudged F.machine F.reading) identity.now) identity.now.party.0 now.0 F.within s (Some init) step) }
+    ensures cause { IfOk result (λ step. step.cause
+        ≡ record { stamp = stamp; moment = now; event = event.Answer key }) }
+    ensures ready { IfOk result (λ step. (s : NodeState F) → length s.flows ≡ number
+        → is_new_key identity.now.nodes identity.now.party s.sessions key ≡ true
+        → IsReady (environment (unjudged F.machine F.reading) identity.now) identity.now.party.0
+        now.0 F.within s (Some init) step) }
 {
     let cause = Cause {
         stamp,
@@ -121,8 +132,16 @@ pub fn arrive_item<F: FlowSet>(
 ) -> Step<F>
     requires key { IsKey key }
     requires body { IsBody body }
-    ensures cause { result.cause ≡ record { stamp = stamp; moment = now; event = event.Arrive key direction number } }
-    ensures ready { (id : Id) (at : ℕ) (s : NodeState F) (session : Session) → session_of key s.sessions ≡ Some session → is_next id.party key direction number body session ≡ true → IsReady (environment (unjudged F.machine F.reading) id) id.party.0 at F.within s (Some body) result }
+    ensures cause { result.cause ≡ record {
+      stamp = stamp;
+      moment = now;
+      event = event.Arrive key direction number;
+    } }
+    ensures ready { (id : Id) (at : ℕ) (s : NodeState F) (session : Session)
+        → session_of key s.sessions ≡ Some session
+        → is_next id.party key direction number body session ≡ true
+        → IsReady (environment (unjudged F.machine F.reading) id) id.party.0 at F.within s
+        (Some body) result }
 {
     let cause = Cause {
         stamp,

@@ -36,8 +36,10 @@ fn take_item(
     flow: u32,
     key: &Key,
 ) -> Result<Performed, AllocError>
-    ensures done { IfOk result (λ p. done_of p ≡ takes_or_lapses (owned flow key.now sessions.now.list)) }
-    ensures within { IsKey key.now → AreKept sessions.now.party sessions.now.list → IfOk result (λ p. IsDone flow p) }
+    ensures done { IfOk result (λ p. done_of p
+        ≡ takes_or_lapses (owned flow key.now sessions.now.list)) }
+    ensures within { IsKey key.now → AreKept sessions.now.party sessions.now.list
+        → IfOk result (λ p. IsDone flow p) }
 {
     let found = receive(alloc, sessions, flow, key)?;
     match found {
@@ -68,7 +70,9 @@ fn push<F: FlowSet>(
     requires limits { IsCheckpoint F.within at.now }
     requires identity { IsIdentity identity.now }
     requires frame { F.within frame.now }
-    ensures becomes { IfOk result (λ step. Becomes F.within (pushes (environment (unjudged F.machine F.reading) identity.now) identity.now.party.0 cause.moment.0 at.now frame.now) step) }
+    ensures becomes { IfOk result (λ step.
+        Becomes F.within (pushes (environment (unjudged F.machine F.reading) identity.now)
+        identity.now.party.0 cause.moment.0 at.now frame.now) step) }
     ensures cause { IfOk result (λ step. step.cause ≡ cause) }
 {
     cause.moment.known();
@@ -92,7 +96,9 @@ fn end<F: FlowSet>(
     requires limits { IsAfter F.within (record { number = at.now.flow; state = state }) }
     requires last { IsBody last.now }
     requires bare { carries_value last.now ≡ false }
-    ensures becomes { IfOk result (λ step. Becomes F.within (over identity.now.party.0 sessions.now.list at.now state last.now) step) }
+    ensures becomes { IfOk result (λ step.
+        Becomes F.within (over identity.now.party.0 sessions.now.list at.now state last.now)
+        step) }
     ensures cause { IfOk result (λ step. step.cause ≡ cause) }
 {
     match end_sessions(alloc, identity, sessions, at.flow, last) {
@@ -119,7 +125,9 @@ fn give_back<F: FlowSet>(
     requires party { sessions.now.party ≡ identity.now.party }
     requires kept { AreKept identity.now.party sessions.now.list }
     requires value { IsValue value.now }
-    ensures becomes { IfOk result (λ step. (s : NodeState F) → s.sessions ≡ sessions.now.list → Becomes F.within (returns (environment (unjudged F.machine F.reading) identity.now) identity.now.party.0 s cause.moment.0 at.now value.now at.now.stack.below) step) }
+    ensures becomes { IfOk result (λ step. (s : NodeState F) → s.sessions ≡ sessions.now.list
+        → Becomes F.within (returns (environment (unjudged F.machine F.reading) identity.now)
+        identity.now.party.0 s cause.moment.0 at.now value.now at.now.stack.below) step) }
     ensures cause { IfOk result (λ step. step.cause ≡ cause) }
 {
     cause.moment.known();
@@ -147,7 +155,8 @@ fn fail<F: FlowSet>(
     requires limits { IsCheckpoint F.within at.now }
     requires party { sessions.now.party ≡ identity.now.party }
     requires kept { AreKept identity.now.party sessions.now.list }
-    ensures becomes { IfOk result (λ step. (s : NodeState F) → s.sessions ≡ sessions.now.list → Becomes F.within (fails identity.now.party.0 s at.now code) step) }
+    ensures becomes { IfOk result (λ step. (s : NodeState F) → s.sessions ≡ sessions.now.list
+        → Becomes F.within (fails identity.now.party.0 s at.now code) step) }
     ensures cause { IfOk result (λ step. step.cause ≡ cause) }
 {
     let state = FlowState::Failed {
@@ -178,7 +187,11 @@ fn open_session<F: FlowSet>(
     requires party { sessions.now.party ≡ identity.now.party }
     requires kept { AreKept identity.now.party sessions.now.list }
     requires first { IsValue first.now }
-    ensures becomes { IfOk result (λ step. Becomes F.within (goes_on (environment (unjudged F.machine F.reading) identity.now) identity.now.party.0 cause.moment.0 at.now (opens identity.now.nodes identity.now.party.0 sessions.now.list at.now.flow to class first.now)) step) }
+    ensures becomes { IfOk result (λ step.
+        Becomes F.within (goes_on (environment (unjudged F.machine F.reading) identity.now)
+        identity.now.party.0 cause.moment.0 at.now
+        (opens identity.now.nodes identity.now.party.0 sessions.now.list at.now.flow to class
+        first.now)) step) }
     ensures cause { IfOk result (λ step. step.cause ≡ cause) }
 {
     let done = open(alloc, identity, sessions, at.flow, to, class, first)?;
@@ -202,7 +215,11 @@ fn send_item<F: FlowSet>(
     requires kept { AreKept identity.now.party sessions.now.list }
     requires key { IsKey key.now }
     requires value { IsValue value.now }
-    ensures becomes { IfOk result (λ step. Becomes F.within (goes_on (environment (unjudged F.machine F.reading) identity.now) identity.now.party.0 cause.moment.0 at.now (sends identity.now.party.0 value.now (owned at.now.flow key.now sessions.now.list))) step) }
+    ensures becomes { IfOk result (λ step.
+        Becomes F.within (goes_on (environment (unjudged F.machine F.reading) identity.now)
+        identity.now.party.0 cause.moment.0 at.now
+        (sends identity.now.party.0 value.now (owned at.now.flow key.now sessions.now.list)))
+        step) }
     ensures cause { IfOk result (λ step. step.cause ≡ cause) }
 {
     let done = send(alloc, identity, sessions, at.flow, key, value)?;
@@ -224,7 +241,10 @@ fn receive_item<F: FlowSet>(
     requires party { sessions.now.party ≡ identity.now.party }
     requires kept { AreKept identity.now.party sessions.now.list }
     requires key { IsKey key.now }
-    ensures becomes { IfOk result (λ step. Becomes F.within (goes_on (environment (unjudged F.machine F.reading) identity.now) identity.now.party.0 cause.moment.0 at.now (takes_or_lapses (owned at.now.flow key.now sessions.now.list))) step) }
+    ensures becomes { IfOk result (λ step.
+        Becomes F.within (goes_on (environment (unjudged F.machine F.reading) identity.now)
+        identity.now.party.0 cause.moment.0 at.now
+        (takes_or_lapses (owned at.now.flow key.now sessions.now.list))) step) }
     ensures cause { IfOk result (λ step. step.cause ≡ cause) }
 {
     let done = take_item(alloc, sessions, at.flow, key)?;
@@ -241,7 +261,9 @@ fn wake<F: FlowSet>(
     requires step { at.now.step < 2 ^ 32 - 1 }
     requires limits { IsCheckpoint F.within at.now }
     requires identity { IsIdentity identity.now }
-    ensures becomes { IfOk result (λ step. Becomes F.within (goes_on (environment (unjudged F.machine F.reading) identity.now) identity.now.party.0 cause.moment.0 at.now (Lapsed, nothing)) step) }
+    ensures becomes { IfOk result (λ step.
+        Becomes F.within (goes_on (environment (unjudged F.machine F.reading) identity.now)
+        identity.now.party.0 cause.moment.0 at.now (Lapsed, nothing)) step) }
     ensures cause { IfOk result (λ step. step.cause ≡ cause) }
 {
     go_on_told(alloc, identity, cause, at, lapse(alloc, at.flow))
@@ -262,7 +284,9 @@ pub(crate) fn perform<F: FlowSet>(
     requires party { sessions.now.party ≡ identity.now.party }
     requires kept { AreKept identity.now.party sessions.now.list }
     requires job { awaited identity.now ledger.now.store.list at.now ≡ None }
-    ensures performs { IfOk result (λ step. (judge : Judgement) → Performs (environment (meaning F.machine F.reading judge) identity.now) identity.now.party.0 cause.moment.0 F.within sessions.now.list ledger.now at.now step) }
+    ensures performs { IfOk result (λ step. (judge : Judgement)
+        → Performs (environment (meaning F.machine F.reading judge) identity.now)
+        identity.now.party.0 cause.moment.0 F.within sessions.now.list ledger.now at.now step) }
     ensures cause { IfOk result (λ step. step.cause ≡ cause) }
 {
     let outcome = match &at.waiting {

@@ -62,7 +62,8 @@ fn first_from<F: Drop>(
     idle: u32,
 ) -> Option<Event>
     requires { IdleBelow sessions.now.list now.0 flows.now.flows idle }
-    ensures { result ≡ first_of sessions.now.list now.0 flows.now.flows (live_numbers flows.now.flows) }
+    ensures { result ≡ first_of sessions.now.list now.0 flows.now.flows
+        (live_numbers flows.now.flows) }
 {
     let numbers = flows.live();
     let place = place_of(numbers, idle);
@@ -81,7 +82,8 @@ pub fn pick_event<F: Drop>(
     requires numbered { AreNumbered 0 flows.now.flows }
     requires idle { IdleBelow sessions.now.list now.0 flows.now.flows idle }
     ensures event { result ≡ picked sessions.now.list now.0 pick flows.now.flows }
-    ensures idle { pick ≡ None → IfSome result (λ e. IdleBelow sessions.now.list now.0 flows.now.flows (flow_in e)) }
+    ensures idle { pick ≡ None → IfSome result
+        (λ e. IdleBelow sessions.now.list now.0 flows.now.flows (flow_in e)) }
 {
     match pick {
         Some(number) => event_of(flows, sessions, now, number),

@@ -30,7 +30,8 @@ use std::alloc::{AllocError, Global};
 
 /// The checkpoint of the flow of the number, where it is live.
 pub(crate) fn live_at<F: Drop>(flows: &Flows<F>, number: u32) -> Option<&Checkpoint<F>>
-    ensures checkpoint { option_map (λ at. at.now) result ≡ option_and_then checkpoint_of (slice_get flows.now.flows number) }
+    ensures checkpoint { option_map (λ at. at.now) result
+        ≡ option_and_then checkpoint_of (slice_get flows.now.flows number) }
     ensures own { IfSome result (λ at. at.now.flow ≡ number) }
 {
     match flows.get(number) {
@@ -86,7 +87,9 @@ pub fn begin<F: FlowSet>(
     args: &ByteList,
 ) -> Result<Step<F>, MakeFault>
     requires { IsIdentity identity.now }
-    ensures { (s : NodeState F) → length s.flows ≡ number → IsBegun (environment (unjudged F.machine F.reading) identity.now) identity.now.party.0 stamp now F.within s class args.now result }
+    ensures { (s : NodeState F) → length s.flows ≡ number
+        → IsBegun (environment (unjudged F.machine F.reading) identity.now) identity.now.party.0
+        stamp now F.within s class args.now result }
 {
     let Ok(copy) = args.copy(alloc) else {
         return Err(MakeFault::Memory);
@@ -122,7 +125,8 @@ pub fn advance<F: FlowSet>(
     cause: Cause,
 ) -> Result<Step<F>, AllocError>
     requires identity { IsIdentity identity.now }
-    requires picked { (pick : Option ℕ) × (picked sessions.now.list cause.moment.0 pick flows.now.flows ≡ Some cause.event) }
+    requires picked { (pick : Option ℕ)
+        × (picked sessions.now.list cause.moment.0 pick flows.now.flows ≡ Some cause.event) }
     requires job { job_of identity.now ledger.now.store.list flows.now.flows cause.event ≡ None }
     requires steps { AllByRecursion (λ flow. steps_of flow < 2 ^ 32 - 1) flows.now.flows }
     requires limits { AllByRecursion (IsFlow F.within) flows.now.flows }
@@ -130,7 +134,11 @@ pub fn advance<F: FlowSet>(
     requires party { sessions.now.party ≡ identity.now.party }
     requires kept { AreKept identity.now.party sessions.now.list }
     ensures cause { IfOk result (λ step. step.cause ≡ cause) }
-    ensures ready { IfOk result (λ step. (judge : Judgement) → (s : NodeState F) → s.flows ≡ flows.now.flows → s.sessions ≡ sessions.now.list → HoldsLedger identity.now.party (ledger_in s) ledger.now → IsReady (environment (meaning F.machine F.reading judge) identity.now) identity.now.party.0 cause.moment.0 F.within s None step) }
+    ensures ready { IfOk result (λ step. (judge : Judgement) → (s : NodeState F)
+        → s.flows ≡ flows.now.flows → s.sessions ≡ sessions.now.list
+        → HoldsLedger identity.now.party (ledger_in s) ledger.now
+        → IsReady (environment (meaning F.machine F.reading judge) identity.now)
+        identity.now.party.0 cause.moment.0 F.within s None step) }
 {
     let Some(at) = live_at(flows, flow_in(&cause.event)) else {
         unreachable!();

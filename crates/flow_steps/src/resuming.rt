@@ -22,7 +22,14 @@ pub(crate) fn let_go<T: Drop>(value: T) {
 
 /// Where and when a flow of a node is made or resumed.
 pub(crate) fn place_of(identity: &Identity, flow: u32, step: u32, now: Moment) -> Place
-    ensures { result ≡ record { me = identity.now.party; notary = identity.now.notary; nodes = identity.now.nodes; flow = flow; step = step; now = now } }
+    ensures { result ≡ record {
+      me = identity.now.party;
+      notary = identity.now.notary;
+      nodes = identity.now.nodes;
+      flow = flow;
+      step = step;
+      now = now;
+    } }
 {
     Place {
         me: identity.party,
@@ -48,7 +55,10 @@ fn resumed<F: FlowSet>(
     requires limits { IsCheckpoint F.within at.now }
     requires frame { F.within frame.now }
     requires with { IsResumed with.now }
-    ensures { IfOk result (λ made. made ≡ F.machine.next frame.now with.now (place (environment (unjudged F.machine F.reading) identity.now) identity.now.party.0 at.now.flow at.now.step now.0)) }
+    ensures { IfOk result (λ made. made
+        ≡ F.machine.next frame.now with.now
+        (place (environment (unjudged F.machine F.reading) identity.now) identity.now.party.0
+        at.now.flow at.now.step now.0)) }
 {
     now.known();
     let here = place_of(identity, at.flow, at.step, now);
@@ -62,7 +72,8 @@ fn next_of<F: FlowSet>(
     stack: Result<Stack<F>, AllocError>,
 ) -> Result<FlowState<F>, AllocError>
     requires { at.now.step < 2 ^ 32 - 1 }
-    ensures { (frames : Frames F) → IfOk stack (λ is. is ≡ frames) → IfOk result (λ flow. flow ≡ next_state at.now waiting frames) }
+    ensures { (frames : Frames F) → IfOk stack (λ is. is ≡ frames)
+        → IfOk result (λ flow. flow ≡ next_state at.now waiting frames) }
 {
     match stack {
         Ok(stack) => Ok(FlowState::Live(Checkpoint {
@@ -91,7 +102,9 @@ pub(crate) fn resume<F: FlowSet>(
     requires identity { IsIdentity identity.now }
     requires limits { IsCheckpoint F.within at.now }
     requires with { IsResumed with.now }
-    ensures { IfOk result (λ flow. flow ≡ gone_on (environment (unjudged F.machine F.reading) identity.now) identity.now.party.0 now.0 at.now at.now.stack.top at.now.stack.below with.now) }
+    ensures { IfOk result (λ flow. flow
+        ≡ gone_on (environment (unjudged F.machine F.reading) identity.now) identity.now.party.0
+        now.0 at.now at.now.stack.top at.now.stack.below with.now) }
 {
     let (top, waiting) = resumed(alloc, identity, now, at, at.stack.top(), with)?;
     next_of(at, waiting, at.stack.with_top(alloc, top))
@@ -109,7 +122,9 @@ pub(crate) fn call<F: FlowSet>(
     requires identity { IsIdentity identity.now }
     requires limits { IsCheckpoint F.within at.now }
     requires frame { F.within frame.now }
-    ensures { IfOk result (λ flow. flow ≡ called (environment (unjudged F.machine F.reading) identity.now) identity.now.party.0 now.0 at.now frame.now) }
+    ensures { IfOk result (λ flow. flow
+        ≡ called (environment (unjudged F.machine F.reading) identity.now) identity.now.party.0
+        now.0 at.now frame.now) }
 {
     if at.stack.depth() == 8 {
         return resume(alloc, identity, now, at, &Resumed::Refused { code: 49 });
@@ -130,7 +145,9 @@ pub(crate) fn hand_down<F: FlowSet>(
     requires identity { IsIdentity identity.now }
     requires limits { IsCheckpoint F.within at.now }
     requires value { IsValue value.now }
-    ensures { IfOk result (λ flow. flow ≡ returned (environment (unjudged F.machine F.reading) identity.now) identity.now.party.0 now.0 at.now value.now at.now.stack.below) }
+    ensures { IfOk result (λ flow. flow
+        ≡ returned (environment (unjudged F.machine F.reading) identity.now)
+        identity.now.party.0 now.0 at.now value.now at.now.stack.below) }
 {
     let Some(caller) = at.stack.caller() else {
         return Ok(FlowState::Ended {

@@ -34,7 +34,8 @@ pub fn awaits_job<F: FlowSet>(
     event: &Event,
 ) -> bool
     requires { AllByRecursion (IsFlow F.within) flows.now.flows }
-    ensures { result ≡ is_some (job_of identity.now ledger.now.store.list flows.now.flows event.now) }
+    ensures { result ≡ is_some (job_of identity.now ledger.now.store.list flows.now.flows
+        event.now) }
 {
     match live_at(flows, flow_in(event)) {
         Some(at) => needs_job(identity, ledger.store(), at),
@@ -53,7 +54,8 @@ pub fn take_job<F: FlowSet>(
     event: &Event,
 ) -> Result<Option<Job>, AllocError>
     requires { AllByRecursion (IsFlow F.within) flows.now.flows }
-    ensures job { IfOk result (λ job. job ≡ job_of identity.now ledger.now.store.list flows.now.flows event.now) }
+    ensures job { IfOk result (λ job. job
+        ≡ job_of identity.now ledger.now.store.list flows.now.flows event.now) }
     ensures limits { IfOk result (λ job. IfSome job IsJob) }
 {
     match live_at(flows, flow_in(event)) {
@@ -73,11 +75,16 @@ pub fn settle<F: FlowSet>(
 ) -> Result<Step<F>, AllocError>
     requires identity { IsIdentity identity.now }
     requires moves { cause.event ≡ Move done.job.flow }
-    requires waits { (store : List (Hash32 × SignedTx)) × (job_of identity.now store flows.now.flows cause.event ≡ Some done.job) }
+    requires waits { (store : List (Hash32 × SignedTx))
+        × (job_of identity.now store flows.now.flows cause.event ≡ Some done.job) }
     requires steps { AllByRecursion (λ flow. steps_of flow < 2 ^ 32 - 1) flows.now.flows }
     requires limits { AllByRecursion (IsFlow F.within) flows.now.flows }
     ensures cause { IfOk result (λ step. step.cause ≡ cause) }
-    ensures ready { IfOk result (λ step. (judge : Judgement) → IsRun judge keyed_mark done → (s : NodeState F) → s.flows ≡ flows.now.flows → job_of identity.now (with_ids s.stored) s.flows cause.event ≡ Some done.job → IsReady (environment (meaning F.machine F.reading judge) identity.now) identity.now.party.0 cause.moment.0 F.within s None step) }
+    ensures ready { IfOk result (λ step. (judge : Judgement) → IsRun judge keyed_mark done
+        → (s : NodeState F) → s.flows ≡ flows.now.flows
+        → job_of identity.now (with_ids s.stored) s.flows cause.event ≡ Some done.job
+        → IsReady (environment (meaning F.machine F.reading judge) identity.now)
+        identity.now.party.0 cause.moment.0 F.within s None step) }
 {
     let Some(at) = live_at(flows, flow_in(&cause.event)) else {
         unreachable!();

@@ -52,7 +52,8 @@ fn step_with<F>(
     session: SessionChange,
     ledger: LedgerChange,
 ) -> Result<Step<F>, AllocError>
-    ensures { (new : StateOf F) → IfOk state (λ is. is ≡ new) → IfOk result (λ step. step ≡ changed_by cause number new session ledger) }
+    ensures { (new : StateOf F) → IfOk state (λ is. is ≡ new)
+        → IfOk result (λ step. step ≡ changed_by cause number new session ledger) }
 {
     match state {
         Ok(state) => Ok(Step {
@@ -86,7 +87,9 @@ fn go_on<F: FlowSet>(
     requires session { IsSession at.now.flow None session }
     requires short { length (session_text session) ≤ 50000 }
     requires ledger { IsLedger at.now.flow false ledger }
-    ensures becomes { IfOk result (Becomes F.within (goes_on (environment (unjudged F.machine F.reading) identity.now) identity.now.party.0 cause.moment.0 at.now (with, whole_part session ledger))) }
+    ensures becomes { IfOk result (Becomes F.within
+        (goes_on (environment (unjudged F.machine F.reading) identity.now) identity.now.party.0
+        cause.moment.0 at.now (with, whole_part session ledger))) }
     ensures cause { IfOk result (λ step. step.cause ≡ cause) }
 {
     cause.moment.known();
@@ -107,7 +110,9 @@ pub(crate) fn go_on_told<F: FlowSet>(
     requires limits { IsCheckpoint F.within at.now }
     requires identity { IsIdentity identity.now }
     requires done { IsDone at.now.flow done }
-    ensures becomes { IfOk result (Becomes F.within (goes_on (environment (unjudged F.machine F.reading) identity.now) identity.now.party.0 cause.moment.0 at.now (spoken_of done))) }
+    ensures becomes { IfOk result (Becomes F.within
+        (goes_on (environment (unjudged F.machine F.reading) identity.now) identity.now.party.0
+        cause.moment.0 at.now (spoken_of done))) }
     ensures cause { IfOk result (λ step. step.cause ≡ cause) }
 {
     let Performed { with, change } = done;
@@ -127,7 +132,10 @@ pub(crate) fn go_on_by<F: FlowSet>(
     requires limits { IsCheckpoint F.within at.now }
     requires identity { IsIdentity identity.now }
     requires outcome { IfOk outcome (IsOutcome at.now.flow) }
-    ensures becomes { (meant : Done) → IfOk outcome (λ p. done_of p ≡ meant) → IfOk result (Becomes F.within (goes_on (environment (unjudged F.machine F.reading) identity.now) identity.now.party.0 cause.moment.0 at.now meant)) }
+    ensures becomes { (meant : Done) → IfOk outcome (λ p. done_of p ≡ meant)
+        → IfOk result (Becomes F.within (goes_on
+        (environment (unjudged F.machine F.reading) identity.now) identity.now.party.0
+        cause.moment.0 at.now meant)) }
     ensures cause { IfOk result (λ step. step.cause ≡ cause) }
 {
     match outcome {

@@ -154,7 +154,8 @@ fn entry_of(
 ) -> Result<Entry, AllocError>
     requires { seen ≡ visible_of request.now.torn }
     ensures entry { IfOk result (λ e. e ≡ entry_of request.now answer.now) }
-    ensures limits { IsRequest request.now → IfSome seen IsVisible → IsNotaryAnswer answer.now → IfOk result IsEntry }
+    ensures limits { IsRequest request.now → IfSome seen IsVisible → IsNotaryAnswer answer.now
+        → IfOk result IsEntry }
 {
     Ok(Entry {
         request: request.copy(alloc)?,
@@ -171,8 +172,11 @@ fn booked_of(
     decision: &Decision,
 ) -> Result<Option<Boxed<Entry>>, AllocError>
     requires { seen ≡ visible_of request.now.torn }
-    ensures entry { IfOk result (λ e. e ≡ (if decision.now.fresh then Some (entry_of request.now decision.now.answer) else None)) }
-    ensures limits { IsRequest request.now → IfSome seen IsVisible → IsNotaryAnswer decision.now.answer → IfOk result (λ e. IfSome e IsEntry) }
+    ensures entry { IfOk result (λ e. e
+        ≡ (if decision.now.fresh then Some (entry_of request.now decision.now.answer)
+        else None)) }
+    ensures limits { IsRequest request.now → IfSome seen IsVisible
+        → IsNotaryAnswer decision.now.answer → IfOk result (λ e. IfSome e IsEntry) }
 {
     if decision.fresh {
         let entry = entry_of(alloc, request, seen, &decision.answer)?;
@@ -194,7 +198,8 @@ pub fn notarise(
     request: &Request,
 ) -> Result<LedgerOutcome, AllocError>
     ensures done { IfOk result (Does ledger.now (notarising identity.now now request.now)) }
-    ensures limits { IsIdentity identity.now → IsRequest request.now → IfOk result (IsOutcome flow) }
+    ensures limits { IsIdentity identity.now → IsRequest request.now
+        → IfOk result (IsOutcome flow) }
 {
     let seen = seen_in(alloc, request)?;
     let decision = ledger

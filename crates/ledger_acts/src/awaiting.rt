@@ -48,7 +48,8 @@ fn is_open(identity: &Identity, store: &Store, tx: &WireTx) -> bool
 /// Whether recording a transaction waits for a job.
 fn records_by_job(identity: &Identity, store: &Store, tx: &WireTx) -> bool
     requires { IsTx tx.now }
-    ensures { result ≡ (is_open identity.now store.now.list tx.now && is_some (resolved_of store.now.list tx.now)) }
+    ensures { result ≡ (is_open identity.now store.now.list tx.now
+        && is_some (resolved_of store.now.list tx.now)) }
 {
     is_open(identity, store, tx) && store.has_states(tx)
 }
@@ -131,7 +132,8 @@ fn tx_job(
     tx: &WireTx,
     tags: Option<TagList>,
 ) -> Result<Option<Job>, AllocError>
-    ensures job { IfOk result (λ job. job ≡ tx_job identity.now store.now.list flow step tx.now tags) }
+    ensures job { IfOk result (λ job. job
+        ≡ tx_job identity.now store.now.list flow step tx.now tags) }
     ensures limits { IsTx tx.now → IfSome tags IsTagList → IfOk result (λ job. IfSome job IsJob) }
 {
     let Some(resolved) = states(alloc, store, tx)? else {
@@ -157,7 +159,8 @@ fn record_job(
     stx: &SignedTx,
 ) -> Result<Option<Job>, AllocError>
     requires { IsSignedTx stx.now }
-    ensures job { IfOk result (λ job. job ≡ record_job identity.now store.now.list flow step stx.now) }
+    ensures job { IfOk result (λ job. job
+        ≡ record_job identity.now store.now.list flow step stx.now) }
     ensures limits { IfOk result (λ job. IfSome job IsJob) }
 {
     if !is_open(identity, store, &stx.tx) {
@@ -209,7 +212,8 @@ fn is_tx_job(
     tags: Option<&TagList>,
     job: &Job,
 ) -> bool
-    ensures { IsTrue result ↔ (tx_job identity.now store.now.list flow step tx.now (option_copied tags.entry) ≡ Some job.now) }
+    ensures { IsTrue result ↔ (tx_job identity.now store.now.list flow step tx.now
+        (option_copied tags.entry) ≡ Some job.now) }
 {
     (job.node == identity.party && (job.flow == flow && job.step == step))
         && (*tx.get() == *job.tx.get()
@@ -227,7 +231,8 @@ fn is_record_job(
     job: &Job,
 ) -> bool
     requires { IsTx stx.now.tx }
-    ensures { IsTrue result ↔ (record_job identity.now store.now.list flow step stx.now ≡ Some job.now) }
+    ensures { IsTrue result ↔ (record_job identity.now store.now.list flow step stx.now
+        ≡ Some job.now) }
 {
     is_open(identity, store, &stx.tx)
         && is_tx_job(identity, store, flow, step, &stx.tx, Some(&stx.tags), job)

@@ -42,7 +42,8 @@ fn recorded(
     tags: TagList,
     refusal: Option<u16>,
 ) -> Result<LedgerOutcome, AllocError>
-    ensures done { IfOk result (λ p. done_of p ≡ recorded_by (record { tx = tx; tags = tags }) refusal) }
+    ensures done { IfOk result (λ p. done_of p
+        ≡ recorded_by (record { tx = tx; tags = tags }) refusal) }
     ensures limits { IsTx tx → IsTagList tags → IfOk result (IsOutcome flow) }
 {
     match refusal {

@@ -22,8 +22,10 @@ pub fn each_state_has_one_consumer<F>()
 /// It rests on two laws that are asked of whoever hands in flows and contracts: no flow makes a tag up (`FlowSet`), and what is accepted
 /// names a notary where one has to sign (`Judge`).
 pub fn what_is_held_was_signed<F: FlowSet, J: Judge>()
-    ensures worlds { (contracts : J) → InWorlds (meaning F.machine F.reading (J.judges contracts)) (Made IsSignedInBook) }
-    ensures moments { (contracts : J) → OnWays (meaning F.machine F.reading (J.judges contracts)) (Made IsSignedInBook) }
+    ensures worlds { (contracts : J) → InWorlds (meaning F.machine F.reading (J.judges contracts))
+        (Made IsSignedInBook) }
+    ensures moments { (contracts : J) → OnWays (meaning F.machine F.reading (J.judges contracts))
+        (Made IsSignedInBook) }
 {}
 
 /// The law that each node recorded its transactions in order, each behind all that it depends on, so that the whole back-chain of each
@@ -40,6 +42,8 @@ pub fn back_chains_are_whole<F>()
 /// tear-off is hashed from over which its id was first signed. No two different ones of these byte lists share a digest, and no digest is all
 /// zeros or all ones.
 pub fn no_state_is_spent_twice<F: FlowSet, J: Judge>()
-    ensures worlds { (contracts : J) → InWorlds (meaning F.machine F.reading (J.judges contracts)) (Made HasNoneSpentTwice) }
-    ensures moments { (contracts : J) → OnWays (meaning F.machine F.reading (J.judges contracts)) (Made HasNoneSpentTwice) }
+    ensures worlds { (contracts : J) → InWorlds (meaning F.machine F.reading (J.judges contracts))
+        (Made HasNoneSpentTwice) }
+    ensures moments { (contracts : J) → OnWays (meaning F.machine F.reading (J.judges contracts))
+        (Made HasNoneSpentTwice) }
 {}

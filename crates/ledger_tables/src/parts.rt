@@ -29,7 +29,8 @@ pub fn is_new(store: &Store, id: &Hash32) -> bool
 /// Whether the references name coins once a transaction, where there is one, is recorded.
 fn are_coins(vault: &Vault, recorded: &Option<Boxed<SignedTx>>, refs: &[StateRef]) -> bool
     requires { IfSome recorded.now IsSignedTx }
-    ensures { result ≡ list_all (has_coin (held_with vault.now.party recorded.now vault.now.held)) refs.now }
+    ensures { result ≡ list_all (has_coin (held_with vault.now.party recorded.now vault.now.held))
+        refs.now }
 {
     match recorded {
         None => refs.iter().all(|r| vault.is_coin(r)),
@@ -116,7 +117,9 @@ pub fn record_next(store: &mut Store, vault: &mut Vault, recorded: Option<Boxed<
     ensures held { vault.new.held ≡ held_with vault.old.party recorded vault.old.held }
     ensures store_room { store.old.room ≤ store.new.room + length (recorded_in recorded) }
     ensures vault_room { vault.old.room ≤ vault.new.room + outputs_in recorded }
-    ensures vault { (locks : List Lock) → IsVault vault.old.party (untagged store.old.list) locks vault.old.held → IsVault vault.old.party (untagged store.new.list) locks vault.new.held }
+    ensures vault { (locks : List Lock)
+        → IsVault vault.old.party (untagged store.old.list) locks vault.old.held
+        → IsVault vault.old.party (untagged store.new.list) locks vault.new.held }
 {
     if let Some(stx) = recorded {
         let stx = stx.into_inner();
@@ -142,7 +145,9 @@ pub fn release_ended(vault: &mut Vault, flow: u32, ended: bool)
     ensures party { vault.new.party ≡ vault.old.party }
     ensures held { vault.new.held ≡ freed_at_end flow ended vault.old.held }
     ensures room { vault.old.room ≤ vault.new.room }
-    ensures vault { (recorded : List (Id × Recorded)) (locks : List Lock) → IsVault vault.old.party recorded locks vault.old.held → IsVault vault.old.party recorded (released_at_end flow ended locks) vault.new.held }
+    ensures vault { (recorded : List (Id × Recorded)) (locks : List Lock)
+        → IsVault vault.old.party recorded locks vault.old.held
+        → IsVault vault.old.party recorded (released_at_end flow ended locks) vault.new.held }
 {
     if ended {
         vault.release(flow);

@@ -40,7 +40,8 @@ impl Model for LedgerTables {
 
     ghost view = { λ t. record { store = t.store; vault = t.vault; book = t.book } };
 
-    ghost invariant = { λ t. HasVault t.vault.party (untagged t.store.list) t.vault.held × AllByRecursion IsEntry t.book.entries };
+    ghost invariant = { λ t. HasVault t.vault.party (untagged t.store.list) t.vault.held
+        × AllByRecursion IsEntry t.book.entries };
 }
 
 impl LedgerTables {
@@ -70,7 +71,8 @@ impl LedgerTables {
     /// these are is told by the changes (`apply`).
     pub fn vault(&self) -> &Vault
         ensures lent { result.now ≡ self.now.vault }
-        ensures over_store { HasVault self.now.vault.party (untagged self.now.store.list) self.now.vault.held }
+        ensures over_store { HasVault self.now.vault.party
+            (untagged self.now.store.list) self.now.vault.held }
         ensures once { has_repeat ref_eq (references_of self.now.vault.held) ≡ false }
     {
         holds_each_once();
@@ -105,7 +107,8 @@ impl LedgerTables {
     #[tactic(auto, unfolding(crate::specs::Ledgers::may_apply))]
     pub fn may_apply(&self, notary: Party, change: &LedgerChange) -> bool
         requires { IfSome change.now.recorded IsSignedTx }
-        ensures { result ≡ may_apply self.now.vault.party notary self.now.store.list self.now.vault.held self.now.book.entries change.now }
+        ensures { result ≡ may_apply self.now.vault.party notary self.now.store.list
+            self.now.vault.held self.now.book.entries change.now }
     {
         let LedgerChange {
             recorded,
@@ -124,9 +127,12 @@ impl LedgerTables {
         ensures party { self.new.vault.party ≡ self.old.vault.party }
         ensures held { self.new.vault.held ≡ self.old.vault.held }
         ensures book { self.new.book.entries ≡ self.old.book.entries }
-        ensures record_room { OnOk result (HasRecordRoom change.now.recorded self.new.store self.new.vault) }
+        ensures record_room { OnOk result (HasRecordRoom change.now.recorded self.new.store
+            self.new.vault) }
         ensures entry_room { OnOk result (HasEntryRoom change.now.booked self.new.book) }
-        ensures keeps { (self.old.store.room ≤ self.new.store.room) × (self.old.vault.room ≤ self.new.vault.room) × (self.old.book.room ≤ self.new.book.room) }
+        ensures keeps { (self.old.store.room ≤ self.new.store.room)
+            × (self.old.vault.room ≤ self.new.vault.room)
+            × (self.old.book.room ≤ self.new.book.room) }
     {
         make_record_room(alloc, &mut self.store, &mut self.vault, &change.recorded)?;
         make_entry_room(alloc, &mut self.book, &change.booked)
@@ -140,7 +146,8 @@ impl LedgerTables {
     pub fn apply(&mut self, notary: Party, change: LedgerChange)
         requires transaction { IfSome change.recorded IsSignedTx }
         requires entry { IfSome change.booked IsEntry }
-        requires fits { may_apply self.old.vault.party notary self.old.store.list self.old.vault.held self.old.book.entries change ≡ true }
+        requires fits { may_apply self.old.vault.party notary self.old.store.list
+            self.old.vault.held self.old.book.entries change ≡ true }
         requires few { HasPlace change.recorded self.old.store.list }
         requires record_room { HasRecordRoom change.recorded self.old.store self.old.vault }
         requires entry_room { HasEntryRoom change.booked self.old.book }

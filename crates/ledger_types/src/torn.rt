@@ -142,7 +142,8 @@ fn read_group_items(
     from: &mut Reader,
     count: u8,
 ) -> Result<Vec<TornGroup>, PartFault>
-    ensures { Gives (λ x. x.items) result from.old from.new (run_at group_step group_next count 96 from.old.left) }
+    ensures { Gives (λ x. x.items) result from.old from.new
+        (run_at group_step group_next count 96 from.old.left) }
 {
     let mut items = Vec::with_capacity(alloc, count as usize)?;
     let mut room = 96;

@@ -29,14 +29,17 @@ pub trait ByParty: Spelt {
 
     /// Reads a value whose party is from `low` up to below `high`.
     fn read_between(alloc: Global, from: &mut Reader, low: u8, high: u8) -> Result<Self, PartFault>
-        ensures given { Gives (λ x. x) result from.old from.new (reading_between low high from.old.left) }
+        ensures given { Gives (λ x. x) result from.old from.new
+            (reading_between low high from.old.left) }
         ensures below { IfOk result (λ v. party_of v < high) };
 
     /// A value within its limits has a party.
     ghost is_party: { (v : Self) → Self.within v → party_of v < 16 };
 
     /// The laws of the values whose party is from low up to below high.
-    ghost between: { (low high : ℕ) → low < high → high ≤ 16 → Laws (λ v. Self.within v × IsBetween low high (party_of v)) Self.spelling (reading_between low high) };
+    ghost between: { (low high : ℕ) → low < high → high ≤ 16
+        → Laws (λ v. Self.within v × IsBetween low high (party_of v)) Self.spelling
+        (reading_between low high) };
 }
 
 fn read_ascending_items<T: ByParty>(
@@ -45,7 +48,8 @@ fn read_ascending_items<T: ByParty>(
     count: u8,
 ) -> Result<Vec<T>, PartFault>
     requires { count ≤ 16 }
-    ensures { Gives (λ x. x.items) result from.old from.new (ascending_at T.party_of 16 T.reading_between count from.old.left) }
+    ensures { Gives (λ x. x.items) result from.old from.new
+        (ascending_at T.party_of 16 T.reading_between count from.old.left) }
 {
     let mut items = Vec::with_capacity(alloc, count as usize)?;
     let mut low = 0;
@@ -62,7 +66,8 @@ fn read_ascending_items<T: ByParty>(
 /// party that leaves too few parties for the values behind it.
 #[tactic(auto, unfolding(crate::specs::Runs::ascending8_at))]
 pub fn read_ascending<T: ByParty>(alloc: Global, from: &mut Reader) -> Result<ListOf<T>, PartFault>
-    ensures { Gives (λ x. x) result from.old from.new (ascending8_at T.party_of 16 T.reading_between from.old.left) }
+    ensures { Gives (λ x. x) result from.old from.new
+        (ascending8_at T.party_of 16 T.reading_between from.old.left) }
 {
     let count = read_below(from, 17)?;
     Ok(ListOf::from_vec(read_ascending_items(alloc, from, count)?))

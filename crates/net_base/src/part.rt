@@ -127,7 +127,8 @@ pub fn write_option<T: Spelt>(
 }
 
 fn read_items<T: Spelt>(alloc: Global, from: &mut Reader, count: u8) -> Result<Vec<T>, PartFault>
-    ensures given { Gives (λ x. x.items) result from.old from.new (items_at T.reading count from.old.left) }
+    ensures given { Gives (λ x. x.items) result from.old from.new
+        (items_at T.reading count from.old.left) }
     ensures few { IfOk result (λ x. length x.items ≤ count) }
 {
     let mut items = Vec::with_capacity(alloc, count as usize)?;
@@ -144,7 +145,8 @@ pub fn read_list<T: Spelt>(
     from: &mut Reader,
     limit: u8,
 ) -> Result<ListOf<T>, PartFault>
-    ensures given { Gives (λ x. x) result from.old from.new (list8_at limit T.reading from.old.left) }
+    ensures given { Gives (λ x. x) result from.old from.new
+        (list8_at limit T.reading from.old.left) }
     ensures few { IfOk result (λ l. length l ≤ limit) }
 {
     let count = read_up_to(from, limit)?;
@@ -160,7 +162,8 @@ pub fn read_list_between<T: Spelt>(
     limit: u8,
 ) -> Result<ListOf<T>, PartFault>
     requires { limit < 255 }
-    ensures { Gives (λ x. x) result from.old from.new (list8_between_at least limit T.reading from.old.left) }
+    ensures { Gives (λ x. x) result from.old from.new
+        (list8_between_at least limit T.reading from.old.left) }
 {
     let count = read_between(from, least, limit + 1)?;
     Ok(ListOf::from_vec(read_items(alloc, from, count)?))

@@ -81,7 +81,8 @@ fn has_bit(bits: u16, place: u8) -> bool
 
 /// The bits that are not among the others.
 fn without_bits(bits: u16, others: u16) -> u16
-    ensures { (p : ℕ) → (result / 2 ^ p % 2 == 1) ≡ ((bits / 2 ^ p % 2 == 1) && not (others / 2 ^ p % 2 == 1)) }
+    ensures { (p : ℕ) → (result / 2 ^ p % 2 == 1)
+        ≡ ((bits / 2 ^ p % 2 == 1) && not (others / 2 ^ p % 2 == 1)) }
 {
     bits & !others
 }
@@ -131,7 +132,8 @@ impl Component for PartySet {
 /// Reads as many parties, strictly ascending.
 fn read_members(from: &mut Reader, count: u8) -> Result<u16, PartFault>
     requires { count ≤ 16 }
-    ensures { Gives (λ x. x) result from.old from.new (mapped_at bits_of (ascending_at (λ p. p) 16 between_at count) from.old.left) }
+    ensures { Gives (λ x. x) result from.old from.new
+        (mapped_at bits_of (ascending_at (λ p. p) 16 between_at count) from.old.left) }
 {
     let mut bits: u16 = 0;
     let mut low: u8 = 0;

@@ -55,7 +55,8 @@ impl<'a> Reader<'a> {
     ///
     /// `Short` exactly where fewer than `n` bytes are left; so with every read.
     pub fn bytes(&mut self, n: usize) -> Result<&'a [u8], Short>
-        ensures { MatchResult result (λ v. Took n self.old self.new × (v.now ≡ take n self.old.left)) (λ e. IsShort n e.at self.old self.new) }
+        ensures { MatchResult result (λ v. Took n self.old self.new
+            × (v.now ≡ take n self.old.left)) (λ e. IsShort n e.at self.old self.new) }
     {
         if self.bytes.len() - self.place < n {
             return Err(Short { at: self.place });
@@ -68,7 +69,9 @@ impl<'a> Reader<'a> {
 
     /// The next byte.
     pub fn u8(&mut self) -> Result<u8, Short>
-        ensures { MatchResult result (λ v. Took 1 self.old self.new × (v ≡ slice_index (take 1 self.old.left) 0)) (λ e. IsShort 1 e.at self.old self.new) }
+        ensures { MatchResult result (λ v. Took 1 self.old self.new
+            × (v ≡ slice_index (take 1 self.old.left) 0))
+            (λ e. IsShort 1 e.at self.old self.new) }
     {
         let taken = self.bytes(1)?;
         Ok(taken[0])
@@ -76,7 +79,9 @@ impl<'a> Reader<'a> {
 
     /// The next 2 bytes, a big-endian number.
     pub fn u16(&mut self) -> Result<u16, Short>
-        ensures { MatchResult result (λ v. Took 2 self.old self.new × (v ≡ from_be_bytes w16 (take 2 self.old.left))) (λ e. IsShort 2 e.at self.old self.new) }
+        ensures { MatchResult result (λ v. Took 2 self.old self.new
+            × (v ≡ from_be_bytes w16 (take 2 self.old.left)))
+            (λ e. IsShort 2 e.at self.old self.new) }
     {
         let b = self.bytes(2)?;
         Ok(u16::from_be_bytes([b[0], b[1]]))
@@ -84,7 +89,9 @@ impl<'a> Reader<'a> {
 
     /// The next 4 bytes, a big-endian number.
     pub fn u32(&mut self) -> Result<u32, Short>
-        ensures { MatchResult result (λ v. Took 4 self.old self.new × (v ≡ from_be_bytes w32 (take 4 self.old.left))) (λ e. IsShort 4 e.at self.old self.new) }
+        ensures { MatchResult result (λ v. Took 4 self.old self.new
+            × (v ≡ from_be_bytes w32 (take 4 self.old.left)))
+            (λ e. IsShort 4 e.at self.old self.new) }
     {
         let b = self.bytes(4)?;
         Ok(u32::from_be_bytes([b[0], b[1], b[2], b[3]]))
@@ -92,7 +99,9 @@ impl<'a> Reader<'a> {
 
     /// The next 8 bytes, a big-endian number.
     pub fn u64(&mut self) -> Result<u64, Short>
-        ensures { MatchResult result (λ v. Took 8 self.old self.new × (v ≡ from_be_bytes w64 (take 8 self.old.left))) (λ e. IsShort 8 e.at self.old self.new) }
+        ensures { MatchResult result (λ v. Took 8 self.old self.new
+            × (v ≡ from_be_bytes w64 (take 8 self.old.left)))
+            (λ e. IsShort 8 e.at self.old self.new) }
     {
         let b = self.bytes(8)?;
         Ok(u64::from_be_bytes([b[0], b[1], b[2], b[3], b[4], b[5], b[6], b[7]]))
@@ -100,7 +109,8 @@ impl<'a> Reader<'a> {
 
     /// The next 32 bytes.
     pub fn hash(&mut self) -> Result<Hash32, Short>
-        ensures { MatchResult result (λ v. Took 32 self.old self.new × (v.0 ≡ take 32 self.old.left)) (λ e. IsShort 32 e.at self.old self.new) }
+        ensures { MatchResult result (λ v. Took 32 self.old self.new
+            × (v.0 ≡ take 32 self.old.left)) (λ e. IsShort 32 e.at self.old self.new) }
     {
         let b = self.bytes(32)?;
         let mut copy = [0; 32];
@@ -141,7 +151,8 @@ impl<'a> Reader<'a> {
     ///
     /// `Extra` with the place exactly where bytes are left.
     pub fn finish(&self) -> Result<(), Extra>
-        ensures { MatchResult result (λ _. self.now.left ≡ []) (λ e. (0 < length self.now.left) × (e.at ≡ self.now.place)) }
+        ensures { MatchResult result (λ _. self.now.left ≡ [])
+            (λ e. (0 < length self.now.left) × (e.at ≡ self.now.place)) }
     {
         if self.place < self.bytes.len() {
             return Err(Extra { at: self.place });

@@ -134,5 +134,6 @@ pub fn decode_if_spelt<T: Spelt>(alloc: Global, bytes: &[u8]) -> Result<Option<T
 /// No value's spelling begins another's of the same type: where two begin the same bytes, the values are
 /// the same and so is what stands behind them. It does nothing when it runs; its contract is the law.
 pub fn one_spelling<T: Spelt>()
-    ensures { (v w : T) (x y : List ℕ) → T.within v → T.within w → T.spelling v ++ x ≡ T.spelling w ++ y → (v ≡ w) × (x ≡ y) }
+    ensures { (v w : T) (x y : List ℕ) → T.within v → T.within w
+        → T.spelling v ++ x ≡ T.spelling w ++ y → (v ≡ w) × (x ≡ y) }
 {}

@@ -12,7 +12,8 @@ use crate::reader::Reader;
 /// A byte below the limit that isn't `other`.
 #[tactic(auto, unfolding(crate::specs::Tested::below_except_at))]
 pub fn read_below_except(from: &mut Reader, limit: u8, other: u8) -> Result<u8, PartFault>
-    ensures given { Gives (λ x. x) result from.old from.new (below_except_at limit other from.old.left) }
+    ensures given { Gives (λ x. x) result from.old from.new
+        (below_except_at limit other from.old.left) }
     ensures no_memory { TakesNoMemory result }
 {
     let left = from.remaining();

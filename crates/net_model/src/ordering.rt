@@ -67,7 +67,9 @@ fn add_until(
 ) -> Result<usize, AllocError>
     requires { from ≤ length causes.now }
     ensures place { IfOk result (λ place. place ≤ length causes.now) }
-    ensures added { IfOk result (λ place. (rest : List (ℕ × OfCause)) → all.new.items ++ (other, next.now) ∷ merged_with node (drop place causes.now) rest ≡ all.old.items ++ merged_with node (drop from causes.now) ((other, next.now) ∷ rest)) }
+    ensures added { IfOk result (λ place. (rest : List (ℕ × OfCause))
+        → all.new.items ++ (other, next.now) ∷ merged_with node (drop place causes.now) rest
+        ≡ all.old.items ++ merged_with node (drop from causes.now) ((other, next.now) ∷ rest)) }
 {
     let mut place = from;
     while place < causes.len() {

@@ -4,7 +4,7 @@ use Rattle.std.specs.List.{slice_get, AllByRecursion}
 use Rattle.std.proofs.lemmas.Bool.{cases_lt, true≢false}
 use Rattle.std.proofs.lemmas.Option.{same_Some, none-some, slice_get_within}
 use Rattle.std.proofs.lemmas.List.{length-map}
-use Rattle.outside.specs.Disk.{DiskView, IsImage}
+use Rattle.outside.specs.Disk.{DiskSeen, IsImage}
 use Rattle.net_base.specs.declared.names.Identity.{Identity}
 use Rattle.net_base.specs.declared.values.Party.{Party}
 use Rattle.net_base.proofs.Lists.{get_below, all_from_get, get_beside, get_map}
@@ -50,12 +50,12 @@ choose Q (a ∷ xs) (b ∷ bs) same one =
 
 -- ---- nodes over disks
 
-pub over_length : (nodes : ℕ) (notary : Party) (p : ℕ) (ds : List DiskView) → length (nodes_over nodes notary p ds) ≡ length ds
+pub over_length : (nodes : ℕ) (notary : Party) (p : ℕ) (ds : List DiskSeen) → length (nodes_over nodes notary p ds) ≡ length ds
 over_length nodes notary p [] = refl
 over_length nodes notary p (d ∷ ds) = ap suc (over_length nodes notary (p + 1) ds)
 
 -- the node at a place
-over_get : (nodes : ℕ) (notary : Party) (from : ℕ) (ds : List DiskView) (p : ℕ) (n : NodeSeen) → slice_get (nodes_over nodes notary from ds) p ≡ Some n → (d : DiskView) × (slice_get ds p ≡ Some d) × (n ≡ node_over nodes notary (from + p) d)
+over_get : (nodes : ℕ) (notary : Party) (from : ℕ) (ds : List DiskSeen) (p : ℕ) (n : NodeSeen) → slice_get (nodes_over nodes notary from ds) p ≡ Some n → (d : DiskSeen) × (slice_get ds p ≡ Some d) × (n ≡ node_over nodes notary (from + p) d)
 over_get nodes notary from [] p n at = cc
 over_get nodes notary from (d ∷ ds) zero n at = let same : n ≡ node_over nodes notary from d = cc in
     let place : from ≡ from + zero = omega arith in
@@ -65,10 +65,10 @@ over_get nodes notary from (d ∷ ds) (suc p) n at =
     let place : from + 1 + p ≡ from + suc p = omega arith in
     (found.0, found.1, found.2 ∙ ap (λ q. node_over nodes notary q found.0) place)
 
-pub over_down : (nodes : ℕ) (notary : Party) (from : ℕ) (ds : List DiskView) (p : ℕ) (n : NodeSeen) → slice_get (nodes_over nodes notary from ds) p ≡ Some n → n.journal ≡ None
+pub over_down : (nodes : ℕ) (notary : Party) (from : ℕ) (ds : List DiskSeen) (p : ℕ) (n : NodeSeen) → slice_get (nodes_over nodes notary from ds) p ≡ Some n → n.journal ≡ None
 over_down nodes notary from ds p n at = ap (λ z. z.journal) (over_get nodes notary from ds p n at).2
 
-pub over_at : (nodes : ℕ) (notary : Party) (from : ℕ) (ds : List DiskView) (p : ℕ) (d : DiskView) → slice_get ds p ≡ Some d → slice_get (nodes_over nodes notary from ds) p ≡ Some (node_over nodes notary (from + p) d)
+pub over_at : (nodes : ℕ) (notary : Party) (from : ℕ) (ds : List DiskSeen) (p : ℕ) (d : DiskSeen) → slice_get ds p ≡ Some d → slice_get (nodes_over nodes notary from ds) p ≡ Some (node_over nodes notary (from + p) d)
 over_at nodes notary from [] p d at = cc
 over_at nodes notary from (x ∷ ds) zero d at = let same : x ≡ d = cc in
     let place : from ≡ from + zero = omega arith in
@@ -77,23 +77,23 @@ over_at nodes notary from (x ∷ ds) (suc p) d at =
     let place : from + 1 + p ≡ from + suc p = omega arith in
     over_at nodes notary (from + 1) ds p d at ∙ ap (λ q. Some (node_over nodes notary q d)) place
 
-abbrev lain : Identity → DiskView → NodeSeen
+abbrev lain : Identity → DiskSeen → NodeSeen
 lain i d = record { identity = i; disk = d; journal = None; acked = [] }
 
-same_node : (i j : Identity) (d c : DiskView) → i ≡ j → d ≡ c → lain i d ≡ lain j c
+same_node : (i j : Identity) (d c : DiskSeen) → i ≡ j → d ≡ c → lain i d ≡ lain j c
 same_node i j d c same disk = rw (same, disk) refl
 
 closed : (k : NodeSeen) → k.journal ≡ None → k.acked ≡ [] → k ≡ lain k.identity k.disk
 closed k none unsent = ap (λ j. record { identity = k.identity; disk = k.disk; journal = j; acked = k.acked }) none ∙ ap (λ (a : List ℕ). record { identity = k.identity; disk = k.disk; journal = None; acked = a }) unsent
 
 -- from the first place on
-pub first_get : (nodes : ℕ) (notary : Party) (ds : List DiskView) (p : ℕ) (n : NodeSeen) → slice_get (nodes_over nodes notary 0 ds) p ≡ Some n → (d : DiskView) × (slice_get ds p ≡ Some d) × (n ≡ node_over nodes notary p d)
+pub first_get : (nodes : ℕ) (notary : Party) (ds : List DiskSeen) (p : ℕ) (n : NodeSeen) → slice_get (nodes_over nodes notary 0 ds) p ≡ Some n → (d : DiskSeen) × (slice_get ds p ≡ Some d) × (n ≡ node_over nodes notary p d)
 first_get nodes notary ds p n at =
     let found = over_get nodes notary 0 ds p n at in
     let place : 0 + p ≡ p = omega arith in
     (found.0, found.1, found.2 ∙ ap (λ q. node_over nodes notary q found.0) place)
 
-pub first_at : (nodes : ℕ) (notary : Party) (ds : List DiskView) (p : ℕ) (d : DiskView) → slice_get ds p ≡ Some d → slice_get (nodes_over nodes notary 0 ds) p ≡ Some (node_over nodes notary p d)
+pub first_at : (nodes : ℕ) (notary : Party) (ds : List DiskSeen) (p : ℕ) (d : DiskSeen) → slice_get ds p ≡ Some d → slice_get (nodes_over nodes notary 0 ds) p ≡ Some (node_over nodes notary p d)
 first_at nodes notary ds p d at =
     let place : 0 + p ≡ p = omega arith in
     over_at nodes notary 0 ds p d at ∙ ap (λ q. Some (node_over nodes notary q d)) place
@@ -181,7 +181,7 @@ none_at {C} (z ∷ ys) (c ∷ cs) (suc p) y is at =
 
 -- ---- the network
 
-module _ {F : Type 0} (m : Meaning F) (nodes : ℕ) (notary : Party) (disks : List DiskView) where
+module _ {F : Type 0} (m : Meaning F) (nodes : ℕ) (notary : Party) (disks : List DiskSeen) where
   abbrev e : Environment F
   e = environment m (member nodes notary 0)
 
@@ -251,7 +251,7 @@ module _ {F : Type 0} (m : Meaning F) (nodes : ℕ) (notary : Party) (disks : Li
   abbrev Lefts : BootFault → ℕ → NodeSeen → NodeWorld → NodeWorld → Type 0
   Lefts why p k x y = NodeShows e p (lain k.identity k.disk) y × LeavesDisk why x y × (y.waiting ≡ [])
 
-  module _ (place : ℕ) (why : BootFault) (news : List NodeSeen) (stops : BootStops m.frame_at place why olds news) (back : List DiskView) (handed : map roomless back ≡ map (λ n. n.disk) news) where
+  module _ (place : ℕ) (why : BootFault) (news : List NodeSeen) (stops : BootStops m.frame_at place why olds news) (back : List DiskSeen) (handed : map roomless back ≡ map (λ n. n.disk) news) where
     long : length back ≡ length news
     long = sym (length-map back roomless) ∙ ap length handed ∙ length-map news (λ (n : NodeSeen). n.disk)
 
@@ -259,7 +259,7 @@ module _ {F : Type 0} (m : Meaning F) (nodes : ℕ) (notary : Party) (disks : Li
     count = long ∙ stops.count ∙ over_length nodes notary 0 disks
 
     -- the disk that comes back is that of the node
-    disk_back : (p : ℕ) (b : DiskView) (k : NodeSeen) → slice_get back p ≡ Some b → slice_get news p ≡ Some k → roomless b ≡ k.disk
+    disk_back : (p : ℕ) (b : DiskSeen) (k : NodeSeen) → slice_get back p ≡ Some b → slice_get news p ≡ Some k → roomless b ≡ k.disk
     disk_back p b k i j = same_Some _ _ (sym (get_map roomless back p b i) ∙ ap (λ l. slice_get l p) handed ∙ get_map (λ (n : NodeSeen). n.disk) news p k j)
 
     one_left : (now : ℕ) (w : World) → Shows e (net_over nodes notary now disks) w → (p : ℕ) (k : NodeSeen) (x : NodeWorld) → slice_get news p ≡ Some k → slice_get w.nodes p ≡ Some x → (y : NodeWorld) × Lefts why p k x y
@@ -312,7 +312,7 @@ module _ {F : Type 0} (m : Meaning F) (nodes : ℕ) (notary : Party) (disks : Li
           down,
         )
 
-    refused_boot : (d b : DiskView) → slice_get disks place ≡ Some d → slice_get back place ≡ Some b → BootsAs m.frame_at (node_over nodes notary place d) (no_boot why) (node_over nodes notary place b)
+    refused_boot : (d b : DiskSeen) → slice_get disks place ≡ Some d → slice_get back place ≡ Some b → BootsAs m.frame_at (node_over nodes notary place d) (no_boot why) (node_over nodes notary place b)
     refused_boot d b i j =
         let old = first_at nodes notary disks place d i in
         let node = get_beside back news place b long j in
@@ -322,13 +322,13 @@ module _ {F : Type 0} (m : Meaning F) (nodes : ℕ) (notary : Party) (disks : Li
         let whole : k ≡ lain k.identity k.disk = closed k s.0 s.1 in
         subst (λ (z : NodeSeen). BootsAs m.frame_at (node_over nodes notary place d) (no_boot why) z) (whole ∙ same) s
 
-    up_there : (p : ℕ) (d b : DiskView) → p < place → slice_get disks p ≡ Some d → slice_get back p ≡ Some b → (k : NodeSeen) × BootsAs m.frame_at (node_over nodes notary p d) came_up k × (roomless b ≡ k.disk)
+    up_there : (p : ℕ) (d b : DiskSeen) → p < place → slice_get disks p ≡ Some d → slice_get back p ≡ Some b → (k : NodeSeen) × BootsAs m.frame_at (node_over nodes notary p d) came_up k × (roomless b ≡ k.disk)
     up_there p d b before i j =
         let old = first_at nodes notary disks p d i in
         let node = get_beside back news p b long j in
         (node.0, stops.done p (node_over nodes notary p d) node.0 before old node.1, disk_back p b node.0 j node.1)
 
-    left_there : (p : ℕ) (d b : DiskView) → place < p → slice_get disks p ≡ Some d → slice_get back p ≡ Some b → roomless b ≡ roomless d
+    left_there : (p : ℕ) (d b : DiskSeen) → place < p → slice_get disks p ≡ Some d → slice_get back p ≡ Some b → roomless b ≡ roomless d
     left_there p d b past i j =
         let old = first_at nodes notary disks p d i in
         let node = get_beside back news p b long j in

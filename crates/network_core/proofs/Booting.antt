@@ -5,7 +5,7 @@ use Rattle.std.specs.Option.{MatchOption, option_and_then}
 use Rattle.std.proofs.lemmas.Bool.{false_from_ne_true}
 use Rattle.std.proofs.lemmas.Option.{same_Some, none-some}
 use Rattle.network_core.proofs.Loops.{by_later, by_last}
-use Rattle.outside.specs.Disk.{DiskView, IsImage}
+use Rattle.outside.specs.Disk.{DiskSeen, IsImage}
 use Rattle.outside.specs.Faults.{Rose}
 use Rattle.net_base.specs.declared.names.Identity.{Identity}
 use Rattle.net_base.proofs.Lists.{get_there, all_weaken, get_beside, all_set}
@@ -165,14 +165,14 @@ module _ {F : Type 0} (e : Environment F) (p : ℕ) (n mid k : NodeSeen) (x : No
   shows_mid = record {
     identity_is = restored.identity ∙ shows.identity_is;
     tells = ap (λ v. v.tells) lit ∙ shows.tells;
-    images = λ c image. shows.images c (subst (λ (v : DiskView). IsImage v.state.now c) lit image);
+    images = λ c image. shows.images c (subst (λ (v : DiskSeen). IsImage v.state.now c) lit image);
     kept = ap (λ v. journal_of v.state.kept) lit ∙ shows.kept;
     journal = shows_down mid.journal z restored.journal (rw down at shows.journal);
     counts = shows.counts ∙ sym (ap (λ v. v.faults) lit);
     calm_is = refl;
     file_is = shows.file_is ∙ sym (ap (λ v. v.of_file) lit);
     acked_is = refl;
-    opens = λ on. subst (λ (i : Identity). AreYoung i mid.disk) (sym restored.identity) (λ c image. shows.opens on c (subst (λ (v : DiskView). IsImage v.state.now c) lit image));
+    opens = λ on. subst (λ (i : Identity). AreYoung i mid.disk) (sym restored.identity) (λ c image. shows.opens on c (subst (λ (v : DiskSeen). IsImage v.state.now c) lit image));
   }
 
   calm_mid : x.file ≡ false → mid.disk.calm ≡ true

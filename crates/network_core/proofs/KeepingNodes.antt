@@ -2,7 +2,7 @@
 use Rattle.std.proofs.Common.{◌≡◌, ◌⊎◌, inl, inr, ⊎_elim, ℕ, ◌≤◌, true, List, [], ◌∷◌, ◌++◌, length, Option, Some, None, Result, Ok, Err, refl, sym, ◌∙◌, ap, subst, arith}
 use Rattle.std.specs.List.{slice_get}
 use Rattle.std.proofs.lemmas.Option.{MatchOption-at_none, MatchOption-at_some, none-some}
-use Rattle.outside.specs.Disk.{DiskState, DiskView, Durable, IsImage, EachImage, written_end}
+use Rattle.outside.specs.Disk.{DiskState, DiskSeen, Durable, IsImage, EachImage, written_end}
 use Rattle.outside.proofs.Moments.{started, weaker}
 use Rattle.net_base.specs.declared.names.Identity.{Identity}
 use Rattle.net_base.specs.declared.names.Key.{Key}
@@ -216,8 +216,8 @@ module _ {F : Type 0} (m : Meaning F) (id : Identity) (w : World) (p : ℕ) (n k
   -- a boot, once the power is back: the state of the disk is as it was then
   booted : (mid : NodeSeen) → Restored n mid → k.identity ≡ mid.identity → Moves mid.disk k.disk WasSpelt → KeepsForm mid.identity mid.disk k.disk → Goes
   booted mid r id_is moves form =
-      let same : mid.disk.state ≡ n.disk.state = ap (λ (v : DiskView). v.state) r.disk in
-      let tells : mid.disk.tells ≡ true = ap (λ (v : DiskView). v.tells) r.disk ∙ shows.tells in
+      let same : mid.disk.state ≡ n.disk.state = ap (λ (v : DiskSeen). v.state) r.disk in
+      let tells : mid.disk.tells ≡ true = ap (λ (v : DiskSeen). v.tells) r.disk ∙ shows.tells in
       record {
         identity_is = id_is ∙ r.identity;
         images = subst (λ (z : DiskState). EachImage z k.disk.state (Fine e w p n)) same (weaker mid.disk.state k.disk.state (WasSpelt mid.disk.state) (Fine e w p n) (λ c h. (h.0, subst (λ (z : DiskState). IsImage z.now h.0) same h.1, inl h.2)) (moves.images tells));

@@ -3,7 +3,7 @@ use Rattle.std.proofs.Common.{◌≡◌, inl, inr, ⊎_elim, ℕ, ◌+◌, max, 
 use Rattle.std.specs.List.{slice_get, AllByRecursion}
 use Rattle.std.proofs.lemmas.Bool.{cases_lt}
 use Rattle.network_core.proofs.Placing.{set_here, set_apart}
-use Rattle.outside.specs.Disk.{DiskView}
+use Rattle.outside.specs.Disk.{DiskSeen}
 use Rattle.net_base.specs.declared.values.Party.{Party}
 use Rattle.net_base.specs.declared.values.Moment.{Moment}
 use Rattle.net_base.proofs.Lists.{set_length, get_there, get_other}
@@ -16,7 +16,7 @@ use Rattle.network_core.specs.Begins.{member, came_up, no_boot, IsLast, BootsUpT
 -- ---- the nodes over disks
 
 -- the nodes made so far, and those over the disks that are left, are all
-pub record Making {D : Type 0} (seen : D → DiskView) (nodes : ℕ) (notary : Party) (all : List D) (made : List NodeSeen) (place : ℕ) (left : List D) : Type 0 where
+pub record Making {D : Type 0} (seen : D → DiskSeen) (nodes : ℕ) (notary : Party) (all : List D) (made : List NodeSeen) (place : ℕ) (left : List D) : Type 0 where
   pub all_of : made ++ nodes_over nodes notary place (map seen left) ≡ nodes_over nodes notary 0 (map seen all)
   pub count : length made ≡ place
   pub rest : place + length left ≡ length all
@@ -27,7 +27,7 @@ is_member nodes notary place few within below = record { limits = (omega (arith,
 -- ---- the disks of nodes
 
 -- the disks so far, and those of the nodes that are left, are all
-pub record Handing {D : Type 0} (seen : D → DiskView) (all : List NodeSeen) (disks : List D) (left : List NodeSeen) : Type 0 where
+pub record Handing {D : Type 0} (seen : D → DiskSeen) (all : List NodeSeen) (disks : List D) (left : List NodeSeen) : Type 0 where
   pub all_of : map (λ d. roomless (seen d)) disks ++ map (λ n. n.disk) left ≡ map (λ n. n.disk) all
   pub rest : length disks + length left ≡ length all
 

@@ -4,7 +4,7 @@ use Rattle.std.specs.List.{slice_get}
 use Rattle.std.proofs.lemmas.Bool.{cases_lt}
 use Rattle.std.proofs.lemmas.Option.{same_Some, slice_get_within, MatchOption-at_none, MatchOption-at_some}
 use Rattle.std.proofs.lemmas.List.{length-map}
-use Rattle.outside.specs.Disk.{Attached, DiskView}
+use Rattle.outside.specs.Disk.{Attached, DiskSeen}
 use Rattle.net_base.specs.declared.names.Key.{Key}
 use Rattle.net_base.specs.declared.values.Party.{Party}
 use Rattle.net_base.specs.declared.causes.Event.{Event}
@@ -144,7 +144,7 @@ boot_same f n k (Ok u) s = s.4.opens.moves.attached
 boot_same f n k (Err why) s = s.3.moves.attached
 
 restored_same : (n k : NodeSeen) → Restored n k → name_of k ≡ name_of n
-restored_same n k r = ap (λ (v : DiskView). v.attached) r.disk
+restored_same n k r = ap (λ (v : DiskSeen). v.attached) r.disk
 
 -- ---- a network
 
@@ -238,26 +238,26 @@ same_lists [] (y ∷ ys) count each = absurd (omega (arith, count))
 same_lists (x ∷ xs) [] count each = absurd (omega (arith, count))
 same_lists (x ∷ xs) (y ∷ ys) count each = (λ i. each 0 x y refl refl i ∷ same_lists xs ys (omega (arith, count)) (λ p a b at there. each (suc p) a b at there) i)
 
-module _ {F : Type 0} (f : Reads F) (nodes : ℕ) (notary : Party) (ds : List DiskView) where
+module _ {F : Type 0} (f : Reads F) (nodes : ℕ) (notary : Party) (ds : List DiskSeen) where
   -- boots change none
   pub begun_names : (now : ℕ) (new : List NodeSeen) → length ds ≡ nodes → BootsUpTo f nodes now (nodes_over nodes notary 0 ds) new → names_of new ≡ attached_as ds
   begun_names now new count r =
-      same_lists (attached_as ds) (names_of new) (length-map new name_of ∙ r.count ∙ over_length nodes notary 0 ds ∙ sym (length-map ds (λ (d : DiskView). d.attached)))
+      same_lists (attached_as ds) (names_of new) (length-map new name_of ∙ r.count ∙ over_length nodes notary 0 ds ∙ sym (length-map ds (λ (d : DiskSeen). d.attached)))
       (λ p x y at there.
-      let d = of_map (λ (d : DiskView). d.attached) ds p x at in
+      let d = of_map (λ (d : DiskSeen). d.attached) ds p x at in
       let k = of_map name_of new p y there in
       let within = slice_get_within ds p d.0 d.1 in
       let booted = r.done p (node_over nodes notary p d.0) k.0 (omega (arith, within, count)) (first_at nodes notary ds p d.0 d.1) k.1 in
       sym k.2 ∙ boot_same f (node_over nodes notary p d.0) k.0 came_up booted ∙ d.2)
 
-module _ {F : Type 0} (m : Meaning F) (nodes : ℕ) (notary : Party) (ds : List DiskView) (node : ℕ) (why : BootFault) (bs : List DiskView) (r : IsRefused m nodes notary ds node why bs) where
-  refused_name : (p : ℕ) (d b : DiskView) → slice_get ds p ≡ Some d → slice_get bs p ≡ Some b → b.attached ≡ d.attached
+module _ {F : Type 0} (m : Meaning F) (nodes : ℕ) (notary : Party) (ds : List DiskSeen) (node : ℕ) (why : BootFault) (bs : List DiskSeen) (r : IsRefused m nodes notary ds node why bs) where
+  refused_name : (p : ℕ) (d b : DiskSeen) → slice_get ds p ≡ Some d → slice_get bs p ≡ Some b → b.attached ≡ d.attached
   refused_name p d b at there = ⊎_elim
       (λ (before : p < node).
       let up = r.earlier p d b before at there in
-      ap (λ (v : DiskView). v.attached) up.2 ∙ boot_same m.frame_at (node_over nodes notary p d) up.0 came_up up.1)
+      ap (λ (v : DiskSeen). v.attached) up.2 ∙ boot_same m.frame_at (node_over nodes notary p d) up.0 came_up up.1)
       (λ (behind : node ≤ p).
-      ⊎_elim (λ (above : node < p). ap (λ (v : DiskView). v.attached) (r.later p d b above at there))
+      ⊎_elim (λ (above : node < p). ap (λ (v : DiskSeen). v.attached) (r.later p d b above at there))
       (λ (below : p ≤ node).
       let here : p ≡ node = omega (arith, behind, below) in
       own (subst (λ (q : ℕ). slice_get ds q ≡ Some d) here at) (subst (λ (q : ℕ). slice_get bs q ≡ Some b) here there) r.refused)
@@ -265,17 +265,17 @@ module _ {F : Type 0} (m : Meaning F) (nodes : ℕ) (notary : Party) (ds : List 
       (cases_lt p node)
     where
       own : slice_get ds node ≡ Some d → slice_get bs node ≡ Some b
-          → ((why ≡ boot_fault.Memory) × (node ≡ 0) × (bs ≡ ds)) ⊎ ((x : DiskView) × (y : DiskView) × (slice_get ds node ≡ Some x) × (slice_get bs node ≡ Some y) × BootsAs m.frame_at (node_over nodes notary node x) (no_boot why) (node_over nodes notary node y))
+          → ((why ≡ boot_fault.Memory) × (node ≡ 0) × (bs ≡ ds)) ⊎ ((x : DiskSeen) × (y : DiskSeen) × (slice_get ds node ≡ Some x) × (slice_get bs node ≡ Some y) × BootsAs m.frame_at (node_over nodes notary node x) (no_boot why) (node_over nodes notary node y))
           → b.attached ≡ d.attached
-      own old new (inl (short, first, same)) = ap (λ (v : DiskView). v.attached) (same_Some _ _ (sym new ∙ ap (λ (l : List DiskView). slice_get l node) same ∙ old))
+      own old new (inl (short, first, same)) = ap (λ (v : DiskSeen). v.attached) (same_Some _ _ (sym new ∙ ap (λ (l : List DiskSeen). slice_get l node) same ∙ old))
       own old new (inr (x, y, was, is, boots)) =
-          ap (λ (v : DiskView). v.attached) (same_Some _ _ (sym new ∙ is)) ∙ boot_same m.frame_at (node_over nodes notary node x) (node_over nodes notary node y) (no_boot why) boots ∙ ap (λ (v : DiskView). v.attached) (same_Some _ _ (sym was ∙ old))
+          ap (λ (v : DiskSeen). v.attached) (same_Some _ _ (sym new ∙ is)) ∙ boot_same m.frame_at (node_over nodes notary node x) (node_over nodes notary node y) (no_boot why) boots ∙ ap (λ (v : DiskSeen). v.attached) (same_Some _ _ (sym was ∙ old))
 
   -- nor does a boot that is refused
   pub refused_names : attached_as bs ≡ attached_as ds
   refused_names =
-      same_lists (attached_as ds) (attached_as bs) (length-map bs (λ (d : DiskView). d.attached) ∙ r.count ∙ sym (length-map ds (λ (d : DiskView). d.attached)))
+      same_lists (attached_as ds) (attached_as bs) (length-map bs (λ (d : DiskSeen). d.attached) ∙ r.count ∙ sym (length-map ds (λ (d : DiskSeen). d.attached)))
       (λ p x y at there.
-      let d = of_map (λ (d : DiskView). d.attached) ds p x at in
-      let b = of_map (λ (d : DiskView). d.attached) bs p y there in
+      let d = of_map (λ (d : DiskSeen). d.attached) ds p x at in
+      let b = of_map (λ (d : DiskSeen). d.attached) bs p y there in
       sym b.2 ∙ refused_name p d.0 b.0 d.1 b.1 ∙ d.2)

@@ -3,7 +3,7 @@ use Rattle.std.proofs.Common.{◌≡◌, inl, inr, ℕ, false, true, List, [], l
 use Rattle.std.specs.List.{slice_get, AllByRecursion}
 use Rattle.std.proofs.lemmas.Bool.{true≢false}
 use Rattle.std.proofs.lemmas.List.{length-map}
-use Rattle.outside.specs.Disk.{DiskView, IsImage}
+use Rattle.outside.specs.Disk.{DiskSeen, IsImage}
 use Rattle.outside.proofs.Moments.{clean_image}
 use Rattle.net_base.specs.declared.values.Party.{Party}
 use Rattle.net_base.proofs.Lists.{all_get, get_beside, map_twice, of_map}
@@ -18,7 +18,7 @@ use Rattle.network_core.specs.Begins.{member, node_over, nodes_over, IsNew, NewD
 use Rattle.network_core.proofs.Beginning.{over_length, first_get}
 
 -- a node over a new disk
-abbrev unused : DiskView → NodeWorld
+abbrev unused : DiskSeen → NodeWorld
 unused d = record { up = false; journal = []; other = None; faults = d.faults; calm = d.calm; file = d.of_file; openable = true; acked = []; waiting = [] }
 
 none_spelt : journal_of [] ≡ []
@@ -30,21 +30,21 @@ unfolding state_of replay
 no_moment f = refl
 
 -- a disk on which nothing was written may spell no record
-spells_none : (d : DiskView) (l : List (List ℕ)) → MaySpell (unused d) l → l ≡ []
+spells_none : (d : DiskSeen) (l : List (List ℕ)) → MaySpell (unused d) l → l ≡ []
 spells_none d l (inl same) = same
 spells_none d l (inr other) = cc
 
-waits_none : (ds : List DiskView) (nodes : ℕ) → map (λ (x : NodeWorld). x.waiting) (map unused ds) ≡ map (λ d. []) ds
+waits_none : (ds : List DiskSeen) (nodes : ℕ) → map (λ (x : NodeWorld). x.waiting) (map unused ds) ≡ map (λ d. []) ds
 waits_none ds nodes = map_twice (λ (x : NodeWorld). x.waiting) unused (λ d. []) ds (λ d. refl)
 
-module _ {F : Type 0} (m : Meaning F) (nodes : ℕ) (notary : Party) (now : ℕ) (disks : List DiskView) (many : length disks ≡ nodes) (new : AllByRecursion IsNew disks) where
+module _ {F : Type 0} (m : Meaning F) (nodes : ℕ) (notary : Party) (now : ℕ) (disks : List DiskSeen) (many : length disks ≡ nodes) (new : AllByRecursion IsNew disks) where
   abbrev e : Environment F
   e = environment m (member nodes notary 0)
 
   abbrev w : World
   w = record { nodes = map unused disks; now = now }
 
-  shown : (p : ℕ) (d : DiskView) → IsNew d → NodeShows e p (node_over nodes notary p d) (unused d)
+  shown : (p : ℕ) (d : DiskSeen) → IsNew d → NodeShows e p (node_over nodes notary p d) (unused d)
   shown p d h = record {
     identity_is = refl;
     tells = h.tells;

@@ -1,7 +1,7 @@
 -- What a step at one node makes of the world.
 use Rattle.std.proofs.Common.{◌≡◌, ◌⊎◌, inl, inr, ℕ, zero, suc, ◌+◌, true, false, List, [], ◌∷◌, Option, Some, None, Result, Ok, Err, IsOk, refl, sym, ◌∙◌, ap, subst, arith}
 use Rattle.std.proofs.lemmas.Option.{MatchOption-at_none, MatchOption-at_some, none-some}
-use Rattle.outside.specs.Disk.{IsImage, DiskView}
+use Rattle.outside.specs.Disk.{IsImage, DiskSeen}
 use Rattle.net_base.specs.declared.names.Identity.{Identity}
 use Rattle.net_base.specs.declared.names.Key.{Key}
 use Rattle.net_base.specs.declared.values.Party.{Party}
@@ -132,7 +132,7 @@ module _ {F : Type 0} (m : Meaning F) (id : Identity) (p now : ℕ) (n k : NodeS
         record {
           identity_is = s.2 ∙ shows.identity_is;
           tells = c.moves.tells ∙ shows.tells;
-          images = λ b image. shows.images b (subst (λ (v : DiskView). IsImage v.state.now b) same image);
+          images = λ b image. shows.images b (subst (λ (v : DiskSeen). IsImage v.state.now b) same image);
           kept = ap (λ v. journal_of v.state.kept) same ∙ shows.kept;
           journal = shows_same n.journal k.journal x _ shows.journal (here ∙ sym s.0) refl refl refl;
           counts = shows.counts ∙ sym c.faults;

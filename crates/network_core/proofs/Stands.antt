@@ -2,7 +2,7 @@
 use Rattle.std.proofs.Common.{◌≡◌, ◌⊎◌, inl, inr, ℕ, true, false, List, [], ◌∷◌, ◌++◌, Option, Some, None, refl, sym, ◌∙◌, ap, subst}
 use Rattle.std.proofs.lemmas.Option.{same_Some}
 use Rattle.std.proofs.lemmas.Bool.{false_from_ne_true}
-use Rattle.outside.specs.Disk.{DiskState, DiskView, IsImage}
+use Rattle.outside.specs.Disk.{DiskState, DiskSeen, IsImage}
 use Rattle.outside.specs.Faults.{Rose}
 use Rattle.outside.proofs.Moments.{at_now}
 use Rattle.net_base.specs.declared.names.Identity.{Identity}
@@ -20,15 +20,15 @@ abbrev pub Goes : {F : Type 0} → Environment F → ℕ → NodeWorld → NodeS
 Goes e p x k goal = (y : NodeWorld) × NodeShows e p k y × (y.waiting ≡ x.waiting) × goal y
 
 -- the images now are of those since
-pub images_now : (old new : DiskView) (may : DiskState → List ℕ → Type 0) → Moves old new may → old.tells ≡ true → (c : List ℕ) → IsImage new.state.now c → may old.state c
+pub images_now : (old new : DiskSeen) (may : DiskState → List ℕ → Type 0) → Moves old new may → old.tells ≡ true → (c : List ℕ) → IsImage new.state.now c → may old.state c
 images_now old new may moves tells c image = at_now old.state new.state (may old.state) (moves.images tells) c image
 
 -- each image of a disk is one over which an opening of this node gives no refusal
-abbrev pub AreYoung : Identity → DiskView → Type 0
+abbrev pub AreYoung : Identity → DiskSeen → Type 0
 AreYoung id d = (c : List ℕ) → IsImage d.state.now c → IsYoung id c
 
 -- the images now, where those of before were so
-pub young_now : (i j : Identity) (old new : DiskView) → j ≡ i → KeepsForm i old new → old.tells ≡ true → AreYoung i old → AreYoung j new
+pub young_now : (i j : Identity) (old new : DiskSeen) → j ≡ i → KeepsForm i old new → old.tells ≡ true → AreYoung i old → AreYoung j new
 young_now i j old new same form tells was = subst (λ (k : Identity). AreYoung k new) (sym same) (λ c image. at_now old.state new.state (IsYoung i) (form.young tells was) c image)
 
 pub shows_down : (journal : Option (List (List ℕ))) (y : NodeWorld) → journal ≡ None → y.up ≡ false → ShowsJournal journal y

@@ -1,7 +1,7 @@
 -- How a network begins: over disks of which it is known what they may leave.
 use Rattle.std.specs.Prelude.{◌≡◌, ◌⊎◌, ℕ, ◌+◌, ◌<◌, ◌≤◌, true, false, List, [], ◌∷◌, length, map, slice_get, MatchOption, Option, Some, None, Result, Ok, Err}
 use Rattle.std.specs.List.{AllByRecursion}
-use Rattle.outside.specs.Disk.{DiskView, clean}
+use Rattle.outside.specs.Disk.{DiskSeen, clean}
 use Rattle.net_base.specs.declared.names.Identity.{Identity}
 use Rattle.net_base.specs.declared.values.Party.{Party}
 use Rattle.net_model.specs.Environment.{Environment, environment, party, Meaning}
@@ -60,27 +60,27 @@ pub record BootStops {F : Type 0} (frame_at : Reads F) (place : ℕ) (why : Boot
   pub rest : (p : ℕ) (n k : NodeSeen) → place < p → slice_get old p ≡ Some n → slice_get new p ≡ Some k → k ≡ n
 
 -- a node that is down over a disk, at a place of a network
-abbrev pub node_over : ℕ → Party → ℕ → DiskView → NodeSeen
+abbrev pub node_over : ℕ → Party → ℕ → DiskSeen → NodeSeen
 node_over nodes notary p disk = record { identity = member nodes notary p; disk = roomless disk; journal = None; acked = [] }
 
 -- nodes that are down over these disks, from a place on
-abbrev pub nodes_over : ℕ → Party → ℕ → List DiskView → List NodeSeen
+abbrev pub nodes_over : ℕ → Party → ℕ → List DiskSeen → List NodeSeen
 nodes_over nodes notary p [] = []
 nodes_over nodes notary p (d ∷ ds) = node_over nodes notary p d ∷ nodes_over nodes notary (p + 1) ds
 
 -- a network whose nodes are down over these disks, at a moment; no frame waits
-abbrev pub net_over : ℕ → Party → ℕ → List DiskView → NetSeen
+abbrev pub net_over : ℕ → Party → ℕ → List DiskSeen → NetSeen
 net_over nodes notary now disks = record { nodes = nodes_over nodes notary 0 disks; waiting = map (λ d. []) disks; now = now }
 
 -- a disk that tells what it holds, which is nothing, with no write under way
-pub record IsNew (d : DiskView) : Type 0 where
+pub record IsNew (d : DiskSeen) : Type 0 where
   pub tells : d.tells ≡ true
   pub kept : d.state.kept ≡ []
   pub settled : d.state.now ≡ clean []
 
 -- over new disks a network whose nodes are down shows a coherent world, whatever its moment, and no opening refuses an image of them
 abbrev pub NewDisksAreCoherent : (F : Type 0) → Type 0
-NewDisksAreCoherent F = (m : Meaning F) (nodes : ℕ) (notary : Party) (now : ℕ) (disks : List DiskView) → length disks ≡ nodes → AllByRecursion IsNew disks
+NewDisksAreCoherent F = (m : Meaning F) (nodes : ℕ) (notary : Party) (now : ℕ) (disks : List DiskSeen) → length disks ≡ nodes → AllByRecursion IsNew disks
     → (w : World) × Shows (environment m (member nodes notary 0)) (net_over nodes notary now disks) w × Coherent (environment m (member nodes notary 0)) w × AreOpenable w
 
 -- each node came up on its journal, and the moment is the greatest of their last causes', 0 without one
@@ -91,7 +91,7 @@ pub record Begun {F : Type 0} (e : Environment F) (w v : World) : Type 0 where
   pub reached : (v.now ≡ 0) ⊎ ((p : ℕ) × (y : NodeWorld) × (slice_get v.nodes p ≡ Some y) × (v.now ≡ (state_of e.frame_at y.journal).moment))
 
 -- from each coherent world over the disks, whatever its moment, a network begins in a coherent world in which every node is up
-abbrev pub BeginsWorld : {F : Type 0} → Meaning F → ℕ → Party → List DiskView → NetSeen → Type 0
+abbrev pub BeginsWorld : {F : Type 0} → Meaning F → ℕ → Party → List DiskSeen → NetSeen → Type 0
 BeginsWorld m nodes notary disks net =
     let e = environment m (member nodes notary 0) in
     (now : ℕ) (w : World) → Shows e (net_over nodes notary now disks) w → Coherent e w → (v : World) × Shows e net v × Coherent e v × Begun e w v
@@ -104,11 +104,11 @@ pub record StayDown (why : BootFault) (w v : World) : Type 0 where
 
 -- the boot of the node at that place was refused, so, or memory ran out before all boots; those before it came up, and those behind it were left; the disks come back in order, each as its node left it; from each coherent world over
 -- the disks they go to a coherent world over those that come back
-pub record IsRefused {F : Type 0} (m : Meaning F) (nodes : ℕ) (notary : Party) (disks : List DiskView) (node : ℕ) (why : BootFault) (back : List DiskView) : Type 0 where
+pub record IsRefused {F : Type 0} (m : Meaning F) (nodes : ℕ) (notary : Party) (disks : List DiskSeen) (node : ℕ) (why : BootFault) (back : List DiskSeen) : Type 0 where
   pub count : length back ≡ length disks
   pub refused : ((why ≡ boot_fault.Memory) × (node ≡ 0) × (back ≡ disks))
-      ⊎ ((d : DiskView) × (b : DiskView) × (slice_get disks node ≡ Some d) × (slice_get back node ≡ Some b) × BootsAs m.frame_at (node_over nodes notary node d) (no_boot why) (node_over nodes notary node b))
-  pub earlier : (p : ℕ) (d b : DiskView) → p < node → slice_get disks p ≡ Some d → slice_get back p ≡ Some b → (k : NodeSeen) × BootsAs m.frame_at (node_over nodes notary p d) came_up k × (roomless b ≡ k.disk)
-  pub later : (p : ℕ) (d b : DiskView) → node < p → slice_get disks p ≡ Some d → slice_get back p ≡ Some b → roomless b ≡ roomless d
+      ⊎ ((d : DiskSeen) × (b : DiskSeen) × (slice_get disks node ≡ Some d) × (slice_get back node ≡ Some b) × BootsAs m.frame_at (node_over nodes notary node d) (no_boot why) (node_over nodes notary node b))
+  pub earlier : (p : ℕ) (d b : DiskSeen) → p < node → slice_get disks p ≡ Some d → slice_get back p ≡ Some b → (k : NodeSeen) × BootsAs m.frame_at (node_over nodes notary p d) came_up k × (roomless b ≡ k.disk)
+  pub later : (p : ℕ) (d b : DiskSeen) → node < p → slice_get disks p ≡ Some d → slice_get back p ≡ Some b → roomless b ≡ roomless d
   pub world : let e = environment m (member nodes notary 0) in
       (now : ℕ) (w : World) → Shows e (net_over nodes notary now disks) w → Coherent e w → (v : World) × Shows e (net_over nodes notary now back) v × Coherent e v × StayDown why w v

@@ -86,9 +86,12 @@ pub fn boot_all<D: Bay, F: FlowSet>(
     nodes: &mut Vec<Node<D, F>>,
 ) -> Result<Moment, Stopped>
     requires few { length nodes.old.items ≤ 16 }
-    requires down { (p : ℕ) (n : NodeSeen) → slice_get nodes.old.items p ≡ Some n → n.journal ≡ None }
-    ensures ok { IfOk result (λ now. BootsUpTo F.reading (length nodes.old.items) now.0 nodes.old.items nodes.new.items) }
-    ensures err { IfErr result (λ s. BootStops F.reading s.place s.why nodes.old.items nodes.new.items) }
+    requires down { (p : ℕ) (n : NodeSeen) → slice_get nodes.old.items p ≡ Some n
+        → n.journal ≡ None }
+    ensures ok { IfOk result (λ now. BootsUpTo F.reading
+        (length nodes.old.items) now.0 nodes.old.items nodes.new.items) }
+    ensures err { IfErr result (λ s. BootStops F.reading s.place s.why nodes.old.items
+        nodes.new.items) }
 {
     let mut last = Moment(0);
     'places: for place in 0..nodes.len() {

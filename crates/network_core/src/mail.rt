@@ -38,9 +38,12 @@ pub fn make_room(waiting: &mut Vec<Waiting>, more: usize) -> Result<(), AllocErr
 /// A frame joins those that wait at its addressee, if there is such a node. Whether it is new there.
 pub fn send(waiting: &mut Vec<Waiting>, frame: Outgoing) -> bool
     requires { AllByRecursion (λ w. 0 < w.room) waiting.old.items }
-    ensures mailed { map (λ w. w.frames) waiting.new.items ≡ mailed_once frame (map (λ w. w.frames) waiting.old.items) }
-    ensures fresh { (if result then 1 else 0) ≡ fresh_at frame.bytes (slice_get (map (λ w. w.frames) waiting.old.items) frame.to.0) }
-    ensures room { (more : ℕ) → AllByRecursion (λ w. more + 1 ≤ w.room) waiting.old.items → AllByRecursion (λ w. more ≤ w.room) waiting.new.items }
+    ensures mailed { map (λ w. w.frames) waiting.new.items
+        ≡ mailed_once frame (map (λ w. w.frames) waiting.old.items) }
+    ensures fresh { (if result then 1 else 0)
+        ≡ fresh_at frame.bytes (slice_get (map (λ w. w.frames) waiting.old.items) frame.to.0) }
+    ensures room { (more : ℕ) → AllByRecursion (λ w. more + 1 ≤ w.room) waiting.old.items
+        → AllByRecursion (λ w. more ≤ w.room) waiting.new.items }
 {
     let Outgoing { to, bytes } = frame;
     let place = to.0 as usize;
@@ -53,7 +56,8 @@ pub fn send(waiting: &mut Vec<Waiting>, frame: Outgoing) -> bool
 /// These frames join, in order, those that wait at their addressees. How many of them are new there.
 pub fn send_all(waiting: &mut Vec<Waiting>, frames: OutgoingList) -> u64
     requires { AllByRecursion (λ w. length frames ≤ w.room) waiting.old.items }
-    ensures mailed { map (λ w. w.frames) waiting.new.items ≡ mailed frames (map (λ w. w.frames) waiting.old.items) }
+    ensures mailed { map (λ w. w.frames) waiting.new.items
+        ≡ mailed frames (map (λ w. w.frames) waiting.old.items) }
     ensures count { result ≡ count_fresh frames (map (λ w. w.frames) waiting.old.items) }
 {
     let mut count = 0;
@@ -68,8 +72,11 @@ pub fn send_all(waiting: &mut Vec<Waiting>, frames: OutgoingList) -> u64
 /// The frame at a place of a node is taken away, unless it waits on.
 fn part(waiting: &mut Vec<Waiting>, place: usize, at: usize, waits: bool)
     requires { place < length waiting.old.items }
-    ensures parted { (w : WaitingSeen) → slice_get waiting.old.items place ≡ Some w → map (λ w. w.frames) waiting.new.items ≡ parted waits place at w.frames (map (λ w. w.frames) waiting.old.items) }
-    ensures room { (more : ℕ) → AllByRecursion (λ w. more ≤ w.room) waiting.old.items → AllByRecursion (λ w. more ≤ w.room) waiting.new.items }
+    ensures parted { (w : WaitingSeen) → slice_get waiting.old.items place ≡ Some w
+        → map (λ w. w.frames) waiting.new.items
+        ≡ parted waits place at w.frames (map (λ w. w.frames) waiting.old.items) }
+    ensures room { (more : ℕ) → AllByRecursion (λ w. more ≤ w.room) waiting.old.items
+        → AllByRecursion (λ w. more ≤ w.room) waiting.new.items }
 {
     if !waits {
         waiting[place].discard(at);
@@ -86,7 +93,10 @@ pub fn settle(
 )
     requires place { place < length waiting.old.items }
     requires room { AllByRecursion (λ w. 0 < w.room) waiting.old.items }
-    ensures { (w : WaitingSeen) → slice_get waiting.old.items place ≡ Some w → map (λ w. w.frames) waiting.new.items ≡ mailed (option_to_list ack) (parted waits place at w.frames (map (λ w. w.frames) waiting.old.items)) }
+    ensures { (w : WaitingSeen) → slice_get waiting.old.items place ≡ Some w
+        → map (λ w. w.frames) waiting.new.items
+        ≡ mailed (option_to_list ack) (parted waits place at w.frames
+        (map (λ w. w.frames) waiting.old.items)) }
 {
     part(waiting, place, at, waits);
     if let Some(frame) = ack {

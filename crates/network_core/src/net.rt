@@ -49,9 +49,15 @@ impl<D: Bay, F: FlowSet> Model for Net<D, F> {
 
     ghost Value = { NetSeen };
 
-    ghost view = { λ n. record { nodes = n.nodes.items; waiting = map (λ w. w.frames) n.waiting.items; now = n.now.0 } };
+    ghost view = { λ n. record {
+      nodes = n.nodes.items;
+      waiting = map (λ w. w.frames) n.waiting.items;
+      now = n.now.0;
+    } };
 
-    ghost invariant = { λ n. AllByRecursion (λ k. IsBy F.reading k.journal n.now.0) n.nodes.items × (n.spare.items ≡ []) × (length n.nodes.items ≤ vec_capacity n.spare) × (length n.nodes.items ≤ 16) × (length n.waiting.items ≡ length n.nodes.items) };
+    ghost invariant = { λ n. AllByRecursion (λ k. IsBy F.reading k.journal n.now.0) n.nodes.items
+        × (n.spare.items ≡ []) × (length n.nodes.items ≤ vec_capacity n.spare)
+        × (length n.nodes.items ≤ 16) × (length n.waiting.items ≡ length n.nodes.items) };
 }
 
 impl<D: Bay, F: FlowSet> Net<D, F> {
@@ -72,10 +78,16 @@ impl<D: Bay, F: FlowSet> Net<D, F> {
         requires notary { notary.0 < nodes }
         requires disks { length disks.items ≡ nodes }
         ensures count { IfOk result (λ net. length net.nodes ≡ nodes) }
-        ensures ok { IfOk result (λ net. (judge : Judgement) → BeginsWorld (meaning F.machine F.reading judge) nodes notary (map D.seen disks.items) net) }
-        ensures boots { IfOk result (λ net. BootsUpTo F.reading nodes net.now (over_disks nodes notary 0 (map D.seen disks.items)) net.nodes) }
+        ensures ok { IfOk result (λ net. (judge : Judgement)
+            → BeginsWorld (meaning F.machine F.reading judge) nodes notary
+            (map D.seen disks.items) net) }
+        ensures boots { IfOk result (λ net.
+            BootsUpTo F.reading nodes net.now (over_disks nodes notary 0
+            (map D.seen disks.items)) net.nodes) }
         ensures waiting { IfOk result (λ net. net.waiting ≡ map (λ n. []) net.nodes) }
-        ensures refused { IfErr result (λ r. (judge : Judgement) → IsRefused (meaning F.machine F.reading judge) nodes notary (map D.seen disks.items) r.node r.why (map D.seen r.disks.items)) }
+        ensures refused { IfErr result (λ r. (judge : Judgement)
+            → IsRefused (meaning F.machine F.reading judge) nodes notary
+            (map D.seen disks.items) r.node r.why (map D.seen r.disks.items)) }
     {
         let node = 0;
         let why = BootFault::Memory;
@@ -151,7 +163,8 @@ impl<D: Bay, F: FlowSet> Net<D, F> {
     /// The network of these parts. There are 16 nodes at most, each has a list of frames, and no cause of theirs is later than the moment;
     /// so it is with the parts of a network that was taken apart. Takes no memory.
     pub fn from_parts(parts: NetParts<D, F>) -> Net<D, F>
-        requires whole { IsNet F.reading (net_of parts.nodes.items parts.waiting.items parts.now.0) }
+        requires whole { IsNet F.reading (net_of parts.nodes.items parts.waiting.items
+            parts.now.0) }
         requires empty { parts.spare.items ≡ [] }
         requires room { length parts.nodes.items ≤ vec_capacity parts.spare }
         ensures { result ≡ net_of parts.nodes.items parts.waiting.items parts.now.0 }
@@ -178,11 +191,14 @@ impl<D: Bay, F: FlowSet> Net<D, F> {
         step: &Step,
         contracts: &J,
     ) -> Result<Outcome, AllocError>
-        ensures serves { KeepsWorld (meaning F.machine F.reading (J.judges contracts.now)) self.old self.new (λ e w v. Serve e step.now w (said result) v) }
-        ensures pairs { ServesPairs (meaning F.machine F.reading (J.judges contracts.now)) step.now (said result) self.old self.new }
+        ensures serves { KeepsWorld (meaning F.machine F.reading (J.judges contracts.now)) self.old
+            self.new (λ e w v. Serve e step.now w (said result) v) }
+        ensures pairs { ServesPairs (meaning F.machine F.reading (J.judges contracts.now)) step.now
+            (said result) self.old self.new }
 
         // Over any disks, also such as tell nothing, and whatever their journals hold.
-        ensures answers { Answered (meaning F.machine F.reading (J.judges contracts.now)) step.now self.old result self.new }
+        ensures answers { Answered (meaning F.machine F.reading (J.judges contracts.now)) step.now
+            self.old result self.new }
         ensures count { length self.new.nodes ≡ length self.old.nodes }
     {
         match step {
@@ -224,11 +240,14 @@ impl<D: Bay, F: FlowSet> Net<D, F> {
         contracts: &J,
     ) -> bool
         requires { (outcomes.old.items ≡ []) × (length steps.now ≤ vec_capacity outcomes.old) }
-        ensures worlds { KeepsWorld (meaning F.machine F.reading (J.judges contracts.now)) self.old self.new (λ e w v. Follows e steps.now outcomes.new.items result w v) }
-        ensures pairs { FollowPairs (meaning F.machine F.reading (J.judges contracts.now)) steps.now outcomes.new.items result self.old self.new }
+        ensures worlds { KeepsWorld (meaning F.machine F.reading (J.judges contracts.now)) self.old
+            self.new (λ e w v. Follows e steps.now outcomes.new.items result w v) }
+        ensures pairs { FollowPairs (meaning F.machine F.reading (J.judges contracts.now)) steps.now
+            outcomes.new.items result self.old self.new }
 
         // Over any disks, also such as tell nothing, and whatever their journals hold.
-        ensures answers { NetFollows (meaning F.machine F.reading (J.judges contracts.now)) steps.now outcomes.new.items result self.old self.new }
+        ensures answers { NetFollows (meaning F.machine F.reading (J.judges contracts.now))
+            steps.now outcomes.new.items result self.old self.new }
         ensures all { result ≡ true → length outcomes.new.items ≡ length steps.now }
         ensures fewer { result ≡ false → length outcomes.new.items < length steps.now }
         ensures count { length self.new.nodes ≡ length self.old.nodes }
@@ -253,7 +272,8 @@ impl<D: Bay, F: FlowSet> Net<D, F> {
     ///
     /// `AllocError` for want of memory at a turn, a post or a delivery; what was done before it stays.
     pub fn drain<J: Judge>(&mut self, alloc: Global, contracts: &J) -> Result<bool, AllocError>
-        ensures { Drains (meaning F.machine F.reading (J.judges contracts.now)) self.old (drain_outcome result) self.new }
+        ensures { Drains (meaning F.machine F.reading (J.judges contracts.now)) self.old
+            (drain_outcome result) self.new }
     {
         'rounds: loop {
             match self.round(alloc, contracts)? {
@@ -266,7 +286,8 @@ impl<D: Bay, F: FlowSet> Net<D, F> {
 
     /// Makes the turns, then the posts, then the deliveries, until something meets a full journal.
     fn round<J: Judge>(&mut self, alloc: Global, contracts: &J) -> Result<Turning, AllocError>
-        ensures drives { Drives (meaning F.machine F.reading (J.judges contracts.now)) self.old self.new (λ W s w v. Turns result (Round s) (RoundStops s) w v) }
+        ensures drives { Drives (meaning F.machine F.reading (J.judges contracts.now)) self.old
+            self.new (λ W s w v. Turns result (Round s) (RoundStops s) w v) }
         ensures moved { IfOk result (λ t. t ≡ turning.Moved → room self.new < room self.old) }
     {
         let turns = self.turns(alloc, contracts)?;
@@ -280,7 +301,8 @@ impl<D: Bay, F: FlowSet> Net<D, F> {
 
     /// Makes the turns at each node in the order of places, until one meets a full journal.
     fn turns<J: Judge>(&mut self, alloc: Global, contracts: &J) -> Result<Turning, AllocError>
-        ensures drives { Drives (meaning F.machine F.reading (J.judges contracts.now)) self.old self.new (λ W s w v. Turns result (InOrder (TurnsAt s) (s.count w)) (TurnsStop s) w v) }
+        ensures drives { Drives (meaning F.machine F.reading (J.judges contracts.now)) self.old
+            self.new (λ W s w v. Turns result (InOrder (TurnsAt s) (s.count w)) (TurnsStop s) w v) }
         ensures moved { IfOk result (λ t. t ≡ turning.Moved → room self.new < room self.old) }
     {
         let mut any_moved = false;
@@ -303,7 +325,8 @@ impl<D: Bay, F: FlowSet> Net<D, F> {
         contracts: &J,
     ) -> Result<Turning, AllocError>
         requires { place < length self.old.nodes }
-        ensures drives { Drives (meaning F.machine F.reading (J.judges contracts.now)) self.old self.new (λ W s w v. Turns result (TurnsAt s place) (StopsAt s place) w v) }
+        ensures drives { Drives (meaning F.machine F.reading (J.judges contracts.now)) self.old
+            self.new (λ W s w v. Turns result (TurnsAt s place) (StopsAt s place) w v) }
         ensures moved { IfOk result (λ t. t ≡ turning.Moved → room self.new < room self.old) }
     {
         let mut moved = false;
@@ -319,7 +342,8 @@ impl<D: Bay, F: FlowSet> Net<D, F> {
 
     /// Posts each node, in the order of places. It asks no contract, so it is the same whatever they judge.
     fn posts(&mut self, alloc: Global) -> Result<(), AllocError>
-        ensures { (judge : Judgement) → Drives (meaning F.machine F.reading judge) self.old self.new (λ W s w v. Posts s w result v) }
+        ensures { (judge : Judgement) → Drives (meaning F.machine F.reading judge) self.old self.new
+            (λ W s w v. Posts s w result v) }
     {
         let count = self.nodes.len();
         'places: for place in 0..count {
@@ -330,7 +354,9 @@ impl<D: Bay, F: FlowSet> Net<D, F> {
 
     /// Makes the deliveries at each node in the order of places, until one meets a full journal. They ask no contract.
     fn deliveries(&mut self, alloc: Global) -> Result<Turning, AllocError>
-        ensures drives { (judge : Judgement) → Drives (meaning F.machine F.reading judge) self.old self.new (λ W s w v. Turns result (InOrder (DeliversAt s) (s.count w)) (HandsStop s) w v) }
+        ensures drives { (judge : Judgement)
+            → Drives (meaning F.machine F.reading judge) self.old self.new
+            (λ W s w v. Turns result (InOrder (DeliversAt s) (s.count w)) (HandsStop s) w v) }
         ensures moved { IfOk result (λ t. t ≡ turning.Moved → room self.new < room self.old) }
     {
         let mut any_moved = false;
@@ -349,7 +375,9 @@ impl<D: Bay, F: FlowSet> Net<D, F> {
     /// that takes a frame sends nothing to itself: so in a coherent world none waits in the end. A delivery asks no contract.
     fn deliveries_at(&mut self, alloc: Global, place: usize) -> Result<Turning, AllocError>
         requires { place < length self.old.nodes }
-        ensures drives { (judge : Judgement) → Drives (meaning F.machine F.reading judge) self.old self.new (λ W s w v. Turns result (DeliversAt s place) (HandStops s place) w v) }
+        ensures drives { (judge : Judgement)
+            → Drives (meaning F.machine F.reading judge) self.old self.new
+            (λ W s w v. Turns result (DeliversAt s place) (HandStops s place) w v) }
         ensures moved { IfOk result (λ t. t ≡ turning.Moved → room self.new < room self.old) }
     {
         let mut moved = false;
@@ -385,7 +413,9 @@ impl<D: Bay, F: FlowSet> Net<D, F> {
         class: u16,
         args: &ByteList,
     ) -> Result<Outcome, AllocError>
-        ensures serves { AtPlace place self.old result self.new (λ n r k. StartServes (unjudged F.machine F.reading) self.old.now class args.now n r k) }
+        ensures serves { AtPlace place self.old result self.new
+            (λ n r k. StartServes (unjudged F.machine F.reading) self.old.now class args.now n r
+            k) }
         ensures clock { self.new.now ≡ self.old.now }
     {
         let place = place as usize;
@@ -406,7 +436,9 @@ impl<D: Bay, F: FlowSet> Net<D, F> {
         pick: Option<u32>,
         contracts: &J,
     ) -> Result<Outcome, AllocError>
-        ensures serves { AtPlace place self.old result self.new (λ n r k. TurnServes (meaning F.machine F.reading (J.judges contracts.now)) self.old.now pick n r k) }
+        ensures serves { AtPlace place self.old result self.new
+            (λ n r k. TurnServes (meaning F.machine F.reading (J.judges contracts.now)) self.old.now
+            pick n r k) }
         ensures clock { self.new.now ≡ self.old.now }
     {
         if place >= self.nodes.len() {
@@ -447,7 +479,8 @@ impl<D: Bay, F: FlowSet> Net<D, F> {
         at: usize,
         repeated: bool,
     ) -> Result<Outcome, AllocError>
-        ensures { HandServes (unjudged F.machine F.reading) repeated place at self.old result self.new }
+        ensures { HandServes (unjudged F.machine F.reading) repeated place at self.old result
+            self.new }
     {
         if place >= self.nodes.len() {
             return Ok(Outcome::Refused {
@@ -475,9 +508,12 @@ impl<D: Bay, F: FlowSet> Net<D, F> {
         at: usize,
         repeated: bool,
     ) -> Result<Outcome, AllocError>
-        requires node { (n : NodeSeen) × (slice_get self.old.nodes place ≡ Some n) × IsSome n.journal }
-        requires frame { (frames : List (List ℕ)) × (slice_get self.old.waiting place ≡ Some frames) × (at < length frames) }
-        ensures { HandServes (unjudged F.machine F.reading) repeated place at self.old result self.new }
+        requires node { (n : NodeSeen) × (slice_get self.old.nodes place ≡ Some n)
+            × IsSome n.journal }
+        requires frame { (frames : List (List ℕ)) × (slice_get self.old.waiting place ≡ Some frames)
+            × (at < length frames) }
+        ensures { HandServes (unjudged F.machine F.reading) repeated place at self.old result
+            self.new }
     {
         make_room(&mut self.waiting, 1)?;
         let now = self.now;
@@ -506,7 +542,8 @@ impl<D: Bay, F: FlowSet> Net<D, F> {
     }
 
     fn boot(&mut self, alloc: Global, place: u8) -> Result<Outcome, AllocError>
-        ensures serves { AtPlace place self.old result self.new (λ n r k. BootServes F.reading n r k) }
+        ensures serves { AtPlace place self.old result self.new
+            (λ n r k. BootServes F.reading n r k) }
         ensures clock { BootClock F.reading place self.old result self.new }
     {
         let place = place as usize;
@@ -524,7 +561,8 @@ impl<D: Bay, F: FlowSet> Net<D, F> {
 
     fn cut(&mut self, place: u8, calls: u64, outcome: u8) -> Result<Outcome, AllocError>
         requires { outcome ≤ 3 }
-        ensures serves { AtPlace place self.old result self.new (λ n r k. CutServes calls outcome n r k) }
+        ensures serves { AtPlace place self.old result self.new
+            (λ n r k. CutServes calls outcome n r k) }
         ensures clock { self.new.now ≡ self.old.now }
     {
         let place = place as usize;

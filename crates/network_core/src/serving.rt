@@ -27,7 +27,8 @@ pub fn start_at<D: Bay, F: FlowSet>(
     args: &ByteList,
 ) -> Result<Outcome, AllocError>
     requires { IsBy F.reading node.old.journal now.0 }
-    ensures serves { StartServes (unjudged F.machine F.reading) now.0 class args.now node.old result node.new }
+    ensures serves { StartServes (unjudged F.machine F.reading) now.0 class args.now node.old result
+        node.new }
     ensures by { IsBy F.reading node.new.journal now.0 }
 {
     match node.start(alloc, now, class, args) {
@@ -56,7 +57,8 @@ pub fn turn_at<D: Bay, F: FlowSet, J: Judge>(
     contracts: &J,
 ) -> Result<Outcome, AllocError>
     requires { IsBy F.reading node.old.journal now.0 }
-    ensures serves { TurnServes (meaning F.machine F.reading (J.judges contracts.now)) now.0 pick node.old result node.new }
+    ensures serves { TurnServes (meaning F.machine F.reading (J.judges contracts.now)) now.0 pick
+        node.old result node.new }
     ensures by { IsBy F.reading node.new.journal now.0 }
 {
     match node.turn_whole(alloc, now, pick, contracts) {
@@ -100,7 +102,8 @@ pub fn take_at<D: Bay, F: FlowSet>(
     bytes: &[u8],
 ) -> Result<Delivery, AllocError>
     requires { IsBy F.reading node.old.journal now.0 }
-    ensures serves { TakeServes (unjudged F.machine F.reading) now.0 bytes.now node.old result node.new }
+    ensures serves { TakeServes (unjudged F.machine F.reading) now.0 bytes.now node.old result
+        node.new }
     ensures by { IsBy F.reading node.new.journal now.0 }
 {
     delivery_of(node.take(alloc, now, bytes))
@@ -170,7 +173,8 @@ pub fn cut_at<D: Bay, F: FlowSet>(
 ) -> Result<Outcome, AllocError>
     requires { outcome ≤ 3 }
     ensures serves { CutServes calls outcome node.old result node.new }
-    ensures by { (now : ℕ) → IsBy F.reading node.old.journal now → IsBy F.reading node.new.journal now }
+    ensures by { (now : ℕ) → IsBy F.reading node.old.journal now
+        → IsBy F.reading node.new.journal now }
 {
     match node.cut_power(calls, outcome) {
         Ok(()) => Ok(if calls == 0 {

@@ -1,11 +1,11 @@
 -- How a journal is opened.
 use Rattle.std.proofs.Common.{◌≡◌, ◌⊎◌, inl, inr, ⊎_elim, ℕ, ◌+◌, ◌≤◌, List, [], ◌∷◌, length, Some, None, Err, true, false, refl, sym, ◌∙◌, ap, subst, arith}
 use Rattle.std.proofs.lemmas.List.{length-map}
-use Rattle.outside.specs.Disk.{DiskView, IsImage, EachImage, IfTold, Burns, BurnsUpTo, clean}
+use Rattle.outside.specs.Disk.{DiskSeen, IsImage, EachImage, IfTold, Burns, BurnsUpTo, clean}
 use Rattle.outside.specs.Faults.{Rose}
 use Rattle.outside.proofs.Moments.{at_now}
 use Rattle.net_base.specs.declared.names.Identity.{Identity}
-use Rattle.disk_journal.specs.Journal.{JournalView, IsReady, IsSound, IsYoung, GivesUp, WasSpelt, journal_of, is_unformatted, formatted, opening_calls, refusal, placed, size_of}
+use Rattle.disk_journal.specs.Journal.{JournalSeen, IsReady, IsSound, IsYoung, GivesUp, WasSpelt, journal_of, is_unformatted, formatted, opening_calls, refusal, placed, size_of}
 use Rattle.disk_journal.specs.declared.fault.OpenFault.{OpenFault}
 use Rattle.disk_journal.specs.declared.fault.OpenFault.TheVariants as open_fault
 use Rattle.node_tables.specs.declared.boot.RebuildFault.{RebuildFault}
@@ -36,7 +36,7 @@ pub kept_image : (x : List ℕ) → IsImage (clean x) x
 kept_image x = record { no_shorter = omega arith; no_longer = omega arith; elsewhere = λ i below free. refl }
 
 -- all that an opening says of the journal that it gives
-pub record Opening (id : Identity) (old : DiskView) (journal : JournalView) (list : List (ℕ × List ℕ)) : Type 0 where
+pub record Opening (id : Identity) (old : DiskSeen) (journal : JournalSeen) (list : List (ℕ × List ℕ)) : Type 0 where
   pub format : old.tells ≡ true → refusal id old.state.kept ≡ None
   pub told : old.tells ≡ true → list ≡ placed 16 (journal_of old.state.kept)
   pub ready : IsReady journal × (journal.of ≡ id)
@@ -54,7 +54,7 @@ pub record Opening (id : Identity) (old : DiskView) (journal : JournalView) (lis
   pub attached : journal.disk.attached ≡ old.attached
   pub rest : (journal.disk.of_file ≡ old.of_file) × (journal.disk.tells ≡ old.tells)
 
-pub opening_tied : (id : Identity) (old : DiskView) (journal : JournalView) (list : List (ℕ × List ℕ)) (bodies : List (List ℕ)) → Opening id old journal list → bodies ≡ bodies_in list → Tied id journal bodies
+pub opening_tied : (id : Identity) (old : DiskSeen) (journal : JournalSeen) (list : List (ℕ × List ℕ)) (bodies : List (List ℕ)) → Opening id old journal list → bodies ≡ bodies_in list → Tied id journal bodies
 opening_tied id old journal list bodies o is =
     let t : Tied id journal (bodies_in list) = record {
       of = o.ready.1;
@@ -67,7 +67,7 @@ opening_tied id old journal list bodies o is =
     } in
     subst (Tied id journal) (sym is) t
 
-pub opening_opens : (id : Identity) (old : DiskView) (journal : JournalView) (list : List (ℕ × List ℕ)) → Opening id old journal list → Opens id (roomless old) (roomless journal.disk) list
+pub opening_opens : (id : Identity) (old : DiskSeen) (journal : JournalSeen) (list : List (ℕ × List ℕ)) → Opening id old journal list → Opens id (roomless old) (roomless journal.disk) list
 opening_opens id old journal list o = record {
   moves = record {
     file = o.rest.0;
@@ -94,7 +94,7 @@ opening_opens id old journal list o = record {
 }
 
 -- all that an opening says of the disk that it gives back
-pub record Closing (id : Identity) (old : DiskView) (why : OpenFault) (new : DiskView) : Type 0 where
+pub record Closing (id : Identity) (old : DiskSeen) (why : OpenFault) (new : DiskSeen) : Type 0 where
   pub refused : old.tells ≡ true → GivesUp why ⊎ (refusal id old.state.kept ≡ Some why)
   pub begun : old.tells ≡ true → IsYoung id old.state.kept → GivesUp why
   pub was : old.tells ≡ true → IsImage old.state.now old.state.kept
@@ -112,14 +112,14 @@ pub record Closing (id : Identity) (old : DiskView) (why : OpenFault) (new : Dis
   pub attached : new.attached ≡ old.attached
   pub rest : (new.of_file ≡ old.of_file) × (new.tells ≡ old.tells)
 
-refuses : (id : Identity) (old new : DiskView) (why : OpenFault) → Closing id old why new → Refuses id why old new
+refuses : (id : Identity) (old new : DiskSeen) (why : OpenFault) → Closing id old why new → Refuses id why old new
 refuses id old new open_fault.Fault c = (c.cause refl, λ calm. (c.calm calm).1 refl)
 refuses id old new open_fault.Memory c = tt
 refuses id old new open_fault.NotAJournal c = λ told. ⊎_elim (λ (g : ⊥). absurd g) (λ e. e) (c.refused told)
 refuses id old new (open_fault.WrongNode found) c = λ told. ⊎_elim (λ (g : ⊥). absurd g) (λ e. e) (c.refused told)
 refuses id old new (open_fault.Damaged at) c = λ told. ⊎_elim (λ (g : ⊥). absurd g) (λ e. e) (c.refused told)
 
-refuses_roomless : (id : Identity) (old new : DiskView) (why : OpenFault) → Refuses id why old new → Refuses id why (roomless old) (roomless new)
+refuses_roomless : (id : Identity) (old new : DiskSeen) (why : OpenFault) → Refuses id why old new → Refuses id why (roomless old) (roomless new)
 refuses_roomless id old new open_fault.Fault h = h
 refuses_roomless id old new open_fault.Memory h = h
 refuses_roomless id old new open_fault.NotAJournal h = h
@@ -133,7 +133,7 @@ gave_up open_fault.NotAJournal h = absurd h
 gave_up (open_fault.WrongNode found) h = absurd h
 gave_up (open_fault.Damaged at) h = absurd h
 
-pub unopened : {F : Type 0} (f : Reads F) (id : Identity) (old new : DiskView) (why : OpenFault) → Closing id old why new → Unbooted f id (roomless old) (boot_of why) (roomless new)
+pub unopened : {F : Type 0} (f : Reads F) (id : Identity) (old new : DiskSeen) (why : OpenFault) → Closing id old why new → Unbooted f id (roomless old) (boot_of why) (roomless new)
 unopened f id old new why c = record {
   moves = record { file = c.rest.0; attached = c.attached; tells = c.rest.1; later = c.later; images = λ told. (c.moments told).0; kept = λ told. (c.moments told).1 };
   form = record { sound = c.sound; young = c.young };
@@ -147,7 +147,7 @@ unopened f id old new why c = record {
   begun = λ told young. inl (gave_up why (c.begun told (young old.state.kept (c.was told))));
 }
 
-unfit : {F : Type 0} (f : Reads F) (id : Identity) (old new : DiskView) (list : List (ℕ × List ℕ)) (why : RebuildFault) → RebuildsAs f id.notary id.nodes id.party list (Err why) → Opens id old new list → Unfit f id old (boot_by why) new
+unfit : {F : Type 0} (f : Reads F) (id : Identity) (old new : DiskSeen) (list : List (ℕ × List ℕ)) (why : RebuildFault) → RebuildsAs f id.notary id.nodes id.party list (Err why) → Opens id old new list → Unfit f id old (boot_by why) new
 unfit f id old new list (rebuild_fault.Damaged at) said o = (list, o, said)
 unfit f id old new list rebuild_fault.Memory said o = (list, o)
 
@@ -155,7 +155,7 @@ unfit f id old new list rebuild_fault.Memory said o = (list, o)
 formatted_stays : (id : Identity) (x : List ℕ) → is_unformatted x ≡ false → formatted id x ≡ x
 formatted_stays id x is = rw is refl
 
-pub unbooted : {F : Type 0} (f : Reads F) (id : Identity) (old : DiskView) (journal : JournalView) (list : List (ℕ × List ℕ)) (why : RebuildFault) → Opening id old journal list → RebuildsAs f id.notary id.nodes id.party list (Err why) → Unbooted f id (roomless old) (boot_by why) (roomless journal.disk)
+pub unbooted : {F : Type 0} (f : Reads F) (id : Identity) (old : DiskSeen) (journal : JournalSeen) (list : List (ℕ × List ℕ)) (why : RebuildFault) → Opening id old journal list → RebuildsAs f id.notary id.nodes id.party list (Err why) → Unbooted f id (roomless old) (boot_by why) (roomless journal.disk)
 unbooted f id old journal list why o said =
     let opens = opening_opens id old journal list o in
     let unfits = unfit f id (roomless old) (roomless journal.disk) list why said opens in

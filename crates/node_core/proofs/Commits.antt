@@ -7,7 +7,7 @@ use Rattle.net_base.specs.declared.names.Identity.{Identity}
 use Rattle.net_base.specs.declared.causes.Cause.{Cause}
 use Rattle.net_base.specs.declared.causes.Event.{Event}
 use Rattle.session_wire.specs.Sessions.{Sent}
-use Rattle.disk_journal.specs.Journal.{JournalView, IsSound, journal_of, is_full_at}
+use Rattle.disk_journal.specs.Journal.{JournalSeen, IsSound, journal_of, is_full_at}
 use Rattle.net_model.specs.Environment.{Environment}
 use Rattle.net_model.specs.State.{NodeState, Effect, apply_effect}
 use Rattle.net_model.specs.Steps.{node_step, next_cause, body_in, stamp_in}
@@ -42,7 +42,7 @@ room_left f stamp bodies room =
     let other = leb-false (2 ^ 63 - 1) stamp late.1 in
     (parts.0, (omega (arith, leb-false 65536 (length bodies) here.0), omega (arith, own, other)))
 
-pub journal_room : {F : Type 0} (f : Reads F) (id : Identity) (stamp : ℕ) (journal : JournalView) (bodies : List (List ℕ)) → Tied id journal bodies → is_full f stamp bodies ≡ false → is_full_at journal.count journal.length ≡ false
+pub journal_room : {F : Type 0} (f : Reads F) (id : Identity) (stamp : ℕ) (journal : JournalSeen) (bodies : List (List ℕ)) → Tied id journal bodies → is_full f stamp bodies ≡ false → is_full_at journal.count journal.length ≡ false
 journal_room f id stamp journal bodies tied room = rw (tied.counted, tied.ended) (room_left f stamp bodies room).0
 
 -- the stamp of an item that there is room for is none too great
@@ -51,7 +51,7 @@ room_early f stamp bodies room = let late = (room_left f stamp bodies room).1.1 
 
 -- ---- what a journal holds
 
-pub tied_holds : (id : Identity) (journal : JournalView) (bodies : List (List ℕ)) → Tied id journal bodies → Holds id (roomless journal.disk) bodies
+pub tied_holds : (id : Identity) (journal : JournalSeen) (bodies : List (List ℕ)) → Tied id journal bodies → Holds id (roomless journal.disk) bodies
 tied_holds id journal bodies tied =
     let only : journal.disk.tells ≡ true → (c : List ℕ) → IsImage journal.disk.state.now c → c ≡ journal.disk.state.kept = λ told c image. clean_image journal.disk.state.kept c (subst (λ s. IsImage s c) (tied.ready told).synced image) in
     record {
@@ -104,7 +104,7 @@ module _ {F : Type 0} (w : Environment F) (id : Identity) (now : ℕ) (within : 
       let there : state_of w.frame_at (bodies ++ body ∷ []) ≡ apply_effect state cause effect = state_push w.frame_at bodies body ∙ ap (λ o. apply_read state o) reads in
       subst (λ (s : NodeState F). IdleBelow s.sessions at s.flows (min below (flow_in step.cause.event))) (sym there) (idle_after w id.party.0 now at state cause (body_in item) effect below sound.numbered may.ready.effect idle)
 
-  module _ (old new : JournalView) (more : List (List ℕ)) (acked after : List ℕ) (of : old.of ≡ id) where
+  module _ (old new : JournalSeen) (more : List (List ℕ)) (acked after : List ℕ) (of : old.of ≡ id) where
     said_of : (result : Result (List ℕ) CommitFault) → LogsAs w.frame_at (step_record step) bodies old result new → LogsAs w.frame_at (record { cause = cause; effect = effect }) bodies old result new
     said_of result said = subst (λ (c : Cause). LogsAs w.frame_at (record { cause = c; effect = effect }) bodies old result new) may.cause said
 

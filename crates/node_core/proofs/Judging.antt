@@ -2,7 +2,7 @@
 use Rattle.std.proofs.Common.{◌≡◌, inl, inr, ℕ, List, Option, Some, None, MatchOption, Result, Ok, Err, Bool, true, false, cond, is_none, refl, ◌∙◌}
 use Rattle.std.specs.Prelude.{⊤}
 use Rattle.std.specs.Option.{option_map}
-use Rattle.outside.specs.Disk.{DiskView}
+use Rattle.outside.specs.Disk.{DiskSeen}
 use Rattle.net_base.specs.declared.names.Identity.{Identity}
 use Rattle.net_base.specs.declared.names.Key.{Key}
 use Rattle.net_base.specs.declared.values.Party.{Party}
@@ -76,7 +76,7 @@ module _ {F : Type 0} (m : Machine F) (r : Reads F) (j k : Judgement) (id : Iden
     step = step_same me (state_of r bodies) (next_cause (state_of r bodies) now ev item) item begins ∙ p.step;
   }
 
-  appended_any : (now : ℕ) (bodies : List (List ℕ)) (ev : Event) (item : Option Sent) (body : List ℕ) (me : Identity) (old new : DiskView) → Begins ev → Appended here me now bodies ev item body old new → Appended there me now bodies ev item body old new
+  appended_any : (now : ℕ) (bodies : List (List ℕ)) (ev : Event) (item : Option Sent) (body : List ℕ) (me : Identity) (old new : DiskSeen) → Begins ev → Appended here me now bodies ev item body old new → Appended there me now bodies ev item body old new
   appended_any now bodies ev item body me old new begins a = record {
     pends = pends_any me.party.0 now bodies ev item body begins a.pends;
     room = a.room;
@@ -87,7 +87,7 @@ module _ {F : Type 0} (m : Machine F) (r : Reads F) (j k : Judgement) (id : Iden
     power = a.power;
   }
 
-  failing_any : (now : ℕ) (bodies : List (List ℕ)) (ev : Event) (item : Option Sent) (body : List ℕ) (me : Identity) (old new : DiskView) → Begins ev → Failing here me now bodies ev item body old new → Failing there me now bodies ev item body old new
+  failing_any : (now : ℕ) (bodies : List (List ℕ)) (ev : Event) (item : Option Sent) (body : List ℕ) (me : Identity) (old new : DiskSeen) → Begins ev → Failing here me now bodies ev item body old new → Failing there me now bodies ev item body old new
   failing_any now bodies ev item body me old new begins a = record {
     pends = pends_any me.party.0 now bodies ev item body begins a.pends;
     room = a.room;

@@ -1,7 +1,7 @@
 -- A node that is up: its power is cut, or it takes no more records.
 use Rattle.std.proofs.Common.{◌≡◌, inl, inr, ℕ, zero, suc, ◌<◌, List, [], Option, Some, None, Result, Ok, Err, IsOk, OnOk, Bool, true, false, max, refl, sym, ◌∙◌, ap, subst, arith}
 use Rattle.std.specs.Result.{is_err}
-use Rattle.outside.specs.Disk.{DiskState, DiskView, IsImage, CutsPower, clean}
+use Rattle.outside.specs.Disk.{DiskState, DiskSeen, IsImage, CutsPower, clean}
 use Rattle.outside.proofs.Moments.{started, after_cut as image_after_cut}
 use Rattle.net_base.specs.declared.names.Identity.{Identity}
 use Rattle.net_base.specs.declared.causes.Event.{Event}
@@ -34,10 +34,10 @@ cut_kept d e (inl lost) = lost.left
 cut_kept d e (inr same) = subst (λ (x : DiskState). IsImage d.now x.kept) (sym same.0) (subst (λ s. IsImage s d.kept) (sym same.1) (kept_image d.kept))
 
 -- a disk on which a fuse was armed
-abbrev pub fused : DiskView → Option (ℕ × ℕ) → Bool → DiskView
+abbrev pub fused : DiskSeen → Option (ℕ × ℕ) → Bool → DiskSeen
 fused old fuse calm = record old { fuse = fuse; calm = calm }
 
-cuts_now : (id : Identity) (outcome : ℕ) (old new : DiskView) (fuse : Option (ℕ × ℕ)) (calm : Bool) → old.of_file ≡ false → CutsNow outcome (fused old fuse calm) new → CutsDisk id zero outcome old new
+cuts_now : (id : Identity) (outcome : ℕ) (old new : DiskSeen) (fuse : Option (ℕ × ℕ)) (calm : Bool) → old.of_file ≡ false → CutsNow outcome (fused old fuse calm) new → CutsDisk id zero outcome old new
 cuts_now id outcome old new fuse calm memory cut = record {
   memory = memory;
   moves = record {
@@ -55,7 +55,7 @@ cuts_now id outcome old new fuse calm memory cut = record {
   faults = cut.faults;
 }
 
-arms : (id : Identity) (calls outcome : ℕ) (old : DiskView) (calm : Bool) → 0 < calls → old.of_file ≡ false → (old.tells ≡ true → old.state.now ≡ clean old.state.kept) → CutsDisk id calls outcome old (fused old (Some (calls, outcome)) calm)
+arms : (id : Identity) (calls outcome : ℕ) (old : DiskSeen) (calm : Bool) → 0 < calls → old.of_file ≡ false → (old.tells ≡ true → old.state.now ≡ clean old.state.kept) → CutsDisk id calls outcome old (fused old (Some (calls, outcome)) calm)
 arms id calls outcome old calm some memory synced = record {
   memory = memory;
   moves = record {
@@ -79,7 +79,7 @@ is_down id (Down disk) whole none = tt
 is_down id (Up up) whole none = cc
 is_down id Moved whole none = absurd whole
 
-pub down_seen : {D F : Type 0} (seen : D → DiskView) (id : Identity) (state : State D F) (disk : D) → state ≡ Down disk → seen_in seen id state ≡ seen_over id (seen disk)
+pub down_seen : {D F : Type 0} (seen : D → DiskSeen) (id : Identity) (state : State D F) (disk : D) → state ≡ Down disk → seen_in seen id state ≡ seen_over id (seen disk)
 down_seen seen id state disk is = ap (seen_in seen id) is
 
 down_journal : {D F : Type 0} (state : State D F) → IsDown state → journal_in state ≡ None
@@ -92,7 +92,7 @@ down_acked (Down disk) h = refl
 down_acked (Up up) h = absurd h
 down_acked Moved h = absurd h
 
-pub cut_down : {D F : Type 0} (seen : D → DiskView) (id : Identity) (calls outcome : ℕ) (fuse : Option (ℕ × ℕ)) (up armed : UpSeen) (fallen state : State D F) → calls ≡ 0 → up.journal.disk.of_file ≡ false → armed.journal.disk ≡ record up.journal.disk { fuse = fuse; calm = armed.journal.disk.calm } → disk_in seen fallen ≡ roomless armed.journal.disk
+pub cut_down : {D F : Type 0} (seen : D → DiskSeen) (id : Identity) (calls outcome : ℕ) (fuse : Option (ℕ × ℕ)) (up armed : UpSeen) (fallen state : State D F) → calls ≡ 0 → up.journal.disk.of_file ≡ false → armed.journal.disk ≡ record up.journal.disk { fuse = fuse; calm = armed.journal.disk.calm } → disk_in seen fallen ≡ roomless armed.journal.disk
     → CutsNow outcome (disk_in seen fallen) (disk_in seen state) → IsDown state → CutAnswers {T = Unit {0}} calls outcome (seen_up id up) (Ok tt) (record { identity = id; disk = disk_in seen state; journal = journal_in state; acked = acked_in state })
 cut_down seen id calls outcome fuse up armed fallen state none memory is fell cut down =
     let before : disk_in seen fallen ≡ fused (roomless up.journal.disk) fuse armed.journal.disk.calm = fell ∙ ap roomless is in
@@ -127,7 +127,7 @@ memory_up w id now event item up new fault is said =
     same_up id up new h.0 h.1 h.2
 
 -- a node that took a frame
-pub fell : {D F : Type 0} (seen : D → DiskView) (id : Identity) (up : UpSeen) (state : State D F) → disk_in seen state ≡ roomless up.journal.disk → IsDown state → record { identity = id; disk = disk_in seen state; journal = journal_in state; acked = acked_in state } ≡ seen_down id up
+pub fell : {D F : Type 0} (seen : D → DiskSeen) (id : Identity) (up : UpSeen) (state : State D F) → disk_in seen state ≡ roomless up.journal.disk → IsDown state → record { identity = id; disk = disk_in seen state; journal = journal_in state; acked = acked_in state } ≡ seen_down id up
 fell seen id up state disk down = λ i. record { identity = id; disk = disk i; journal = down_journal state down i; acked = down_acked state down i }
 
 pub after_fault : (id : Identity) (answer : Result Taken TakeFault) (up : UpSeen) → is_fault answer ≡ true → seen_after id answer up ≡ seen_down id up

@@ -1,6 +1,6 @@
 -- What contracts see of a node, and what its calls answer.
 use Rattle.std.specs.Prelude.{◌≡◌, ◌⊎◌, ℕ, zero, suc, ◌+◌, ◌<◌, ◌≤◌, true, false, MatchOption, List, [], ◌∷◌, ◌++◌, length, map, Option, Some, None, Result, Ok, Err, IsOk, IfSome, ⊤}
-use Rattle.outside.specs.Disk.{DiskView, IfTold, IsImage, LeavesBy, Burns, BurnsUpTo}
+use Rattle.outside.specs.Disk.{DiskSeen, IfTold, IsImage, LeavesBy, Burns, BurnsUpTo}
 use Rattle.outside.specs.Faults.{Rose}
 use Rattle.net_base.specs.declared.names.Identity.{Identity}
 use Rattle.net_base.specs.declared.causes.Event.{Event}
@@ -13,7 +13,7 @@ use Rattle.net_model.specs.Environment.{Environment}
 use Rattle.net_model.specs.State.{Record, Effect}
 use Rattle.net_model.specs.Steps.{place, body_in, stamp_in, node_step, next_cause}
 use Rattle.net_model.specs.Enabled.{picked}
-use Rattle.disk_journal.specs.Journal.{JournalView, IsReady, IsYoung, WasSpelt, journal_of, is_unformatted, formatted, opening_calls, refusal, placed}
+use Rattle.disk_journal.specs.Journal.{JournalSeen, IsReady, IsYoung, WasSpelt, journal_of, is_unformatted, formatted, opening_calls, refusal, placed}
 use Rattle.disk_journal.specs.declared.fault.OpenFault.{OpenFault}
 use Rattle.disk_journal.specs.declared.fault.OpenFault.TheVariants as open_fault
 use Rattle.flow_records.specs.declared.step.Step.{Step}
@@ -42,14 +42,14 @@ use Rattle.node_core.specs.Disks.{roomless, Moves, KeepsForm, Holds, OldOrMore, 
 
 -- a node that is up as contracts see it
 pub record UpSeen : Type 0 where
-  pub journal : JournalView
+  pub journal : JournalSeen
   pub bodies : List (List ℕ)
   pub acked : List ℕ
 
 -- a node as contracts see it: its disk without the room, and its bodies while it is up, none while it is down
 pub record NodeSeen : Type 0 where
   pub identity : Identity
-  pub disk : DiskView
+  pub disk : DiskSeen
   pub journal : Option (List (List ℕ))
   -- how many of the items that it sent are acknowledged, session by session; none while it is down
   pub acked : List ℕ
@@ -61,7 +61,7 @@ pub record IsMember (id : Identity) : Type 0 where
   pub notary : id.notary.0 < id.nodes
 
 -- a journal that took every append holds these bodies
-pub record Tied (id : Identity) (journal : JournalView) (bodies : List (List ℕ)) : Type 0 where
+pub record Tied (id : Identity) (journal : JournalSeen) (bodies : List (List ℕ)) : Type 0 where
   pub of : journal.of ≡ id
   pub ready : IsReady journal
   pub counted : journal.count ≡ length bodies
@@ -77,13 +77,13 @@ pub record Pends {F : Type 0} (w : Environment F) (me now : ℕ) (bodies : List 
   pub step : node_step w me (state_of w.frame_at bodies) (next_cause (state_of w.frame_at bodies) now event item) item ≡ Some (state_of w.frame_at (bodies ++ body ∷ []), effect)
 
 -- an append is four writes and syncs, with power to the end: a fuse that ends within them fails it
-pub record AppendsWithPower (old new : DiskView) : Type 0 where
+pub record AppendsWithPower (old new : DiskSeen) : Type 0 where
   pub burns : Burns 4 old new
   pub before : old.power ≡ true
   pub after : new.power ≡ true
 
 -- one record was appended, and every image has it
-pub record Appended {F : Type 0} (w : Environment F) (id : Identity) (now : ℕ) (bodies : List (List ℕ)) (event : Event) (item : Option Sent) (body : List ℕ) (old new : DiskView) : Type 0 where
+pub record Appended {F : Type 0} (w : Environment F) (id : Identity) (now : ℕ) (bodies : List (List ℕ)) (event : Event) (item : Option Sent) (body : List ℕ) (old new : DiskSeen) : Type 0 where
   pub pends : Pends w id.party.0 now bodies event item body
   pub room : is_full w.frame_at (stamp_in item) bodies ≡ false
   pub moves : Moves old new (OldOrMore bodies body)
@@ -93,7 +93,7 @@ pub record Appended {F : Type 0} (w : Environment F) (id : Identity) (now : ℕ)
   pub power : AppendsWithPower old new
 
 -- the disk failed: each image has the old bodies, or these and the one pending
-pub record Failing {F : Type 0} (w : Environment F) (id : Identity) (now : ℕ) (bodies : List (List ℕ)) (event : Event) (item : Option Sent) (body : List ℕ) (old new : DiskView) : Type 0 where
+pub record Failing {F : Type 0} (w : Environment F) (id : Identity) (now : ℕ) (bodies : List (List ℕ)) (event : Event) (item : Option Sent) (body : List ℕ) (old new : DiskSeen) : Type 0 where
   pub pends : Pends w id.party.0 now bodies event item body
   pub room : is_full w.frame_at (stamp_in item) bodies ≡ false
   pub moves : Moves old new (OldOrMore bodies body)
@@ -104,7 +104,7 @@ pub record Failing {F : Type 0} (w : Environment F) (id : Identity) (now : ℕ) 
   pub burns : BurnsUpTo 4 old new
 
 -- what an append of a record answers: every image has it; nothing changed but the room; or it may stand or not
-abbrev pub LogsAs : {F : Type 0} → Reads F → Record F → List (List ℕ) → JournalView → Result (List ℕ) CommitFault → JournalView → Type 0
+abbrev pub LogsAs : {F : Type 0} → Reads F → Record F → List (List ℕ) → JournalSeen → Result (List ℕ) CommitFault → JournalSeen → Type 0
 LogsAs frame_at r bodies old (Ok body) new = (record_of frame_at body ≡ Some r) × Tied old.of new (bodies ++ body ∷ []) × Moves (roomless old.disk) (roomless new.disk) (OldOrMore bodies body) × KeepsForm old.of (roomless old.disk) (roomless new.disk) × (old.disk.calm ≡ true → new.disk.calm ≡ true) × AppendsWithPower (roomless old.disk) (roomless new.disk)
 LogsAs frame_at r bodies old (Err commit_fault.Memory) new = (roomless new.disk ≡ roomless old.disk) × Tied old.of new bodies
 LogsAs frame_at r bodies old (Err commit_fault.Fault) new = (body : List ℕ) × (record_of frame_at body ≡ Some r) × Moves (roomless old.disk) (roomless new.disk) (OldOrMore bodies body) × KeepsForm old.of (roomless old.disk) (roomless new.disk) × Rose old.disk.faults new.disk.faults × (old.disk.calm ≡ true → ⊥) × BurnsUpTo 4 (roomless old.disk) (roomless new.disk)
@@ -205,7 +205,7 @@ boot_of (open_fault.Damaged at) = boot_fault.Damaged at
 boot_of open_fault.Memory = boot_fault.Memory
 
 -- a journal was opened, and gave this list of bodies, each with the place of its gate
-pub record Opens (id : Identity) (old new : DiskView) (list : List (ℕ × List ℕ)) : Type 0 where
+pub record Opens (id : Identity) (old new : DiskSeen) (list : List (ℕ × List ℕ)) : Type 0 where
   pub moves : Moves old new WasSpelt
   pub form : KeepsForm id old new
   pub holds : Holds id new (map (λ x. x.1) list)
@@ -221,7 +221,7 @@ pub record Opens (id : Identity) (old new : DiskView) (list : List (ℕ × List 
   pub no_more : BurnsUpTo 7 old new
 
 -- why an opening was refused, and what it left
-abbrev pub Refuses : Identity → OpenFault → DiskView → DiskView → Type 0
+abbrev pub Refuses : Identity → OpenFault → DiskSeen → DiskSeen → Type 0
 Refuses id open_fault.Fault old new = Rose old.faults new.faults × (old.calm ≡ true → ⊥)
 Refuses id open_fault.Memory old new = ⊤
 Refuses id open_fault.NotAJournal old new = old.tells ≡ true → refusal id old.state.kept ≡ Some open_fault.NotAJournal
@@ -229,11 +229,11 @@ Refuses id (open_fault.WrongNode found) old new = old.tells ≡ true → refusal
 Refuses id (open_fault.Damaged at) old new = old.tells ≡ true → refusal id old.state.kept ≡ Some (open_fault.Damaged at)
 
 -- the opening was refused
-abbrev pub Unopened : Identity → DiskView → BootFault → DiskView → Type 0
+abbrev pub Unopened : Identity → DiskSeen → BootFault → DiskSeen → Type 0
 Unopened id old why new = (fault : OpenFault) × (why ≡ boot_of fault) × Refuses id fault old new
 
 -- the journal was opened, and its records refused
-abbrev pub Unfit : {F : Type 0} → Reads F → Identity → DiskView → BootFault → DiskView → Type 0
+abbrev pub Unfit : {F : Type 0} → Reads F → Identity → DiskSeen → BootFault → DiskSeen → Type 0
 Unfit frame_at id old (boot_fault.Damaged at) new = (list : List (ℕ × List ℕ)) × Opens id old new list × (misfit frame_at id.notary id.nodes id.party list ≡ Some at)
 Unfit frame_at id old boot_fault.Memory new = (list : List (ℕ × List ℕ)) × Opens id old new list
 Unfit frame_at id old _ new = ⊥
@@ -245,7 +245,7 @@ GaveUp boot_fault.Memory = ⊤
 GaveUp _ = ⊥
 
 -- a boot was refused: what is kept spells the same journal, and is the same bytes where a journal was begun and finished, but after a fault; where no image was foreign or damaged as it began, it gave up, or a record doesn't fit
-pub record Unbooted {F : Type 0} (frame_at : Reads F) (id : Identity) (old : DiskView) (why : BootFault) (new : DiskView) : Type 0 where
+pub record Unbooted {F : Type 0} (frame_at : Reads F) (id : Identity) (old : DiskSeen) (why : BootFault) (new : DiskSeen) : Type 0 where
   pub moves : Moves old new WasSpelt
   pub form : KeepsForm id old new
   pub same : (why ≡ boot_fault.Fault → ⊥) → IfTold old new (λ d e. journal_of e.kept ≡ journal_of d.kept)
@@ -260,7 +260,7 @@ pub record Unbooted {F : Type 0} (frame_at : Reads F) (id : Identity) (old : Dis
   pub begun : old.tells ≡ true → ((c : List ℕ) → IsImage old.state.now c → IsYoung id c) → GaveUp why ⊎ Unfit frame_at id old why new
 
 -- a boot gave this list of bodies, each a record that fits
-pub record Booted {F : Type 0} (frame_at : Reads F) (id : Identity) (old new : DiskView) (list : List (ℕ × List ℕ)) : Type 0 where
+pub record Booted {F : Type 0} (frame_at : Reads F) (id : Identity) (old new : DiskSeen) (list : List (ℕ × List ℕ)) : Type 0 where
   pub opens : Opens id old new list
   pub fits : misfit frame_at id.notary id.nodes id.party list ≡ None
 
@@ -283,7 +283,7 @@ acks_after_cut zero acked = []
 acks_after_cut (suc calls) acked = acked
 
 -- the disk after a cut: the power is gone and what is kept is an image, as the outcome says, or a fuse is armed and all else is as it was
-pub record CutsDisk (id : Identity) (calls outcome : ℕ) (old new : DiskView) : Type 0 where
+pub record CutsDisk (id : Identity) (calls outcome : ℕ) (old new : DiskSeen) : Type 0 where
   pub memory : old.of_file ≡ false
   pub moves : Moves old new OneOf
   pub form : KeepsForm id old new

@@ -1,6 +1,6 @@
 -- Where a node's disk is.
 use Rattle.std.specs.Prelude.{◌≡◌, ◌⊎◌, ℕ, Bool, true, false, List, [], Option, Some, None, Result, Err, ⊤}
-use Rattle.outside.specs.Disk.{DiskView, clean}
+use Rattle.outside.specs.Disk.{DiskSeen, clean}
 use Rattle.net_base.specs.declared.names.Identity.{Identity}
 use Rattle.session_table.specs.declared.resent.Item.{Item}
 use Rattle.net_model.specs.Environment.{Environment}
@@ -14,11 +14,11 @@ use Rattle.node_core.specs.Seen.{UpSeen, NodeSeen, Tied}
 use Rattle.node_core.specs.Takes.{AcceptsAs}
 
 -- no disk at all
-abbrev pub no_disk : DiskView
+abbrev pub no_disk : DiskSeen
 no_disk = record { tells = false; state = record { kept = []; now = clean []; past = [] }; faults = 0; calm = false; power = false; fuse = None; of_file = false; attached = None; room_end = 0; room_writes = 0 }
 
 -- what contracts see of the disk, wherever it is
-abbrev pub disk_in : {D F : Type 0} → (D → DiskView) → State D F → DiskView
+abbrev pub disk_in : {D F : Type 0} → (D → DiskSeen) → State D F → DiskSeen
 disk_in seen (Down disk) = roomless (seen disk)
 disk_in seen (Up up) = roomless up.journal.disk
 disk_in seen Moved = no_disk
@@ -45,11 +45,11 @@ IsDown (Down disk) = ⊤
 IsDown _ = ⊥
 
 -- what contracts see of a node in this state
-abbrev pub seen_in : {D F : Type 0} → (D → DiskView) → Identity → State D F → NodeSeen
+abbrev pub seen_in : {D F : Type 0} → (D → DiskSeen) → Identity → State D F → NodeSeen
 seen_in seen id state = record { identity = id; disk = disk_in seen state; journal = journal_in state; acked = acked_in state }
 
 -- a node that is down over this disk, as contracts see it
-abbrev pub seen_over : Identity → DiskView → NodeSeen
+abbrev pub seen_over : Identity → DiskSeen → NodeSeen
 seen_over id disk = record { identity = id; disk = roomless disk; journal = None; acked = [] }
 
 -- a node that is up, as contracts see it

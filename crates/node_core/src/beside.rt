@@ -34,7 +34,8 @@ impl<D: Disk, F: FlowSet> Up<D, F> {
 
     /// Whether the flow of an event waits for a job. Takes no memory.
     pub fn awaits(&self, identity: &Identity, event: &Event) -> bool
-        ensures { result ≡ is_some (awaited_in identity.now (state_of F.reading self.now.bodies) event.now) }
+        ensures { result ≡ is_some (awaited_in identity.now
+            (state_of F.reading self.now.bodies) event.now) }
     {
         self.tables.kept();
         let flows = self.tables.flows();
@@ -44,7 +45,9 @@ impl<D: Disk, F: FlowSet> Up<D, F> {
 
     /// Whether the flow of a number waits for a job that is out.
     fn is_held(&self, identity: &Identity, claims: &[u32], number: u32) -> bool
-        ensures { result ≡ (list_any (λ f. f == number) claims.now && is_some (awaited_in identity.now (state_of F.reading self.now.bodies) (Move number))) }
+        ensures { result ≡ (list_any (λ f. f == number) claims.now
+            && is_some (awaited_in identity.now (state_of F.reading self.now.bodies)
+            (Move number))) }
     {
         claims.contains(&number) && self.awaits(identity, &Event::Move { flow: number })
     }
@@ -58,7 +61,8 @@ impl<D: Disk, F: FlowSet> Up<D, F> {
         now: Moment,
         number: u32,
     ) -> Option<Event>
-        ensures { result ≡ free_there identity.now (state_of F.reading self.now.bodies) claims.now now.0 number }
+        ensures { result ≡ free_there identity.now
+            (state_of F.reading self.now.bodies) claims.now now.0 number }
     {
         self.tables.kept();
         if number < self.idle.below_at(now) {
@@ -80,7 +84,8 @@ impl<D: Disk, F: FlowSet> Up<D, F> {
         now: Moment,
         numbers: &[u32],
     ) -> Option<Event>
-        ensures { result ≡ first_there identity.now (state_of F.reading self.now.bodies) claims.now now.0 numbers.now }
+        ensures { result ≡ first_there identity.now
+            (state_of F.reading self.now.bodies) claims.now now.0 numbers.now }
     {
         for number in numbers {
             let event = self.free_event(identity, claims, now, *number);
@@ -99,8 +104,12 @@ impl<D: Disk, F: FlowSet> Up<D, F> {
         now: Moment,
         pick: Option<u32>,
     ) -> Option<Event>
-        ensures event { (judge : Judgement) → result ≡ free_at (environment (meaning F.machine F.reading judge) identity.now) identity.now now.0 pick claims.now self.now.bodies }
-        ensures own { IfSome result (λ e. picked_at (environment (unjudged F.machine F.reading) identity.now) now.0 (Some (flow_in e)) self.now.bodies ≡ Some e) }
+        ensures event { (judge : Judgement)
+            → result ≡ free_at (environment (meaning F.machine F.reading judge) identity.now)
+            identity.now now.0 pick claims.now self.now.bodies }
+        ensures own { IfSome result (λ e. picked_at
+            (environment (unjudged F.machine F.reading) identity.now) now.0
+            (Some (flow_in e)) self.now.bodies ≡ Some e) }
     {
         self.tables.kept();
         let flows = self.tables.flows();
@@ -119,8 +128,13 @@ impl<D: Disk, F: FlowSet> Up<D, F> {
         now: Moment,
         pick: Option<u32>,
     ) -> Option<Picked>
-        ensures event { (judge : Judgement) → option_map (λ p. p.event) result ≡ free_at (environment (meaning F.machine F.reading judge) identity.now) identity.now now.0 pick claims.now self.now.bodies }
-        ensures own { IfSome result (λ p. picked_at (environment (unjudged F.machine F.reading) identity.now) now.0 (Some (flow_in p.event)) self.now.bodies ≡ Some p.event) }
+        ensures event { (judge : Judgement)
+            → option_map (λ p. p.event) result
+            ≡ free_at (environment (meaning F.machine F.reading judge) identity.now) identity.now
+            now.0 pick claims.now self.now.bodies }
+        ensures own { IfSome result (λ p. picked_at
+            (environment (unjudged F.machine F.reading) identity.now) now.0
+            (Some (flow_in p.event)) self.now.bodies ≡ Some p.event) }
         ensures idle { IfSome result (λ p. AreIdle (state_of F.reading self.now.bodies) p.idle) }
     {
         self.tables.kept();
@@ -144,8 +158,11 @@ impl<D: Disk, F: FlowSet> Up<D, F> {
         now: Moment,
         event: &Event,
     ) -> Result<Option<Job>, AllocError>
-        requires { (pick : Option ℕ) × (picked_at (environment (unjudged F.machine F.reading) identity.now) now.0 pick self.now.bodies ≡ Some event.now) }
-        ensures job { IfOk result (λ job. job ≡ awaited_in identity.now (state_of F.reading self.now.bodies) event.now) }
+        requires { (pick : Option ℕ) × (picked_at
+            (environment (unjudged F.machine F.reading) identity.now) now.0 pick self.now.bodies
+            ≡ Some event.now) }
+        ensures job { IfOk result (λ job. job
+            ≡ awaited_in identity.now (state_of F.reading self.now.bodies) event.now) }
         ensures moves { IfOk result (λ job. IfSome job (λ j. event.now ≡ Move j.flow)) }
         ensures limits { IfOk result (λ job. IfSome job IsJob) }
     {
@@ -164,9 +181,13 @@ impl<D: Disk, F: FlowSet> Up<D, F> {
         now: Moment,
         event: &Event,
     ) -> Result<Boxed<Job>, AllocError>
-        requires picked { (pick : Option ℕ) × (picked_at (environment (unjudged F.machine F.reading) identity.now) now.0 pick self.now.bodies ≡ Some event.now) }
-        requires waits { is_some (awaited_in identity.now (state_of F.reading self.now.bodies) event.now) ≡ true }
-        ensures job { IfOk result (λ job. awaited_in identity.now (state_of F.reading self.now.bodies) event.now ≡ Some job) }
+        requires picked { (pick : Option ℕ)
+            × (picked_at (environment (unjudged F.machine F.reading) identity.now) now.0 pick
+            self.now.bodies ≡ Some event.now) }
+        requires waits { is_some (awaited_in identity.now
+            (state_of F.reading self.now.bodies) event.now) ≡ true }
+        ensures job { IfOk result (λ job. awaited_in identity.now
+            (state_of F.reading self.now.bodies) event.now ≡ Some job) }
         ensures moves { IfOk result (λ job. event.now ≡ Move job.flow) }
         ensures limits { IfOk result IsJob }
     {
@@ -183,9 +204,12 @@ impl<D: Disk, F: FlowSet> Up<D, F> {
         at: &Checkpoint<F>,
         job: &Job,
     ) -> Result<(), SettleFault>
-        requires { option_and_then checkpoint_of (slice_get (state_of F.reading self.now.bodies).flows job.now.flow) ≡ Some at.now }
-        ensures ok { OnOk result (StillWaits identity.now (state_of F.reading self.now.bodies) job.now) }
-        ensures refused { IfErr result (NotAwaited identity.now (state_of F.reading self.now.bodies) job.now) }
+        requires { option_and_then checkpoint_of
+            (slice_get (state_of F.reading self.now.bodies).flows job.now.flow) ≡ Some at.now }
+        ensures ok { OnOk result (StillWaits identity.now
+            (state_of F.reading self.now.bodies) job.now) }
+        ensures refused { IfErr result (NotAwaited identity.now
+            (state_of F.reading self.now.bodies) job.now) }
     {
         self.tables.kept();
         if at.step != job.step {
@@ -208,8 +232,10 @@ impl<D: Disk, F: FlowSet> Up<D, F> {
     /// `Stale` exactly where the flow isn't live or is at another step, `Foreign` exactly where it is at that step and waits for
     /// another job or for none.
     pub fn check(&self, identity: &Identity, job: &Job) -> Result<(), SettleFault>
-        ensures ok { OnOk result (StillWaits identity.now (state_of F.reading self.now.bodies) job.now) }
-        ensures refused { IfErr result (NotAwaited identity.now (state_of F.reading self.now.bodies) job.now) }
+        ensures ok { OnOk result (StillWaits identity.now
+            (state_of F.reading self.now.bodies) job.now) }
+        ensures refused { IfErr result (NotAwaited identity.now
+            (state_of F.reading self.now.bodies) job.now) }
     {
         match self.tables.flows().get(job.flow) {
             Some(FlowView::Live(at)) => self.check_at(identity, at, job),
@@ -231,11 +257,20 @@ impl<D: Disk, F: FlowSet> Up<D, F> {
     ) -> Result<Step<F>, AllocError>
         requires identity { IsIdentity identity.now }
         requires tied { Tied identity.now self.now.journal self.now.bodies }
-        requires picked { (pick : Option ℕ) × (picked_at (environment (unjudged F.machine F.reading) identity.now) cause.moment.0 pick self.now.bodies ≡ Some cause.event) }
-        requires job { awaited_in identity.now (state_of F.reading self.now.bodies) cause.event ≡ None }
+        requires picked { (pick : Option ℕ)
+            × (picked_at (environment (unjudged F.machine F.reading) identity.now) cause.moment.0
+            pick self.now.bodies ≡ Some cause.event) }
+        requires job { awaited_in identity.now (state_of F.reading self.now.bodies) cause.event
+            ≡ None }
         ensures cause { IfOk result (λ step. step.cause ≡ cause) }
-        ensures ready { IfOk result (λ step. (judge : Judgement) → IsReady (environment (meaning F.machine F.reading judge) identity.now) identity.now.party.0 cause.moment.0 F.within (state_of F.reading self.now.bodies) None step) }
-        ensures unjudged { IfOk result (λ step. IsReady (environment (unjudged F.machine F.reading) identity.now) identity.now.party.0 cause.moment.0 F.within (state_of F.reading self.now.bodies) None step) }
+        ensures ready { IfOk result (λ step. (judge : Judgement)
+            → IsReady (environment (meaning F.machine F.reading judge) identity.now)
+            identity.now.party.0 cause.moment.0 F.within
+            (state_of F.reading self.now.bodies) None step) }
+        ensures unjudged { IfOk result (λ step.
+            IsReady (environment (unjudged F.machine F.reading) identity.now)
+            identity.now.party.0 cause.moment.0 F.within
+            (state_of F.reading self.now.bodies) None step) }
     {
         self.tables.kept();
         let flows = self.tables.flows();
@@ -256,11 +291,17 @@ impl<D: Disk, F: FlowSet> Up<D, F> {
         requires tied { Tied identity.now self.old.journal self.old.bodies }
         requires by { (state_of F.reading self.old.bodies).moment ≤ now.0 }
         requires room { is_full F.reading 0 self.old.bodies ≡ false }
-        requires picked { (pick : Option ℕ) × (picked_at (environment (unjudged F.machine F.reading) identity.now) now.0 pick self.old.bodies ≡ Some picked.event) }
-        requires job { awaited_in identity.now (state_of F.reading self.old.bodies) picked.event ≡ None }
+        requires picked { (pick : Option ℕ)
+            × (picked_at (environment (unjudged F.machine F.reading) identity.now) now.0 pick
+            self.old.bodies ≡ Some picked.event) }
+        requires job { awaited_in identity.now (state_of F.reading self.old.bodies) picked.event
+            ≡ None }
         requires idle { AreIdle (state_of F.reading self.old.bodies) picked.idle }
-        ensures commits { (judge : Judgement) → CommitsAs (environment (meaning F.machine F.reading judge) identity.now) identity.now now.0 picked.event None self.old result self.new }
-        ensures unjudged { CommitsAs (environment (unjudged F.machine F.reading) identity.now) identity.now now.0 picked.event None self.old result self.new }
+        ensures commits { (judge : Judgement)
+            → CommitsAs (environment (meaning F.machine F.reading judge) identity.now) identity.now
+            now.0 picked.event None self.old result self.new }
+        ensures unjudged { CommitsAs (environment (unjudged F.machine F.reading) identity.now)
+            identity.now now.0 picked.event None self.old result self.new }
         ensures by { (state_of F.reading self.new.bodies).moment ≤ now.0 }
     {
         let Picked { event, idle } = picked;
@@ -288,7 +329,10 @@ impl<D: Disk, F: FlowSet> Up<D, F> {
         requires waits { StillWaits identity.now (state_of F.reading self.now.bodies) done.job }
         requires run { IsRun (J.judges contracts.now) keyed_mark done }
         ensures cause { IfOk result (λ step. step.cause ≡ cause) }
-        ensures ready { IfOk result (λ step. IsReady (environment (meaning F.machine F.reading (J.judges contracts.now)) identity.now) identity.now.party.0 cause.moment.0 F.within (state_of F.reading self.now.bodies) None step) }
+        ensures ready { IfOk result (λ step.
+            IsReady (environment (meaning F.machine F.reading (J.judges contracts.now))
+            identity.now) identity.now.party.0 cause.moment.0 F.within
+            (state_of F.reading self.now.bodies) None step) }
     {
         self.tables.kept();
         let _ = contracts;
@@ -311,7 +355,9 @@ impl<D: Disk, F: FlowSet> Up<D, F> {
         requires room { is_full F.reading 0 self.old.bodies ≡ false }
         requires waits { StillWaits identity.now (state_of F.reading self.old.bodies) done.job }
         requires run { IsRun (J.judges contracts.now) keyed_mark done }
-        ensures commits { CommitsAs (environment (meaning F.machine F.reading (J.judges contracts.now)) identity.now) identity.now now.0 (Move done.job.flow) None self.old result self.new }
+        ensures commits { CommitsAs (environment
+            (meaning F.machine F.reading (J.judges contracts.now)) identity.now) identity.now
+            now.0 (Move done.job.flow) None self.old result self.new }
         ensures by { (state_of F.reading self.new.bodies).moment ≤ now.0 }
     {
         let cause = Cause {

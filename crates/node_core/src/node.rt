@@ -60,7 +60,12 @@ impl<D: Disk, F: Spelt + Drop> Model for Node<D, F> {
     ghost use Rattle.node_core.specs.Seen.{IsMember};
     ghost use Rattle.node_core.specs.States.{disk_in, journal_in, acked_in, IsWhole};
 
-    ghost view = { λ n. record { identity = n.identity; disk = disk_in D.seen n.state; journal = journal_in n.state; acked = acked_in n.state } };
+    ghost view = { λ n. record {
+      identity = n.identity;
+      disk = disk_in D.seen n.state;
+      journal = journal_in n.state;
+      acked = acked_in n.state;
+    } };
 
     ghost invariant = { λ n. IsMember n.identity × IsWhole n.identity n.state };
 }
@@ -97,7 +102,9 @@ impl<D: Disk, F: Spelt + Drop> Node<D, F> {
 
     /// The flows, by number; `None` exactly where the node is down.
     pub fn flows(&self) -> Option<&Flows<F>>
-        ensures { MatchOption result (self.now.journal ≡ None) (λ flows. (bodies : List (List ℕ)) × (self.now.journal ≡ Some bodies) × (flows.now.flows ≡ (state_of F.reading bodies).flows)) }
+        ensures { MatchOption result (self.now.journal ≡ None)
+            (λ flows. (bodies : List (List ℕ)) × (self.now.journal ≡ Some bodies)
+            × (flows.now.flows ≡ (state_of F.reading bodies).flows)) }
     {
         match &self.state {
             State::Up { up } => Some(up.flows()),
@@ -107,7 +114,10 @@ impl<D: Disk, F: Spelt + Drop> Node<D, F> {
 
     /// What the journal's records made of transactions, soft locks and entries; `None` exactly where the node is down.
     pub fn ledger(&self) -> Option<&LedgerTables>
-        ensures { MatchOption result (self.now.journal ≡ None) (λ ledger. (bodies : List (List ℕ)) × (self.now.journal ≡ Some bodies) × HoldsLedger self.now.identity.party (ledger_in (state_of F.reading bodies)) ledger.now) }
+        ensures { MatchOption result (self.now.journal ≡ None)
+            (λ ledger. (bodies : List (List ℕ)) × (self.now.journal ≡ Some bodies)
+            × HoldsLedger self.now.identity.party
+            (ledger_in (state_of F.reading bodies)) ledger.now) }
     {
         match &self.state {
             State::Up { up } => Some(up.ledger()),
@@ -117,7 +127,9 @@ impl<D: Disk, F: Spelt + Drop> Node<D, F> {
 
     /// The causes of the journal's records, in order; `None` exactly where the node is down.
     pub fn causes(&self) -> Option<&[Cause]>
-        ensures { MatchOption result (self.now.journal ≡ None) (λ causes. (bodies : List (List ℕ)) × (self.now.journal ≡ Some bodies) × (causes.now ≡ causes_of F.reading bodies)) }
+        ensures { MatchOption result (self.now.journal ≡ None)
+            (λ causes. (bodies : List (List ℕ)) × (self.now.journal ≡ Some bodies)
+            × (causes.now ≡ causes_of F.reading bodies)) }
     {
         match &self.state {
             State::Up { up } => Some(up.causes()),
@@ -127,7 +139,8 @@ impl<D: Disk, F: Spelt + Drop> Node<D, F> {
 
     /// The moment of the last cause, 0 without one or where the node is down.
     pub fn last_moment(&self) -> Moment
-        ensures { MatchOption self.now.journal (result.0 ≡ 0) (λ bodies. result.0 ≡ (state_of F.reading bodies).moment) }
+        ensures { MatchOption self.now.journal (result.0 ≡ 0)
+            (λ bodies. result.0 ≡ (state_of F.reading bodies).moment) }
     {
         match &self.state {
             State::Up { up } => up.last_moment(),
@@ -196,7 +209,8 @@ impl<D: Disk, F: FlowSet> Node<D, F> {
         args: &ByteList,
     ) -> Result<u32, StartFault>
         requires { IsBy F.reading self.old.journal now.0 }
-        ensures start { StartAnswers (environment (unjudged F.machine F.reading) self.old.identity) now.0 class args.now self.old result self.new }
+        ensures start { StartAnswers (environment (unjudged F.machine F.reading) self.old.identity)
+            now.0 class args.now self.old result self.new }
         ensures by { IsBy F.reading self.new.journal now.0 }
     {
         let State::Up { up } = &mut self.state else {
@@ -235,7 +249,9 @@ impl<D: Disk, F: FlowSet> Node<D, F> {
         contracts: &J,
     ) -> Result<Turned, TurnFault>
         requires { IsBy F.reading self.old.journal now.0 }
-        ensures turn { TurnAnswers (environment (meaning F.machine F.reading (J.judges contracts.now)) self.old.identity) now.0 pick self.old result self.new }
+        ensures turn { TurnAnswers (environment
+            (meaning F.machine F.reading (J.judges contracts.now)) self.old.identity) now.0 pick
+            self.old result self.new }
         ensures by { IsBy F.reading self.new.journal now.0 }
     {
         let State::Up { up } = &mut self.state else {
@@ -268,7 +284,9 @@ impl<D: Disk, F: FlowSet> Node<D, F> {
         claims: &[u32],
     ) -> Result<SharedTurn, TurnFault>
         requires { IsBy F.reading self.old.journal now.0 }
-        ensures turn { (judge : Judgement) → TurnAnswersBeside (environment (meaning F.machine F.reading judge) self.old.identity) now.0 pick claims.now self.old result self.new }
+        ensures turn { (judge : Judgement)
+            → TurnAnswersBeside (environment (meaning F.machine F.reading judge) self.old.identity)
+            now.0 pick claims.now self.old result self.new }
         ensures by { IsBy F.reading self.new.journal now.0 }
     {
         let State::Up { up } = &mut self.state else {
@@ -315,7 +333,9 @@ impl<D: Disk, F: FlowSet> Node<D, F> {
     ) -> Result<u32, SettleFault>
         requires by { IsBy F.reading self.old.journal now.0 }
         requires run { IsRun (J.judges contracts.now) keyed_mark done }
-        ensures settle { SettleAnswers (environment (meaning F.machine F.reading (J.judges contracts.now)) self.old.identity) now.0 done.job self.old result self.new }
+        ensures settle { SettleAnswers (environment
+            (meaning F.machine F.reading (J.judges contracts.now)) self.old.identity) now.0
+            done.job self.old result self.new }
         ensures by { IsBy F.reading self.new.journal now.0 }
     {
         let State::Up { up } = &mut self.state else {
@@ -353,7 +373,8 @@ impl<D: Disk, F: FlowSet> Node<D, F> {
     /// rose, and the node is then down. After any but `Fault` nothing has changed.
     pub fn take(&mut self, alloc: Global, now: Moment, bytes: &[u8]) -> Result<Taken, TakeFault>
         requires { IsBy F.reading self.old.journal now.0 }
-        ensures take { TakeAnswers (environment (unjudged F.machine F.reading) self.old.identity) now.0 bytes.now self.old result self.new }
+        ensures take { TakeAnswers (environment (unjudged F.machine F.reading) self.old.identity)
+            now.0 bytes.now self.old result self.new }
         ensures by { IsBy F.reading self.new.journal now.0 }
     {
         let State::Up { up } = &mut self.state else {
@@ -396,7 +417,11 @@ impl<D: Bay, F: Spelt + Drop> Node<D, F> {
         requires { self.old.journal ≡ None }
         ensures journal { self.new.journal ≡ None }
         ensures identity { self.new.identity ≡ self.old.identity }
-        ensures disk { self.new.disk ≡ record self.old.disk { power = true; fuse = None; calm = self.new.disk.calm } }
+        ensures disk { self.new.disk ≡ record self.old.disk {
+          power = true;
+          fuse = None;
+          calm = self.new.disk.calm;
+        } }
         ensures calm { self.old.disk.of_file ≡ false → self.new.disk.calm ≡ true }
         ensures stays_calm { self.old.disk.calm ≡ true → self.new.disk.calm ≡ true }
     {
@@ -473,7 +498,8 @@ fn opened<D: Disk, F: Spelt + Drop>(
 ) -> (State<D, F>, Result<(), BootFault>)
     requires { IsIdentity identity }
     ensures whole { IsWhole identity result.0 }
-    ensures boots { BootsAs F.reading (seen_over identity (D.seen disk)) result.1 (seen_in D.seen identity result.0) }
+    ensures boots { BootsAs F.reading (seen_over identity (D.seen disk)) result.1
+        (seen_in D.seen identity result.0) }
 {
     match Up::open(alloc, disk, identity) {
         Ok(up) => (State::Up { up }, Ok(())),

@@ -117,7 +117,9 @@ impl<D: Disk, F: FlowSet> SharedNode<D, F> {
         args: &ByteList,
     ) -> Result<u32, StartFault>
         requires { IsBy F.reading self.old.node.journal now.0 }
-        ensures start { StartAnswers (environment (unjudged F.machine F.reading) self.old.node.identity) now.0 class args.now self.old.node result self.new.node }
+        ensures start { StartAnswers (environment
+            (unjudged F.machine F.reading) self.old.node.identity) now.0 class args.now
+            self.old.node result self.new.node }
         ensures by { IsBy F.reading self.new.node.journal now.0 }
         ensures claims { self.new.claims ≡ claims_up self.new.node.journal self.old.claims }
     {
@@ -133,7 +135,9 @@ impl<D: Disk, F: FlowSet> SharedNode<D, F> {
     /// Those of `Node::take`.
     pub fn take(&mut self, alloc: Global, now: Moment, bytes: &[u8]) -> Result<Taken, TakeFault>
         requires { IsBy F.reading self.old.node.journal now.0 }
-        ensures take { TakeAnswers (environment (unjudged F.machine F.reading) self.old.node.identity) now.0 bytes.now self.old.node result self.new.node }
+        ensures take { TakeAnswers (environment
+            (unjudged F.machine F.reading) self.old.node.identity) now.0 bytes.now self.old.node
+            result self.new.node }
         ensures by { IsBy F.reading self.new.node.journal now.0 }
         ensures claims { self.new.claims ≡ claims_up self.new.node.journal self.old.claims }
     {
@@ -158,9 +162,12 @@ impl<D: Disk, F: FlowSet> SharedNode<D, F> {
         pick: Option<u32>,
     ) -> Result<SharedTurn, TurnFault>
         requires { IsBy F.reading self.old.node.journal now.0 }
-        ensures turn { (judge : Judgement) → TurnAnswersBeside (environment (meaning F.machine F.reading judge) self.old.node.identity) now.0 pick self.old.claims self.old.node result self.new.node }
+        ensures turn { (judge : Judgement)
+            → TurnAnswersBeside (environment (meaning F.machine F.reading judge)
+            self.old.node.identity) now.0 pick self.old.claims self.old.node result self.new.node }
         ensures by { IsBy F.reading self.new.node.journal now.0 }
-        ensures claims { self.new.claims ≡ claims_up self.new.node.journal (claims_by result self.old.claims) }
+        ensures claims { self.new.claims ≡ claims_up self.new.node.journal
+            (claims_by result self.old.claims) }
     {
         match self
             .node
@@ -189,7 +196,9 @@ impl<D: Disk, F: FlowSet> SharedNode<D, F> {
     ) -> Result<Turned, TurnFault>
         requires by { IsBy F.reading self.old.node.journal now.0 }
         requires claims { self.old.claims ≡ [] }
-        ensures work { WorkAnswers (environment (meaning F.machine F.reading (J.judges contracts.now)) self.old.node.identity) now.0 pick self.old.node result self.new.node }
+        ensures work { WorkAnswers (environment
+            (meaning F.machine F.reading (J.judges contracts.now)) self.old.node.identity) now.0
+            pick self.old.node result self.new.node }
         ensures by { IsBy F.reading self.new.node.journal now.0 }
         ensures claims { self.new.claims ≡ [] }
     {
@@ -218,9 +227,12 @@ impl<D: Disk, F: FlowSet> SharedNode<D, F> {
     ) -> Result<u32, SettleFault>
         requires by { IsBy F.reading self.old.node.journal now.0 }
         requires run { IsRun (J.judges contracts.now) keyed_mark done }
-        ensures settle { SettleAnswers (environment (meaning F.machine F.reading (J.judges contracts.now)) self.old.node.identity) now.0 done.job self.old.node result self.new.node }
+        ensures settle { SettleAnswers (environment
+            (meaning F.machine F.reading (J.judges contracts.now)) self.old.node.identity) now.0
+            done.job self.old.node result self.new.node }
         ensures by { IsBy F.reading self.new.node.journal now.0 }
-        ensures claims { self.new.claims ≡ claims_up self.new.node.journal (claims_but done.job.flow self.old.claims) }
+        ensures claims { self.new.claims ≡ claims_up self.new.node.journal
+            (claims_but done.job.flow self.old.claims) }
     {
         end_claim(&mut self.claims, done.job.flow);
         let answer = self.node.settle(alloc, now, done, contracts);
@@ -250,7 +262,11 @@ impl<D: Bay, F: Spelt + Drop> SharedNode<D, F> {
         requires { self.old.node.journal ≡ None }
         ensures journal { self.new.node.journal ≡ None }
         ensures identity { self.new.node.identity ≡ self.old.node.identity }
-        ensures disk { self.new.node.disk ≡ record self.old.node.disk { power = true; fuse = None; calm = self.new.node.disk.calm } }
+        ensures disk { self.new.node.disk ≡ record self.old.node.disk {
+          power = true;
+          fuse = None;
+          calm = self.new.node.disk.calm;
+        } }
         ensures calm { self.old.node.disk.of_file ≡ false → self.new.node.disk.calm ≡ true }
         ensures stays_calm { self.old.node.disk.calm ≡ true → self.new.node.disk.calm ≡ true }
         ensures claims { self.new.claims ≡ [] }

@@ -47,8 +47,11 @@ impl<D: Disk, F: FlowSet> Up<D, F> {
         requires identity { IsIdentity identity.now }
         requires tied { Tied identity.now self.old.journal self.old.bodies }
         requires by { (state_of F.reading self.old.bodies).moment ≤ now.0 }
-        ensures takes { TakesAs (environment (unjudged F.machine F.reading) identity.now) now.0 bytes.now self.old.bodies (seen_up identity.now self.old) result (seen_after identity.now result self.new) }
-        ensures tied { (result ≡ Err TakeFault.Fault → ⊥) → Tied identity.now self.new.journal self.new.bodies }
+        ensures takes { TakesAs (environment (unjudged F.machine F.reading) identity.now) now.0
+            bytes.now self.old.bodies (seen_up identity.now self.old) result
+            (seen_after identity.now result self.new) }
+        ensures tied { (result ≡ Err TakeFault.Fault → ⊥)
+            → Tied identity.now self.new.journal self.new.bodies }
         ensures by { (state_of F.reading self.new.bodies).moment ≤ now.0 }
     {
         match self.judge(alloc, identity, bytes)? {
@@ -105,9 +108,14 @@ impl<D: Disk, F: FlowSet> Up<D, F> {
         requires identity { IsIdentity identity.now }
         requires tied { Tied identity.now self.old.journal self.old.bodies }
         requires by { (state_of F.reading self.old.bodies).moment ≤ now.0 }
-        requires next { IsNextItem identity.now (state_of F.reading self.old.bodies).sessions item.peer item.key item.direction item.number item.stamp item.body }
-        ensures takes { TakesItem (environment (unjudged F.machine F.reading) identity.now) now.0 self.old.bodies item (seen_up identity.now self.old) result (seen_after identity.now result self.new) }
-        ensures tied { (result ≡ Err TakeFault.Fault → ⊥) → Tied identity.now self.new.journal self.new.bodies }
+        requires next { IsNextItem identity.now
+            (state_of F.reading self.old.bodies).sessions item.peer item.key item.direction
+            item.number item.stamp item.body }
+        ensures takes { TakesItem (environment (unjudged F.machine F.reading) identity.now) now.0
+            self.old.bodies item (seen_up identity.now self.old) result
+            (seen_after identity.now result self.new) }
+        ensures tied { (result ≡ Err TakeFault.Fault → ⊥)
+            → Tied identity.now self.new.journal self.new.bodies }
         ensures by { (state_of F.reading self.new.bodies).moment ≤ now.0 }
     {
         self.known_next(identity, &item);
@@ -144,12 +152,18 @@ impl<D: Disk, F: FlowSet> Up<D, F> {
         requires identity { IsIdentity identity.now }
         requires tied { Tied identity.now self.old.journal self.old.bodies }
         requires by { (state_of F.reading self.old.bodies).moment ≤ now.0 }
-        requires next { IsNextItem identity.now (state_of F.reading self.old.bodies).sessions item.peer item.key item.direction item.number item.stamp item.body }
+        requires next { IsNextItem identity.now
+            (state_of F.reading self.old.bodies).sessions item.peer item.key item.direction
+            item.number item.stamp item.body }
         requires small { item.number + 1 < 2 ^ 32 }
         requires room { is_full F.reading item.stamp self.old.bodies ≡ false }
-        requires ack { ack ≡ ack_to identity.now.party item.peer item.key item.direction (item.number + 1) }
-        ensures takes { TakesItem (environment (unjudged F.machine F.reading) identity.now) now.0 self.old.bodies item (seen_up identity.now self.old) result (seen_after identity.now result self.new) }
-        ensures tied { (result ≡ Err TakeFault.Fault → ⊥) → Tied identity.now self.new.journal self.new.bodies }
+        requires ack { ack ≡ ack_to identity.now.party item.peer item.key item.direction
+            (item.number + 1) }
+        ensures takes { TakesItem (environment (unjudged F.machine F.reading) identity.now) now.0
+            self.old.bodies item (seen_up identity.now self.old) result
+            (seen_after identity.now result self.new) }
+        ensures tied { (result ≡ Err TakeFault.Fault → ⊥)
+            → Tied identity.now self.new.journal self.new.bodies }
         ensures by { (state_of F.reading self.new.bodies).moment ≤ now.0 }
     {
         let upto = item.number + 1;
@@ -176,10 +190,15 @@ impl<D: Disk, F: FlowSet> Up<D, F> {
         requires identity { IsIdentity identity.now }
         requires tied { Tied identity.now self.old.journal self.old.bodies }
         requires by { (state_of F.reading self.old.bodies).moment ≤ now.0 }
-        requires next { IsNextItem identity.now (state_of F.reading self.old.bodies).sessions item.peer item.key item.direction item.number item.stamp item.body }
+        requires next { IsNextItem identity.now
+            (state_of F.reading self.old.bodies).sessions item.peer item.key item.direction
+            item.number item.stamp item.body }
         requires small { item.number + 1 < 2 ^ 32 }
         requires room { is_full F.reading item.stamp self.old.bodies ≡ false }
-        ensures commits { CommitsAs (environment (unjudged F.machine F.reading) identity.now) identity.now now.0 (accepting (state_of F.reading self.old.bodies).sessions item.key item.direction item.number) (Some (record { body = item.body; stamp = item.stamp })) self.old result self.new }
+        ensures commits { CommitsAs (environment (unjudged F.machine F.reading) identity.now)
+            identity.now now.0 (accepting (state_of F.reading self.old.bodies).sessions item.key
+            item.direction item.number) (Some (record { body = item.body; stamp = item.stamp }))
+            self.old result self.new }
         ensures by { (state_of F.reading self.new.bodies).moment ≤ now.0 }
     {
         let step = self.accepting(alloc, identity, now, item)?;

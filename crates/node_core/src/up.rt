@@ -62,9 +62,16 @@ impl<D: Disk, F: Spelt + Drop> Model for Up<D, F> {
 
     ghost Value = { UpSeen };
 
-    ghost view = { λ u. record { journal = u.journal; bodies = u.tables.bodies; acked = u.tables.acked } };
+    ghost view = { λ u. record {
+      journal = u.journal;
+      bodies = u.tables.bodies;
+      acked = u.tables.acked;
+    } };
 
-    ghost invariant = { λ u. (u.tables.party ≡ u.journal.of.party) × (u.tables.nodes ≡ u.journal.of.nodes) × AreIdle (state_of F.reading u.tables.bodies) u.idle × (u.tables.notary ≡ u.journal.of.notary) };
+    ghost invariant = { λ u. (u.tables.party ≡ u.journal.of.party)
+        × (u.tables.nodes ≡ u.journal.of.nodes)
+        × AreIdle (state_of F.reading u.tables.bodies) u.idle
+        × (u.tables.notary ≡ u.journal.of.notary) };
 }
 
 /// A boot was refused; the disk comes back.
@@ -78,8 +85,14 @@ impl<D: Disk, F: Spelt + Drop> Up<D, F> {
     /// Opens the journal, and rebuilds the tables from its records.
     pub fn open(alloc: Global, disk: D, identity: Identity) -> Result<Up<D, F>, BootRefused<D>>
         requires { IsIdentity identity }
-        ensures ok { IfOk result (λ up. (list : List (ℕ × List ℕ)) × (up.bodies ≡ map (λ x. x.1) list) × (up.acked ≡ padded [] (state_of F.reading up.bodies).sessions) × Booted F.reading identity (roomless (D.seen disk)) (roomless up.journal.disk) list × Tied identity up.journal up.bodies) }
-        ensures refused { IfErr result (λ r. Unbooted F.reading identity (roomless (D.seen disk)) r.why (roomless (D.seen r.disk))) }
+        ensures ok { IfOk result (λ up. (list : List (ℕ × List ℕ))
+            × (up.bodies ≡ map (λ x. x.1) list)
+            × (up.acked ≡ padded [] (state_of F.reading up.bodies).sessions)
+            × Booted F.reading identity (roomless (D.seen disk)) (roomless up.journal.disk) list
+            × Tied identity up.journal up.bodies) }
+        ensures refused { IfErr result (λ r.
+            Unbooted F.reading identity (roomless (D.seen disk)) r.why
+            (roomless (D.seen r.disk))) }
     {
         let (journal, list) = match Journal::open(alloc, disk, identity) {
             Ok(opened) => opened,
@@ -105,7 +118,8 @@ impl<D: Disk, F: Spelt + Drop> Up<D, F> {
 
     /// Whether the node takes no more records over an item of the stamp, 0 without one.
     pub fn is_full(&self, stamp: u64) -> bool
-        ensures { (id : OfIdentity) → Tied id self.now.journal self.now.bodies → result ≡ is_full F.reading stamp self.now.bodies }
+        ensures { (id : OfIdentity) → Tied id self.now.journal self.now.bodies
+            → result ≡ is_full F.reading stamp self.now.bodies }
     {
         self.journal.is_full() || (self.tables.is_late() || stamp >= LAST_STAMP)
     }
@@ -118,8 +132,11 @@ impl<D: Disk, F: Spelt + Drop> Up<D, F> {
         bytes: &[u8],
     ) -> Result<Judged, AllocError>
         requires { Tied identity.now self.now.journal self.now.bodies }
-        ensures judged { IfOk result (λ said. IsJudged identity.now (state_of F.reading self.now.bodies).sessions bytes.now said) }
-        ensures further { IfOk result (λ said. GoesFurther identity.now (state_of F.reading self.now.bodies).sessions said) }
+        ensures judged { IfOk result (λ said.
+            IsJudged identity.now (state_of F.reading self.now.bodies).sessions bytes.now
+            said) }
+        ensures further { IfOk result (λ said.
+            GoesFurther identity.now (state_of F.reading self.now.bodies).sessions said) }
     {
         self.tables.kept();
         judge(alloc, identity, self.tables.sessions(), bytes)
@@ -127,18 +144,23 @@ impl<D: Disk, F: Spelt + Drop> Up<D, F> {
 
     /// Notes that `upto` items of a direction of a session arrived.
     pub fn acknowledge(&mut self, key: &Key, direction: u8, upto: u32)
-        requires { (s : Session) → session_of key.now (state_of F.reading self.old.bodies).sessions ≡ Some s → upto ≤ length s.sent }
+        requires { (s : Session) → session_of key.now (state_of F.reading self.old.bodies).sessions
+            ≡ Some s → upto ≤ length s.sent }
         ensures journal { self.new.journal ≡ self.old.journal }
         ensures bodies { self.new.bodies ≡ self.old.bodies }
-        ensures acked { self.new.acked ≡ raised self.old.journal.of.party key.now direction upto (state_of F.reading self.old.bodies).sessions self.old.acked }
+        ensures acked { self.new.acked ≡ raised self.old.journal.of.party key.now direction upto
+            (state_of F.reading self.old.bodies).sessions self.old.acked }
     {
         self.tables.acknowledge(key, direction, upto);
     }
 
     /// The messages of the items that aren't acknowledged. The only error is want of memory.
     pub fn unacked(&self, alloc: Global) -> Result<OutgoingList, AllocError>
-        ensures list { IfOk result (λ frames. frames ≡ unacked_at F.reading self.now.journal.of.party self.now.bodies self.now.acked) }
-        ensures messages { AreMessages self.now.journal.of.party (unacked self.now.journal.of.party (state_of F.reading self.now.bodies).sessions self.now.acked) }
+        ensures list { IfOk result (λ frames. frames
+            ≡ unacked_at F.reading self.now.journal.of.party self.now.bodies self.now.acked) }
+        ensures messages { AreMessages self.now.journal.of.party
+            (unacked self.now.journal.of.party
+            (state_of F.reading self.now.bodies).sessions self.now.acked) }
     {
         self.tables.kept();
         frames_to_send(alloc, self.tables.party(), self.tables.sessions())
@@ -168,7 +190,8 @@ impl<D: Disk, F: Spelt + Drop> Up<D, F> {
 
     /// What its records made of transactions, soft locks and entries.
     pub fn ledger(&self) -> &LedgerTables
-        ensures { HoldsLedger self.now.journal.of.party (ledger_in (state_of F.reading self.now.bodies)) result.now }
+        ensures { HoldsLedger self.now.journal.of.party
+            (ledger_in (state_of F.reading self.now.bodies)) result.now }
     {
         self.tables.ledger()
     }
@@ -184,7 +207,8 @@ impl<D: Disk, F: Spelt + Drop> Up<D, F> {
 impl<D: Disk, F: FlowSet> Up<D, F> {
     /// The event by which the picked flow goes on, or the first that can, and the flows that were seen to be idle.
     pub fn pick(&self, now: Moment, pick: Option<u32>) -> Option<Picked>
-        ensures event { (id : OfIdentity) → option_map (λ p. p.event) result ≡ picked_at (environment (unjudged F.machine F.reading) id) now.0 pick self.now.bodies }
+        ensures event { (id : OfIdentity) → option_map (λ p. p.event) result
+            ≡ picked_at (environment (unjudged F.machine F.reading) id) now.0 pick self.now.bodies }
         ensures idle { IfSome result (λ p. AreIdle (state_of F.reading self.now.bodies) p.idle) }
     {
         self.tables.kept();
@@ -220,9 +244,14 @@ impl<D: Disk, F: FlowSet> Up<D, F> {
     ) -> Result<Step<F>, AllocError>
         requires identity { IsIdentity identity.now }
         requires tied { Tied identity.now self.now.journal self.now.bodies }
-        requires picked { (pick : Option ℕ) × (picked_at (environment (unjudged F.machine F.reading) identity.now) cause.moment.0 pick self.now.bodies ≡ Some cause.event) }
+        requires picked { (pick : Option ℕ)
+            × (picked_at (environment (unjudged F.machine F.reading) identity.now) cause.moment.0
+            pick self.now.bodies ≡ Some cause.event) }
         ensures cause { IfOk result (λ step. step.cause ≡ cause) }
-        ensures ready { IfOk result (λ step. IsReady (environment (meaning F.machine F.reading (J.judges contracts.now)) identity.now) identity.now.party.0 cause.moment.0 F.within (state_of F.reading self.now.bodies) None step) }
+        ensures ready { IfOk result (λ step.
+            IsReady (environment (meaning F.machine F.reading (J.judges contracts.now))
+            identity.now) identity.now.party.0 cause.moment.0 F.within
+            (state_of F.reading self.now.bodies) None step) }
     {
         self.tables.kept();
         let flows = self.tables.flows();
@@ -248,9 +277,13 @@ impl<D: Disk, F: FlowSet> Up<D, F> {
         requires tied { Tied identity.now self.old.journal self.old.bodies }
         requires by { (state_of F.reading self.old.bodies).moment ≤ now.0 }
         requires room { is_full F.reading 0 self.old.bodies ≡ false }
-        requires picked { (pick : Option ℕ) × (picked_at (environment (unjudged F.machine F.reading) identity.now) now.0 pick self.old.bodies ≡ Some picked.event) }
+        requires picked { (pick : Option ℕ)
+            × (picked_at (environment (unjudged F.machine F.reading) identity.now) now.0 pick
+            self.old.bodies ≡ Some picked.event) }
         requires idle { AreIdle (state_of F.reading self.old.bodies) picked.idle }
-        ensures commits { CommitsAs (environment (meaning F.machine F.reading (J.judges contracts.now)) identity.now) identity.now now.0 picked.event None self.old result self.new }
+        ensures commits { CommitsAs (environment
+            (meaning F.machine F.reading (J.judges contracts.now)) identity.now) identity.now
+            now.0 picked.event None self.old result self.new }
         ensures by { (state_of F.reading self.new.bodies).moment ≤ now.0 }
     {
         let Picked { event, idle } = picked;
@@ -275,9 +308,12 @@ impl<D: Disk, F: FlowSet> Up<D, F> {
         requires tied { Tied identity.now self.old.journal self.old.bodies }
         requires by { (state_of F.reading self.old.bodies).moment ≤ now.0 }
         requires room { is_full F.reading 0 self.old.bodies ≡ false }
-        requires cause { step.cause ≡ next_cause (state_of F.reading self.old.bodies) now.0 step.cause.event None }
-        requires ready { IsReady (environment (unjudged F.machine F.reading) identity.now) identity.now.party.0 now.0 F.within (state_of F.reading self.old.bodies) None step }
-        ensures commits { CommitsAs (environment (unjudged F.machine F.reading) identity.now) identity.now now.0 step.cause.event None self.old result self.new }
+        requires cause { step.cause ≡ next_cause
+            (state_of F.reading self.old.bodies) now.0 step.cause.event None }
+        requires ready { IsReady (environment (unjudged F.machine F.reading) identity.now)
+            identity.now.party.0 now.0 F.within (state_of F.reading self.old.bodies) None step }
+        ensures commits { CommitsAs (environment (unjudged F.machine F.reading) identity.now)
+            identity.now now.0 step.cause.event None self.old result self.new }
         ensures by { (state_of F.reading self.new.bodies).moment ≤ now.0 }
     {
         self.commit(alloc, identity, now, step)
@@ -293,7 +329,9 @@ impl<D: Disk, F: FlowSet> Up<D, F> {
         args: &ByteList,
     ) -> Result<Step<F>, MakeFault>
         requires { IsIdentity identity.now }
-        ensures { IsBegun (environment (unjudged F.machine F.reading) identity.now) identity.now.party.0 (max (state_of F.reading self.now.bodies).stamp 0 + 1) now F.within (state_of F.reading self.now.bodies) class args.now result }
+        ensures { IsBegun (environment (unjudged F.machine F.reading) identity.now)
+            identity.now.party.0 (max (state_of F.reading self.now.bodies).stamp 0 + 1) now F.within
+            (state_of F.reading self.now.bodies) class args.now result }
     {
         begin(
             alloc,
@@ -308,7 +346,9 @@ impl<D: Disk, F: FlowSet> Up<D, F> {
 
     /// Tells a proof that an item which comes next has another number behind its own. It does nothing when it runs.
     pub fn known_next(&self, identity: &Identity, item: &Item)
-        requires { IsNextItem identity.now (state_of F.reading self.now.bodies).sessions item.now.peer item.now.key item.now.direction item.now.number item.now.stamp item.now.body }
+        requires { IsNextItem identity.now
+            (state_of F.reading self.now.bodies).sessions item.now.peer item.now.key
+            item.now.direction item.now.number item.now.stamp item.now.body }
         ensures { item.now.number + 1 < 2 ^ 32 }
     {
         let _ = identity;
@@ -325,11 +365,22 @@ impl<D: Disk, F: FlowSet> Up<D, F> {
         item: Item,
     ) -> Result<Step<F>, AllocError>
         requires identity { IsIdentity identity.now }
-        requires next { IsNextItem identity.now (state_of F.reading self.now.bodies).sessions item.peer item.key item.direction item.number item.stamp item.body }
+        requires next { IsNextItem identity.now
+            (state_of F.reading self.now.bodies).sessions item.peer item.key item.direction
+            item.number item.stamp item.body }
         requires small { item.number + 1 < 2 ^ 32 }
         requires early { item.stamp < 2 ^ 63 }
-        ensures cause { IfOk result (λ step. step.cause ≡ record { stamp = max (state_of F.reading self.now.bodies).stamp item.stamp + 1; moment = now; event = accepting (state_of F.reading self.now.bodies).sessions item.key item.direction item.number }) }
-        ensures ready { IfOk result (λ step. IsReady (environment (unjudged F.machine F.reading) identity.now) identity.now.party.0 now.0 F.within (state_of F.reading self.now.bodies) (Some item.body) step) }
+        ensures cause { IfOk result (λ step. step.cause
+            ≡ record {
+              stamp = max (state_of F.reading self.now.bodies).stamp item.stamp + 1;
+              moment = now;
+              event = accepting (state_of F.reading self.now.bodies).sessions item.key
+                  item.direction item.number;
+            }) }
+        ensures ready { IfOk result (λ step.
+            IsReady (environment (unjudged F.machine F.reading) identity.now)
+            identity.now.party.0 now.0 F.within (state_of F.reading self.now.bodies)
+            (Some item.body) step) }
     {
         let stamp = self.next_stamp(item.stamp);
         let Item {
@@ -357,8 +408,14 @@ impl<D: Disk, F: FlowSet> Up<D, F> {
     ) -> Result<(), CommitFault>
         requires tied { Tied identity.now self.old.journal self.old.bodies }
         requires by { (state_of F.reading self.old.bodies).moment ≤ now.0 }
-        requires ready { (judge : Judgement) × (item : Option Sent) × MayCommit (environment (meaning F.machine F.reading judge) identity.now) identity.now now.0 F.within self.old.bodies item step }
-        ensures commits { (judge : Judgement) (item : Option Sent) → MayCommit (environment (meaning F.machine F.reading judge) identity.now) identity.now now.0 F.within self.old.bodies item step → CommitsAs (environment (meaning F.machine F.reading judge) identity.now) identity.now now.0 step.cause.event item self.old result self.new }
+        requires ready { (judge : Judgement) × (item : Option Sent)
+            × MayCommit (environment (meaning F.machine F.reading judge) identity.now) identity.now
+            now.0 F.within self.old.bodies item step }
+        ensures commits { (judge : Judgement) (item : Option Sent)
+            → MayCommit (environment (meaning F.machine F.reading judge) identity.now) identity.now
+            now.0 F.within self.old.bodies item step
+            → CommitsAs (environment (meaning F.machine F.reading judge) identity.now) identity.now
+            now.0 step.cause.event item self.old result self.new }
         ensures by { (state_of F.reading self.new.bodies).moment ≤ now.0 }
     {
         self.tables.kept();
@@ -386,10 +443,15 @@ impl<D: Bay, F: Spelt + Drop> Up<D, F> {
         ensures file { OnErr result (self.old.journal.disk.of_file ≡ true) }
         ensures memory { OnOk result (self.old.journal.disk.of_file ≡ false) }
         ensures refused { OnErr result (self.new ≡ self.old) }
-        ensures armed { OnOk result (self.new.journal.disk ≡ record self.old.journal.disk { fuse = Some (calls, outcome); calm = self.new.journal.disk.calm }) }
+        ensures armed { OnOk result (self.new.journal.disk
+            ≡ record self.old.journal.disk {
+              fuse = Some (calls, outcome);
+              calm = self.new.journal.disk.calm;
+            }) }
         ensures bodies { self.new.bodies ≡ self.old.bodies }
         ensures acked { self.new.acked ≡ self.old.acked }
-        ensures tied { (id : OfIdentity) → Tied id self.old.journal self.old.bodies → Tied id self.new.journal self.new.bodies }
+        ensures tied { (id : OfIdentity) → Tied id self.old.journal self.old.bodies
+            → Tied id self.new.journal self.new.bodies }
     {
         self.journal.arm(calls, outcome)
     }
@@ -414,7 +476,8 @@ fn log<D: Disk, F: FlowSet>(
     ensures bodies { tables.new.bodies ≡ tables.old.bodies }
     ensures acked { tables.new.acked ≡ tables.old.acked }
     ensures room { OnOk result (room_for step.now.session ≤ tables.new.room) }
-    ensures logs { LogsAs F.reading (step_record step.now) tables.old.bodies journal.old result journal.new }
+    ensures logs { LogsAs F.reading (step_record step.now) tables.old.bodies journal.old result
+        journal.new }
 {
     let body = spell_step(alloc, step)?;
     tables.make_room(alloc, &step.session, &step.ledger)?;

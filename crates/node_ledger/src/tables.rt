@@ -40,7 +40,8 @@ pub fn make_change_room(
     change: &LedgerChange,
 ) -> Result<(), AllocError>
     ensures holds { KeepsLedger ledger.old ledger.new }
-    ensures record_room { OnOk result (HasRecordRoom change.now.recorded ledger.new.store ledger.new.vault) }
+    ensures record_room { OnOk result (HasRecordRoom change.now.recorded ledger.new.store
+        ledger.new.vault) }
     ensures entry_room { OnOk result (HasEntryRoom change.now.booked ledger.new.book) }
 {
     ledger.make_room(alloc, change)

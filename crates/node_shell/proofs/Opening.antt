@@ -4,7 +4,7 @@ use Rattle.std.specs.Prelude.{codes, decimal, None, ◌<◌, ◌≤◌}
 use Rattle.std.specs.List.{slice_get}
 use Rattle.std.proofs.lemmas.Option.{slice_get_within}
 use Rattle.std.proofs.lemmas.Bool.{cases_Bool, cases_lt}
-use Rattle.outside.specs.Disk.{DiskView, IfTold, IsImage}
+use Rattle.outside.specs.Disk.{DiskSeen, IfTold, IsImage}
 use Rattle.outside.proofs.Moments.{at_now}
 use Rattle.disk_journal.specs.Journal.{WasSpelt, journal_of, placed, is_unformatted, refusal}
 use Rattle.disk_journal.proofs.Fresh.{unformatted_short, short_spells, refusal_unformatted}
@@ -68,7 +68,7 @@ misfit_begun f id x at is = by (cases_Bool (is_unformatted x))
     by (inr begun) = begun
 
 -- but after a fault a disk on which a journal was begun and finished keeps the same bytes
-abbrev KeepsBytes : BootFault → DiskView → DiskView → Type 0
+abbrev KeepsBytes : BootFault → DiskSeen → DiskSeen → Type 0
 KeepsBytes why d b = (why ≡ boot.Fault → ⊥) → IfTold d b (λ x y. is_unformatted x.kept ≡ false → y.kept ≡ x.kept)
 
 not_foreign : boot.NotAJournal ≡ boot.Fault → ⊥
@@ -81,7 +81,7 @@ not_damaged : (at : ℕ) → boot.Damaged at ≡ boot.Fault → ⊥
 not_damaged at same = cc
 
 -- a refused opening has its cause
-refuses_cause : {F : Type 0} (f : Reads F) (id : Identity) (fault : OpenFault) (d b : DiskView) → KeepsBytes (boot_of fault) d b → SeenRefuses id fault (roomless d) (roomless b) → HasCause f id d (boot_of fault) b
+refuses_cause : {F : Type 0} (f : Reads F) (id : Identity) (fault : OpenFault) (d b : DiskSeen) → KeepsBytes (boot_of fault) d b → SeenRefuses id fault (roomless d) (roomless b) → HasCause f id d (boot_of fault) b
 refuses_cause f id open_fault.Fault d b keeps r = record { rose = r.0; uneasy = r.1 }
 refuses_cause f id open_fault.Memory d b keeps r = tt
 refuses_cause f id open_fault.NotAJournal d b keeps r = λ tells. (r tells, keeps not_foreign tells (refused_begun id d.state.kept open_fault.NotAJournal (r tells)))
@@ -89,7 +89,7 @@ refuses_cause f id (open_fault.WrongNode found) d b keeps r = λ tells. (r tells
 refuses_cause f id (open_fault.Damaged at) d b keeps r = λ tells. (inl (r tells), keeps (not_damaged at) tells (refused_begun id d.state.kept (open_fault.Damaged at) (r tells)))
 
 -- and so have records that do not fit
-unfit_cause : {F : Type 0} (f : Reads F) (id : Identity) (why : BootFault) (d b : DiskView) → KeepsBytes why d b → Unfit f id (roomless d) why (roomless b) → HasCause f id d why b
+unfit_cause : {F : Type 0} (f : Reads F) (id : Identity) (why : BootFault) (d b : DiskSeen) → KeepsBytes why d b → Unfit f id (roomless d) why (roomless b) → HasCause f id d why b
 unfit_cause f id (boot.Damaged at) d b keeps u = λ tells.
     let is : misfit f id.notary id.nodes id.party (placed 16 (journal_of d.state.kept)) ≡ Some at = subst (λ l. misfit f id.notary id.nodes id.party l ≡ Some at) (u.1.told tells) u.2 in
     (inr (u.1.format tells, is), keeps (not_damaged at) tells (misfit_begun f id d.state.kept at is))
@@ -99,7 +99,7 @@ unfit_cause f id boot.NotAJournal d b keeps u = absurd u
 unfit_cause f id (boot.WrongNode found) d b keeps u = absurd u
 
 -- a boot that was refused has its cause
-boot_cause : {F : Type 0} (f : Reads F) (id : Identity) (why : BootFault) (d b : DiskView) → Unbooted f id (roomless d) why (roomless b) → HasCause f id d why b
+boot_cause : {F : Type 0} (f : Reads F) (id : Identity) (why : BootFault) (d b : DiskSeen) → Unbooted f id (roomless d) why (roomless b) → HasCause f id d why b
 boot_cause f id why d b u =
     ⊎_elim
     (λ (o : Unopened id (roomless d) why (roomless b)). subst (λ y. HasCause f id d y b) (sym o.1) (refuses_cause f id o.0 d b (subst (λ y. KeepsBytes y d b) o.1 u.bytes) o.2))
@@ -107,43 +107,43 @@ boot_cause f id why d b u =
     u.cause
 
 -- and leaves this of its disk
-boot_left : {F : Type 0} (f : Reads F) (id : Identity) (why : BootFault) (d b : DiskView) → Unbooted f id (roomless d) why (roomless b) → AfterRefusal why d b
+boot_left : {F : Type 0} (f : Reads F) (id : Identity) (why : BootFault) (d b : DiskSeen) → Unbooted f id (roomless d) why (roomless b) → AfterRefusal why d b
 boot_left f id why d b u = λ tells. (
   at_now d.state b.state (WasSpelt d.state) (u.moves.images tells),
   λ no. (u.same no tells, u.bytes no tells),
 )
 
 -- a disk that was left is as before
-same_refused : (why : BootFault) (d b : DiskView) → d ≡ b → AfterRefusal why d b
+same_refused : (why : BootFault) (d b : DiskSeen) → d ≡ b → AfterRefusal why d b
 same_refused why d b same = subst (AfterRefusal why d) same (λ tells. ((λ c image. (c, image, refl)), λ no. (refl, λ begun. refl)))
 
-same_stays : (d b : DiskView) → b ≡ d → StaysBut d b
+same_stays : (d b : DiskSeen) → b ≡ d → StaysBut d b
 same_stays d b same = subst (StaysBut d) (sym same) (refl, omega arith)
 
-same_calm : (d b : DiskView) → roomless b ≡ roomless d → KeepsCalm d b
-same_calm d b same = let faults : b.faults ≡ d.faults = ap (λ (x : DiskView). x.faults) same in (omega (arith, faults), λ calm. ap (λ (x : DiskView). x.calm) same ∙ calm)
+same_calm : (d b : DiskSeen) → roomless b ≡ roomless d → KeepsCalm d b
+same_calm d b same = let faults : b.faults ≡ d.faults = ap (λ (x : DiskSeen). x.faults) same in (omega (arith, faults), λ calm. ap (λ (x : DiskSeen). x.calm) same ∙ calm)
 
 -- a boot leaves this of a disk on which it opened a journal
-boot_opened : (id : Identity) (d b k : DiskView) (list : List (ℕ × List ℕ)) → roomless b ≡ k → Opens id (roomless d) k list → IsOpened id d b
+boot_opened : (id : Identity) (d b k : DiskSeen) (list : List (ℕ × List ℕ)) → roomless b ≡ k → Opens id (roomless d) k list → IsOpened id d b
 boot_opened id d b k list same o = λ tells.
     let told : k.tells ≡ true = o.moves.tells ∙ tells in (
-      ap (λ (x : DiskView). x.state.kept) same ∙ o.left tells,
-      λ c image. o.holds.images told c (subst (λ (x : DiskView). IsImage x.state.now c) same image) ∙ sym (o.holds.kept told) ∙ o.same tells,
+      ap (λ (x : DiskSeen). x.state.kept) same ∙ o.left tells,
+      λ c image. o.holds.images told c (subst (λ (x : DiskSeen). IsImage x.state.now c) same image) ∙ sym (o.holds.kept told) ∙ o.same tells,
     )
 
-boot_calm : (id : Identity) (d b k : DiskView) (list : List (ℕ × List ℕ)) → roomless b ≡ k → Opens id (roomless d) k list → KeepsCalm d b
+boot_calm : (id : Identity) (d b k : DiskSeen) (list : List (ℕ × List ℕ)) → roomless b ≡ k → Opens id (roomless d) k list → KeepsCalm d b
 boot_calm id d b k list same o =
-    let faults : b.faults ≡ k.faults = ap (λ (x : DiskView). x.faults) same in
+    let faults : b.faults ≡ k.faults = ap (λ (x : DiskSeen). x.faults) same in
     let later = o.moves.later in
-    (omega (arith, faults, later), λ calm. ap (λ (x : DiskView). x.calm) same ∙ o.calm calm)
+    (omega (arith, faults, later), λ calm. ap (λ (x : DiskSeen). x.calm) same ∙ o.calm calm)
 
 -- a making ready before changes nothing of what is kept
-pub own_since : {F : Type 0} (f : Reads F) (id : Identity) (d k : DiskView) → k ≡ record d { faults = k.faults; attached = k.attached } → KeepsOwn f id k → KeepsOwn f id d
+pub own_since : {F : Type 0} (f : Reads F) (id : Identity) (d k : DiskSeen) → k ≡ record d { faults = k.faults; attached = k.attached } → KeepsOwn f id k → KeepsOwn f id d
 own_since f id d k same own = λ tells.
-    subst (λ (x : DiskView). (refusal id x.state.kept ≡ None) × (misfit f id.notary id.nodes id.party (placed 16 (journal_of x.state.kept)) ≡ None)) same (own (ap (λ (x : DiskView). x.tells) same ∙ tells))
+    subst (λ (x : DiskSeen). (refusal id x.state.kept ≡ None) × (misfit f id.notary id.nodes id.party (placed 16 (journal_of x.state.kept)) ≡ None)) same (own (ap (λ (x : DiskSeen). x.tells) same ∙ tells))
 
 -- nodes that came up over disks opened their own journals
-pub boots_own : {F : Type 0} (f : Reads F) (nodes : ℕ) (notary : Party) (ds : List DiskView) (now : ℕ) (new : List NodeSeen) → length ds ≡ nodes → BootsUpTo f nodes now (nodes_over nodes notary 0 ds) new → KeepOwn f nodes notary ds
+pub boots_own : {F : Type 0} (f : Reads F) (nodes : ℕ) (notary : Party) (ds : List DiskSeen) (now : ℕ) (new : List NodeSeen) → length ds ≡ nodes → BootsUpTo f nodes now (nodes_over nodes notary 0 ds) new → KeepOwn f nodes notary ds
 boots_own f nodes notary ds now new count r p d at =
     let n = first_at nodes notary ds p d at in
     let k = get_beside (nodes_over nodes notary 0 ds) new p (node_over nodes notary p d) (sym r.count) n in
@@ -152,7 +152,7 @@ boots_own f nodes notary ds now new count r p d at =
     let id = member nodes notary p in
     λ tells. (b.4.opens.format tells, subst (λ l. misfit f id.notary id.nodes id.party l ≡ None) (b.4.opens.told tells) b.4.fits)
 
-pub all_own_since : {F : Type 0} (f : Reads F) (nodes : ℕ) (notary : Party) (ds ks : List DiskView) → AllStay ds ks → KeepOwn f nodes notary ks → KeepOwn f nodes notary ds
+pub all_own_since : {F : Type 0} (f : Reads F) (nodes : ℕ) (notary : Party) (ds ks : List DiskSeen) → AllStay ds ks → KeepOwn f nodes notary ks → KeepOwn f nodes notary ds
 all_own_since f nodes notary ds ks stay own p d at =
     let k = get_beside ds ks p d (sym stay.count) at in
     own_since f (member nodes notary p) d k.0 (stay.each p d k.0 at k.1).0 (own p k.0 k.1)
@@ -245,29 +245,29 @@ is_bad_journal status.DiskFault is = cc
 is_bad_journal status.NoMemory is = cc
 
 -- a making ready before changes no cause
-cause_since : {F : Type 0} (f : Reads F) (id : Identity) (why : BootFault) (d k b : DiskView) → k ≡ record d { faults = k.faults; attached = k.attached } → d.faults ≤ k.faults → HasCause f id k why b → HasCause f id d why b
+cause_since : {F : Type 0} (f : Reads F) (id : Identity) (why : BootFault) (d k b : DiskSeen) → k ≡ record d { faults = k.faults; attached = k.attached } → d.faults ≤ k.faults → HasCause f id k why b → HasCause f id d why b
 cause_since f id boot.Fault d k b same later h = fails_since d k b same later h
 cause_since f id boot.Memory d k b same later h = tt
 cause_since f id boot.NotAJournal d k b same later h = λ tells.
-    subst (λ (x : DiskView). (refusal id x.state.kept ≡ Some open_fault.NotAJournal) × (b.state.kept ≡ x.state.kept)) same (h (ap (λ (x : DiskView). x.tells) same ∙ tells))
+    subst (λ (x : DiskSeen). (refusal id x.state.kept ≡ Some open_fault.NotAJournal) × (b.state.kept ≡ x.state.kept)) same (h (ap (λ (x : DiskSeen). x.tells) same ∙ tells))
 cause_since f id (boot.WrongNode found) d k b same later h = λ tells.
-    subst (λ (x : DiskView). (refusal id x.state.kept ≡ Some (open_fault.WrongNode found)) × (b.state.kept ≡ x.state.kept)) same (h (ap (λ (x : DiskView). x.tells) same ∙ tells))
+    subst (λ (x : DiskSeen). (refusal id x.state.kept ≡ Some (open_fault.WrongNode found)) × (b.state.kept ≡ x.state.kept)) same (h (ap (λ (x : DiskSeen). x.tells) same ∙ tells))
 cause_since f id (boot.Damaged at) d k b same later h = λ tells.
-    subst (λ (x : DiskView). ((refusal id x.state.kept ≡ Some (open_fault.Damaged at)) ⊎ MisfitsAt f id x.state.kept at) × (b.state.kept ≡ x.state.kept)) same (h (ap (λ (x : DiskView). x.tells) same ∙ tells))
+    subst (λ (x : DiskSeen). ((refusal id x.state.kept ≡ Some (open_fault.Damaged at)) ⊎ MisfitsAt f id x.state.kept at) × (b.state.kept ≡ x.state.kept)) same (h (ap (λ (x : DiskSeen). x.tells) same ∙ tells))
 
-opened_since : (id : Identity) (d k b : DiskView) → k ≡ record d { faults = k.faults; attached = k.attached } → IsOpened id k b → IsOpened id d b
-opened_since id d k b same h = subst (λ (x : DiskView). IsOpened id x b) same h
+opened_since : (id : Identity) (d k b : DiskSeen) → k ≡ record d { faults = k.faults; attached = k.attached } → IsOpened id k b → IsOpened id d b
+opened_since id d k b same h = subst (λ (x : DiskSeen). IsOpened id x b) same h
 
-refused_since : (why : BootFault) (d k b : DiskView) → k ≡ record d { faults = k.faults; attached = k.attached } → AfterRefusal why k b → AfterRefusal why d b
-refused_since why d k b same h = subst (λ (x : DiskView). AfterRefusal why x b) same h
+refused_since : (why : BootFault) (d k b : DiskSeen) → k ≡ record d { faults = k.faults; attached = k.attached } → AfterRefusal why k b → AfterRefusal why d b
+refused_since why d k b same h = subst (λ (x : DiskSeen). AfterRefusal why x b) same h
 
-calm_since : (d k b : DiskView) → StaysBut d k → KeepsCalm k b → KeepsCalm d b
-calm_since d k b stays h = (omega (arith, stays.1, h.0), λ calm. h.1 (ap (λ (x : DiskView). x.calm) stays.0 ∙ calm))
+calm_since : (d k b : DiskSeen) → StaysBut d k → KeepsCalm k b → KeepsCalm d b
+calm_since d k b stays h = (omega (arith, stays.1, h.0), λ calm. h.1 (ap (λ (x : DiskSeen). x.calm) stays.0 ∙ calm))
 
-roomless_stays : (d k : DiskView) → StaysBut d k → StaysBut (roomless d) (roomless k)
+roomless_stays : (d k : DiskSeen) → StaysBut d k → StaysBut (roomless d) (roomless k)
 roomless_stays d k stays = (ap roomless stays.0, stays.1)
 
-pub told_since : {F : Type 0} (f : Reads F) (nodes : ℕ) (notary : Party) (ds ks bs : List DiskView) (written0 written1 : Option (List ℕ)) (s : Status) → AllStay ds ks
+pub told_since : {F : Type 0} (f : Reads F) (nodes : ℕ) (notary : Party) (ds ks bs : List DiskSeen) (written0 written1 : Option (List ℕ)) (s : Status) → AllStay ds ks
     → IsToldWhy f nodes notary ks bs written0 written1 s → IsToldWhy f nodes notary ds bs written0 written1 s
 told_since f nodes notary ds ks bs written0 written1 s stay t = record {
   node = t.node;
@@ -295,12 +295,12 @@ told_since f nodes notary ds ks bs written0 written1 s stay t = record {
   told = t.told;
 }
 
-pub told_at : {F : Type 0} (f : Reads F) (nodes : ℕ) (notary : Party) (ds ks bs es : List DiskView) (written0 written1 : Option (List ℕ)) (s : Status) → es ≡ bs → AllStay ds ks
+pub told_at : {F : Type 0} (f : Reads F) (nodes : ℕ) (notary : Party) (ds ks bs es : List DiskSeen) (written0 written1 : Option (List ℕ)) (s : Status) → es ≡ bs → AllStay ds ks
     → IsToldWhy f nodes notary ks bs written0 written1 s → IsToldWhy f nodes notary ds es written0 written1 s
 told_at f nodes notary ds ks bs es written0 written1 s there stay t = subst (λ x. IsToldWhy f nodes notary ds x written0 written1 s) (sym there) (told_since f nodes notary ds ks bs written0 written1 s stay t)
 
 -- a status that says that the disk failed tells of a fault
-told_of_fault : {F : Type 0} (f : Reads F) (id : Identity) (why : BootFault) (d b : DiskView) (node : ℕ) (written0 written1 : Option (List ℕ)) → HasCause f id d why b
+told_of_fault : {F : Type 0} (f : Reads F) (id : Identity) (why : BootFault) (d b : DiskSeen) (node : ℕ) (written0 written1 : Option (List ℕ)) → HasCause f id d why b
     → RefusedWith node why written0 written1 status.DiskFault → Fails d b
 told_of_fault f id boot.Fault d b node written0 written1 h r = h
 told_of_fault f id boot.Memory d b node written0 written1 h r = absurd (no_memory r.0)
@@ -331,7 +331,7 @@ module _ {F : Type 0} (m : Meaning F) (nodes : ℕ) (notary : Party) where
   abbrev e : Environment F
   e = environment m (member nodes notary 0)
 
-  pub played : (ds bs : List DiskView) (w : World) (begun ended : NetSeen) (left0 left1 written0 written1 : Option (List ℕ)) (count : ℕ) (s : Status)
+  pub played : (ds bs : List DiskSeen) (w : World) (begun ended : NetSeen) (left0 left1 written0 written1 : Option (List ℕ)) (count : ℕ) (s : Status)
       → IsScriptStatus s → KeepOwn m.frame_at nodes notary ds → BeginsWorld m nodes notary ds begun
       → BootsUpTo m.frame_at nodes begun.now (nodes_over nodes notary 0 ds) begun.nodes → begun.waiting ≡ map (λ (n : NodeSeen). []) begun.nodes
       → ScriptRun (NetLink m) (NetShort m) begun left0 left1 written0 written1 count ended s
@@ -373,24 +373,24 @@ module _ {F : Type 0} (m : Meaning F) (nodes : ℕ) (notary : Party) where
       })
 
   -- the boot that was refused
-  abbrev Stopped : List DiskView → ℕ → BootFault → List DiskView → Type 0
-  Stopped ds node why bs = (x : DiskView) × (y : DiskView) × (slice_get ds node ≡ Some x) × (slice_get bs node ≡ Some y) × BootsAs m.frame_at (node_over nodes notary node x) (no_boot why) (node_over nodes notary node y)
+  abbrev Stopped : List DiskSeen → ℕ → BootFault → List DiskSeen → Type 0
+  Stopped ds node why bs = (x : DiskSeen) × (y : DiskSeen) × (slice_get ds node ≡ Some x) × (slice_get bs node ≡ Some y) × BootsAs m.frame_at (node_over nodes notary node x) (no_boot why) (node_over nodes notary node y)
 
-  stopped_cause : (ds bs : List DiskView) (node : ℕ) (why : BootFault) → Stopped ds node why bs → (d b : DiskView) → slice_get ds node ≡ Some d → slice_get bs node ≡ Some b → HasCause m.frame_at (member nodes notary node) d why b
+  stopped_cause : (ds bs : List DiskSeen) (node : ℕ) (why : BootFault) → Stopped ds node why bs → (d b : DiskSeen) → slice_get ds node ≡ Some d → slice_get bs node ≡ Some b → HasCause m.frame_at (member nodes notary node) d why b
   stopped_cause ds bs node why q d b at there =
       let one : q.0 ≡ d = cc in
       let two : q.1 ≡ b = cc in
       subst (λ u. HasCause m.frame_at (member nodes notary node) u why b) one (subst (HasCause m.frame_at (member nodes notary node) q.0 why) two (boot_cause m.frame_at (member nodes notary node) why q.0 q.1 q.4.3))
 
-  stopped_left : (ds bs : List DiskView) (node : ℕ) (why : BootFault) → Stopped ds node why bs → (d b : DiskView) → slice_get ds node ≡ Some d → slice_get bs node ≡ Some b → AfterRefusal why d b
+  stopped_left : (ds bs : List DiskSeen) (node : ℕ) (why : BootFault) → Stopped ds node why bs → (d b : DiskSeen) → slice_get ds node ≡ Some d → slice_get bs node ≡ Some b → AfterRefusal why d b
   stopped_left ds bs node why q d b at there =
       subst (λ u. AfterRefusal why u b) (some_eq (sym q.2 ∙ at)) (subst (AfterRefusal why q.0) (some_eq (sym q.3 ∙ there)) (boot_left m.frame_at (member nodes notary node) why q.0 q.1 q.4.3))
 
-  stopped_calm : (ds bs : List DiskView) (node : ℕ) (why : BootFault) → Stopped ds node why bs → (d b : DiskView) → slice_get ds node ≡ Some d → slice_get bs node ≡ Some b → KeepsCalm d b
+  stopped_calm : (ds bs : List DiskSeen) (node : ℕ) (why : BootFault) → Stopped ds node why bs → (d b : DiskSeen) → slice_get ds node ≡ Some d → slice_get bs node ≡ Some b → KeepsCalm d b
   stopped_calm ds bs node why q d b at there =
       subst (λ u. KeepsCalm u b) (some_eq (sym q.2 ∙ at)) (subst (KeepsCalm q.0) (some_eq (sym q.3 ∙ there)) (q.4.3.moves.later, q.4.3.calm))
 
-  pub told_why : (ds bs : List DiskView) (node : ℕ) (why : BootFault) (written0 written1 : Option (List ℕ)) (s : Status) → 0 < nodes → length ds ≡ nodes → IsRefused m nodes notary ds node why bs
+  pub told_why : (ds bs : List DiskSeen) (node : ℕ) (why : BootFault) (written0 written1 : Option (List ℕ)) (s : Status) → 0 < nodes → length ds ≡ nodes → IsRefused m nodes notary ds node why bs
       → RefusedWith node why written0 written1 s → IsToldWhy m.frame_at nodes notary ds bs written0 written1 s
   told_why ds bs node why written0 written1 s some count r told = record {
     node = node;
@@ -426,7 +426,7 @@ module _ {F : Type 0} (m : Meaning F) (nodes : ℕ) (notary : Party) where
     told = told;
   }
 
-  pub fault_why : (ds bs : List DiskView) (node : ℕ) (why : BootFault) (written0 written1 : Option (List ℕ)) (s : Status) → length ds ≡ nodes → IsRefused m nodes notary ds node why bs → RefusedWith node why written0 written1 s → s ≡ status.DiskFault → OneFails nodes ds bs
+  pub fault_why : (ds bs : List DiskSeen) (node : ℕ) (why : BootFault) (written0 written1 : Option (List ℕ)) (s : Status) → length ds ≡ nodes → IsRefused m nodes notary ds node why bs → RefusedWith node why written0 written1 s → s ≡ status.DiskFault → OneFails nodes ds bs
   fault_why ds bs node why written0 written1 s count r told is =
       let so : RefusedWith node why written0 written1 status.DiskFault = subst (RefusedWith node why written0 written1) is told in
       ⊎_elim
@@ -436,7 +436,7 @@ module _ {F : Type 0} (m : Meaning F) (nodes : ℕ) (notary : Party) where
       record { place = node; own = omega (arith, within, count); before = q.0; after = q.1; at = q.2; now = q.3; fails = told_of_fault m.frame_at (member nodes notary node) why q.0 q.1 node written0 written1 (boot_cause m.frame_at (member nodes notary node) why q.0 q.1 q.4.3) so })
       r.refused
 
-  pub refused : (ds bs : List DiskView) (w : World) (node : ℕ) (why : BootFault) (left written0 written1 : Option (List ℕ)) (s : Status) → 0 < nodes → length ds ≡ nodes
+  pub refused : (ds bs : List DiskSeen) (w : World) (node : ℕ) (why : BootFault) (left written0 written1 : Option (List ℕ)) (s : Status) → 0 < nodes → length ds ≡ nodes
       → IsRefused m nodes notary ds node why bs → RefusedWith node why written0 written1 s
       → Shows e (over e w.now ds) w → Coherent e w → PlaysOrRefuses m nodes notary w ds bs left left written0 written1 0 s
   refused ds bs w node why left written0 written1 s some count r told shows coherent =
@@ -454,7 +454,7 @@ module _ {F : Type 0} (m : Meaning F) (nodes : ℕ) (notary : Party) where
       })
 
   -- the disks were not made ready, or there was no memory for that
-  pub unready : (ds es : List DiskView) (w : World) (left written : Option (List ℕ)) (s : Status) → IsOpeningStatus s → AllStay ds es
+  pub unready : (ds es : List DiskSeen) (w : World) (left written : Option (List ℕ)) (s : Status) → IsOpeningStatus s → AllStay ds es
       → Shows e (over e w.now ds) w → Coherent e w → PlaysOrRefuses m nodes notary w ds es left left written written 0 s
   unready ds es w left written s is stay shows coherent =
       let v = counted es w in
@@ -471,7 +471,7 @@ module _ {F : Type 0} (m : Meaning F) (nodes : ℕ) (notary : Party) where
         opens = λ on. opening_why s written written is refl;
       })
 
-  plays_with : (w v : World) (ds ks bs : List DiskView) (left0 left1 written0 written1 : Option (List ℕ)) (count : ℕ) (s : Status) → MadeReady w v → AllStay ds ks
+  plays_with : (w v : World) (ds ks bs : List DiskSeen) (left0 left1 written0 written1 : Option (List ℕ)) (count : ℕ) (s : Status) → MadeReady w v → AllStay ds ks
       → Plays e v ks bs left0 left1 written0 written1 count s → Plays e w ds bs left0 left1 written0 written1 count s
   plays_with w v ds ks bs left0 left1 written0 written1 count s made stay p = record {
     is_script = p.is_script;
@@ -490,10 +490,10 @@ module _ {F : Type 0} (m : Meaning F) (nodes : ℕ) (notary : Party) where
     acknowledged = p.acknowledged;
   }
 
-  goes_with : (ds ks bs : List DiskView) (left0 left1 written0 written1 : Option (List ℕ)) (count : ℕ) (s : Status) → AllStay ds ks → GoesOn m nodes notary ks bs left0 left1 written0 written1 count s → GoesOn m nodes notary ds bs left0 left1 written0 written1 count s
+  goes_with : (ds ks bs : List DiskSeen) (left0 left1 written0 written1 : Option (List ℕ)) (count : ℕ) (s : Status) → AllStay ds ks → GoesOn m nodes notary ks bs left0 left1 written0 written1 count s → GoesOn m nodes notary ds bs left0 left1 written0 written1 count s
   goes_with ds ks bs left0 left1 written0 written1 count s stay g = record { ready = g.ready; made = stay_then ds ks g.ready stay g.made; begun = g.begun; opened = g.opened; quiet = g.quiet; last = g.last; script = g.script; back = g.back }
 
-  one_way_with : (w v : World) (ds ks bs : List DiskView) (left0 left1 written0 written1 : Option (List ℕ)) (count : ℕ) (s : Status) → MadeReady w v → AllStay ds ks
+  one_way_with : (w v : World) (ds ks bs : List DiskSeen) (left0 left1 written0 written1 : Option (List ℕ)) (count : ℕ) (s : Status) → MadeReady w v → AllStay ds ks
       → PlaysOneWay m nodes notary v ks bs left0 left1 written0 written1 count s → PlaysOneWay m nodes notary w ds bs left0 left1 written0 written1 count s
   unfolding goes_with plays_with
   one_way_with w v ds ks bs left0 left1 written0 written1 count s made stay p = record {
@@ -508,7 +508,7 @@ module _ {F : Type 0} (m : Meaning F) (nodes : ℕ) (notary : Party) where
     };
   }
 
-  refuses_with : (w v : World) (ds ks bs : List DiskView) (left0 left1 written0 written1 : Option (List ℕ)) (count : ℕ) (s : Status) → MadeReady w v → AllStay ds ks
+  refuses_with : (w v : World) (ds ks bs : List DiskSeen) (left0 left1 written0 written1 : Option (List ℕ)) (count : ℕ) (s : Status) → MadeReady w v → AllStay ds ks
       → Refuses e v ks bs left0 left1 written0 written1 count s → Refuses e w ds bs left0 left1 written0 written1 count s
   refuses_with w v ds ks bs left0 left1 written0 written1 count s made stay r = record {
     unread = r.unread;
@@ -523,7 +523,7 @@ module _ {F : Type 0} (m : Meaning F) (nodes : ℕ) (notary : Party) where
   }
 
   -- the disks were made ready, and then the nodes opened or one did not
-  ready : (ds ks bs : List DiskView) (w : World) (left0 left1 written0 written1 : Option (List ℕ)) (count : ℕ) (s : Status) → AllStay ds ks
+  ready : (ds ks bs : List DiskSeen) (w : World) (left0 left1 written0 written1 : Option (List ℕ)) (count : ℕ) (s : Status) → AllStay ds ks
       → ((v : World) → Shows e (over e v.now ks) v → Coherent e v → PlaysOrRefuses m nodes notary v ks bs left0 left1 written0 written1 count s)
       → Shows e (over e w.now ds) w → Coherent e w → PlaysOrRefuses m nodes notary w ds bs left0 left1 written0 written1 count s
   ready ds ks bs w left0 left1 written0 written1 count s stay runs shows coherent =
@@ -533,18 +533,18 @@ module _ {F : Type 0} (m : Meaning F) (nodes : ℕ) (notary : Party) where
       (λ (r : Refuses e v ks bs left0 left1 written0 written1 count s). inr (refuses_with w v ds ks bs left0 left1 written0 written1 count s made stay r))
       (runs v (counted_shows m nodes notary w ds ks stay shows) (made_coherent m nodes notary w v made coherent))
 
-  pub ready_at : (ds ks bs es : List DiskView) (w : World) (left0 left1 written0 written1 : Option (List ℕ)) (count : ℕ) (s : Status) → es ≡ bs → AllStay ds ks
+  pub ready_at : (ds ks bs es : List DiskSeen) (w : World) (left0 left1 written0 written1 : Option (List ℕ)) (count : ℕ) (s : Status) → es ≡ bs → AllStay ds ks
       → ((v : World) → Shows e (over e v.now ks) v → Coherent e v → PlaysOrRefuses m nodes notary v ks bs left0 left1 written0 written1 count s)
       → Shows e (over e w.now ds) w → Coherent e w → PlaysOrRefuses m nodes notary w ds es left0 left1 written0 written1 count s
   ready_at ds ks bs es w left0 left1 written0 written1 count s there stay runs shows coherent =
       subst (λ x. PlaysOrRefuses m nodes notary w ds x left0 left1 written0 written1 count s) (sym there) (ready ds ks bs w left0 left1 written0 written1 count s stay runs shows coherent)
 
-  pub runs_as : (w : World) (ds bs : List DiskView) (left0 left1 written0 written1 : Option (List ℕ)) (count counted number : ℕ) (s : Status) → number ≡ number_of_status s → counted ≡ count
+  pub runs_as : (w : World) (ds bs : List DiskSeen) (left0 left1 written0 written1 : Option (List ℕ)) (count counted number : ℕ) (s : Status) → number ≡ number_of_status s → counted ≡ count
       → PlaysOrRefuses m nodes notary w ds bs left0 left1 written0 written1 count s → RunsAs m nodes notary w ds bs left0 left1 written0 written1 counted number
   runs_as w ds bs left0 left1 written0 written1 count counted number s is same ran = record { status = s; is = is; ran = subst (λ n. PlaysOrRefuses m nodes notary w ds bs left0 left1 written0 written1 n s) (sym same) ran }
 
   -- a run over disks that were made ready, since before that
-  pub runs_since : (ds ks bs : List DiskView) (w : World) (left0 left1 written0 written1 : Option (List ℕ)) (count number : ℕ) → AllStay ds ks
+  pub runs_since : (ds ks bs : List DiskSeen) (w : World) (left0 left1 written0 written1 : Option (List ℕ)) (count number : ℕ) → AllStay ds ks
       → ((v : World) → Shows e (over e v.now ks) v → Coherent e v → RunsAs m nodes notary v ks bs left0 left1 written0 written1 count number)
       → Shows e (over e w.now ds) w → Coherent e w → RunsAs m nodes notary w ds bs left0 left1 written0 written1 count number
   runs_since ds ks bs w left0 left1 written0 written1 count number stay runs shows coherent =
@@ -563,7 +563,7 @@ module _ {F : Type 0} (m : Meaning F) (nodes : ℕ) (notary : Party) where
 
 module _ {F : Type 0} (m : Meaning F) (nodes : ℕ) (notary : Party) where
   -- the disks were made ready before
-  went_since : (ds ks bs : List DiskView) (left0 left1 written0 written1 : Option (List ℕ)) (count : ℕ) (s : Status) → AllStay ds ks
+  went_since : (ds ks bs : List DiskSeen) (left0 left1 written0 written1 : Option (List ℕ)) (count : ℕ) (s : Status) → AllStay ds ks
       → GoesOrHalts m nodes notary ks bs left0 left1 written0 written1 count s → GoesOrHalts m nodes notary ds bs left0 left1 written0 written1 count s
   went_since ds ks bs left0 left1 written0 written1 count s stay (inl g) = inl (goes_with m nodes notary ds ks bs left0 left1 written0 written1 count s stay g)
   went_since ds ks bs left0 left1 written0 written1 count s stay (inr h) =
@@ -573,7 +573,7 @@ module _ {F : Type 0} (m : Meaning F) (nodes : ℕ) (notary : Party) where
         why = ⊎_elim (λ (u : IsUnready ks bs written0 written1 s). inl (u.0, stay_then ds ks bs stay u.1)) (λ (t : IsToldWhy m.frame_at nodes notary ks bs written0 written1 s). inr (told_since m.frame_at nodes notary ds ks bs written0 written1 s stay t)) h.why;
       })
 
-  pub went_at : (ds ks bs es : List DiskView) (left0 left1 written0 written1 : Option (List ℕ)) (count counted number : ℕ) (s : Status) → es ≡ bs → AllStay ds ks → number ≡ number_of_status s → counted ≡ count
+  pub went_at : (ds ks bs es : List DiskSeen) (left0 left1 written0 written1 : Option (List ℕ)) (count counted number : ℕ) (s : Status) → es ≡ bs → AllStay ds ks → number ≡ number_of_status s → counted ≡ count
       → GoesOrHalts m nodes notary ks bs left0 left1 written0 written1 count s → RunsAnyhow m nodes notary ds es left0 left1 written0 written1 counted number
   went_at ds ks bs es left0 left1 written0 written1 count counted number s there stay is same ran = record {
     status = s;
@@ -581,12 +581,12 @@ module _ {F : Type 0} (m : Meaning F) (nodes : ℕ) (notary : Party) where
     ran = subst (λ n. GoesOrHalts m nodes notary ds es left0 left1 written0 written1 n s) (sym same) (subst (λ x. GoesOrHalts m nodes notary ds x left0 left1 written0 written1 count s) (sym there) (went_since ds ks bs left0 left1 written0 written1 count s stay ran));
   }
 
-  pub runs_anyhow_since : (ds ks bs : List DiskView) (left0 left1 written0 written1 : Option (List ℕ)) (count number : ℕ) → AllStay ds ks
+  pub runs_anyhow_since : (ds ks bs : List DiskSeen) (left0 left1 written0 written1 : Option (List ℕ)) (count number : ℕ) → AllStay ds ks
       → RunsAnyhow m nodes notary ks bs left0 left1 written0 written1 count number → RunsAnyhow m nodes notary ds bs left0 left1 written0 written1 count number
   runs_anyhow_since ds ks bs left0 left1 written0 written1 count number stay ran = record { status = ran.status; is = ran.is; ran = went_since ds ks bs left0 left1 written0 written1 count ran.status stay ran.ran }
 
   -- the disks were not made ready, or there was no memory for that
-  pub went_unready : (ds es : List DiskView) (left written : Option (List ℕ)) (counted number : ℕ) (s : Status) → IsOpeningStatus s → AllStay ds es → number ≡ number_of_status s → counted ≡ 0
+  pub went_unready : (ds es : List DiskSeen) (left written : Option (List ℕ)) (counted number : ℕ) (s : Status) → IsOpeningStatus s → AllStay ds es → number ≡ number_of_status s → counted ≡ 0
       → RunsAnyhow m nodes notary ds es left left written written counted number
   went_unready ds es left written counted number s is stay equal none = record { status = s; is = equal; ran = inr (record { unread = refl; none = none; why = inl (opening_why s written written is refl, stay) }) }
 

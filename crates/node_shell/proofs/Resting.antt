@@ -3,7 +3,7 @@ use Rattle.std.proofs.Common.{◌≡◌, ℕ, zero, suc, List, [], ◌∷◌, le
 use Rattle.std.specs.Prelude.{◌≤◌}
 use Rattle.std.specs.List.{slice_get, AllByRecursion}
 use Rattle.std.proofs.lemmas.List.{length-map}
-use Rattle.outside.specs.Disk.{DiskView, IsImage}
+use Rattle.outside.specs.Disk.{DiskSeen, IsImage}
 use Rattle.net_base.specs.declared.names.Identity.{Identity}
 use Rattle.net_base.specs.declared.values.Party.{Party}
 use Rattle.net_base.proofs.Lists.{get_beside, map_twice, get_map, of_map}
@@ -48,30 +48,30 @@ faulty n x = record x { faults = n }
 -- ---- counts of faults
 
 -- nodes with these disks' counts of faults
-abbrev pub with_counts : List DiskView → List NodeWorld → List NodeWorld
+abbrev pub with_counts : List DiskSeen → List NodeWorld → List NodeWorld
 with_counts [] xs = xs
 with_counts (d ∷ ds) [] = []
 with_counts (d ∷ ds) (x ∷ xs) = faulty d.faults x ∷ with_counts ds xs
 
 -- a world with these disks' counts of faults
-abbrev pub counted : List DiskView → World → World
+abbrev pub counted : List DiskSeen → World → World
 counted ds w = record w { nodes = with_counts ds w.nodes }
 
-counted_count : (ds : List DiskView) (xs : List NodeWorld) → length (with_counts ds xs) ≡ length xs
+counted_count : (ds : List DiskSeen) (xs : List NodeWorld) → length (with_counts ds xs) ≡ length xs
 counted_count [] xs = refl
 counted_count (d ∷ ds) [] = refl
 counted_count (d ∷ ds) (x ∷ xs) = ap suc (counted_count ds xs)
 
-counted_at : (ds : List DiskView) (xs : List NodeWorld) (p : ℕ) (d : DiskView) (y : NodeWorld) → slice_get ds p ≡ Some d → slice_get (with_counts ds xs) p ≡ Some y → (x : NodeWorld) × (slice_get xs p ≡ Some x) × (faulty d.faults x ≡ y)
+counted_at : (ds : List DiskSeen) (xs : List NodeWorld) (p : ℕ) (d : DiskSeen) (y : NodeWorld) → slice_get ds p ≡ Some d → slice_get (with_counts ds xs) p ≡ Some y → (x : NodeWorld) × (slice_get xs p ≡ Some x) × (faulty d.faults x ≡ y)
 counted_at [] xs p d y at there = cc
 counted_at (c ∷ ds) [] p d y at there = cc
 counted_at (c ∷ ds) (x ∷ xs) zero d y at there =
     let disk : d ≡ c = cc in
     let node : faulty c.faults x ≡ y = cc in
-    (x, refl, ap (λ (z : DiskView). faulty z.faults x) disk ∙ node)
+    (x, refl, ap (λ (z : DiskSeen). faulty z.faults x) disk ∙ node)
 counted_at (c ∷ ds) (x ∷ xs) (suc p) d y at there = counted_at ds xs p d y at there
 
-counted_waiting : (ds : List DiskView) (xs : List NodeWorld) → map (λ (x : NodeWorld). x.waiting) (with_counts ds xs) ≡ map (λ (x : NodeWorld). x.waiting) xs
+counted_waiting : (ds : List DiskSeen) (xs : List NodeWorld) → map (λ (x : NodeWorld). x.waiting) (with_counts ds xs) ≡ map (λ (x : NodeWorld). x.waiting) xs
 counted_waiting [] xs = refl
 counted_waiting (d ∷ ds) [] = refl
 counted_waiting (d ∷ ds) (x ∷ xs) = ap (λ l. x.waiting ∷ l) (counted_waiting ds xs)
@@ -143,27 +143,27 @@ module _ {F : Type 0} (m : Meaning F) (nodes : ℕ) (notary : Party) where
   abbrev e : Environment F
   e = environment m (member nodes notary 0)
 
-  node_rests : (p : ℕ) (n : NodeSeen) (x : NodeWorld) (d : DiskView) → n.disk ≡ roomless d → NodeShows e p n x → NodeShows e p (node_over nodes notary p d) (down x)
+  node_rests : (p : ℕ) (n : NodeSeen) (x : NodeWorld) (d : DiskSeen) → n.disk ≡ roomless d → NodeShows e p n x → NodeShows e p (node_over nodes notary p d) (down x)
   node_rests p n x d same s = record {
     identity_is = refl;
-    tells = ap (λ (v : DiskView). v.tells) (sym same) ∙ s.tells;
-    images = λ c i. s.images c (subst (λ (v : DiskView). IsImage v.state.now c) (sym same) i);
-    kept = ap (λ (v : DiskView). journal_of v.state.kept) (sym same) ∙ s.kept;
+    tells = ap (λ (v : DiskSeen). v.tells) (sym same) ∙ s.tells;
+    images = λ c i. s.images c (subst (λ (v : DiskSeen). IsImage v.state.now c) (sym same) i);
+    kept = ap (λ (v : DiskSeen). journal_of v.state.kept) (sym same) ∙ s.kept;
     journal = refl;
-    counts = s.counts ∙ ap (λ (v : DiskView). v.faults) same;
-    calm_is = s.calm_is ∙ ap (λ (v : DiskView). v.calm) same;
-    file_is = s.file_is ∙ ap (λ (v : DiskView). v.of_file) same;
+    counts = s.counts ∙ ap (λ (v : DiskSeen). v.faults) same;
+    calm_is = s.calm_is ∙ ap (λ (v : DiskSeen). v.calm) same;
+    file_is = s.file_is ∙ ap (λ (v : DiskSeen). v.of_file) same;
     acked_is = refl;
-    opens = λ on c i. subst (λ (j : Identity). IsYoung j c) s.identity_is (s.opens on c (subst (λ (v : DiskView). IsImage v.state.now c) (sym same) i));
+    opens = λ on c i. subst (λ (j : Identity). IsYoung j c) s.identity_is (s.opens on c (subst (λ (v : DiskSeen). IsImage v.state.now c) (sym same) i));
   }
 
-  each_rests : (ns : List NodeSeen) (xs : List NodeWorld) (ds : List DiskView) → map (λ (n : NodeSeen). n.disk) ns ≡ map roomless ds
+  each_rests : (ns : List NodeSeen) (xs : List NodeWorld) (ds : List DiskSeen) → map (λ (n : NodeSeen). n.disk) ns ≡ map roomless ds
       → ((p : ℕ) (n : NodeSeen) (x : NodeWorld) → slice_get ns p ≡ Some n → slice_get xs p ≡ Some x → NodeShows e p n x)
       → (p : ℕ) (n : NodeSeen) (x : NodeWorld) → slice_get (nodes_over nodes notary 0 ds) p ≡ Some n → slice_get (map down xs) p ≡ Some x → NodeShows e p n x
   each_rests ns xs ds same each p n x at there =
       let under = first_get nodes notary ds p n at in
       let world = of_map down xs p x there in
-      let node = of_map (λ (k : NodeSeen). k.disk) ns p (roomless under.0) (ap (λ (l : List DiskView). slice_get l p) same ∙ get_map roomless ds p under.0 under.1) in
+      let node = of_map (λ (k : NodeSeen). k.disk) ns p (roomless under.0) (ap (λ (l : List DiskSeen). slice_get l p) same ∙ get_map roomless ds p under.0 under.1) in
       subst (NodeShows e p n) world.2 (subst (λ (z : NodeSeen). NodeShows e p z (down world.0)) (sym under.2) (node_rests p node.0 world.0 under.0 node.2 (each p node.0 world.0 node.1 world.1)))
 
   down_coherent : (w : World) → Coherent e w → Coherent e (all_down w)
@@ -182,11 +182,11 @@ module _ {F : Type 0} (m : Meaning F) (nodes : ℕ) (notary : Party) where
   }
 
   -- disks that show a coherent world rest in it
-  pub stands : (w : World) (ds : List DiskView) → Shows e (over e w.now ds) w → Coherent e w → Rests e ds w
+  pub stands : (w : World) (ds : List DiskSeen) → Shows e (over e w.now ds) w → Coherent e w → Rests e ds w
   stands w ds shows coherent = record { shows = shows; coherent = coherent; faithful = λ lists choice. coherent_is_faithful e w lists coherent choice }
 
   -- the disks that come out of a network rest in the world that the network showed
-  pub rests : (net : NetSeen) (w : World) (ds : List DiskView) → Shows e net w → Coherent e w → map (λ (n : NodeSeen). n.disk) net.nodes ≡ map roomless ds → Rests e ds (all_down w)
+  pub rests : (net : NetSeen) (w : World) (ds : List DiskSeen) → Shows e net w → Coherent e w → map (λ (n : NodeSeen). n.disk) net.nodes ≡ map roomless ds → Rests e ds (all_down w)
   rests net w ds shows coherent disks =
       let count : length w.nodes ≡ length ds = shows.count ∙ sym (length-map net.nodes (λ (n : NodeSeen). n.disk)) ∙ ap length disks ∙ length-map ds roomless in
       stands (all_down w) ds
@@ -228,7 +228,7 @@ module _ {F : Type 0} (m : Meaning F) (nodes : ℕ) (notary : Party) where
         };
   }
 
-  module _ (w : World) (ds es : List DiskView) (stay : AllStay ds es) (shows : Shows e (over e w.now ds) w) where
+  module _ (w : World) (ds es : List DiskSeen) (stay : AllStay ds es) (shows : Shows e (over e w.now ds) w) where
     -- a making ready gives the world the counts of faults of the disks as they are then
     pub made_counted : MadeReady w (counted es w)
     made_counted = record {
@@ -256,14 +256,14 @@ module _ {F : Type 0} (m : Meaning F) (nodes : ℕ) (notary : Party) where
         let t : NodeShows e p (node_over nodes notary p (record old.0 { faults = under.0.faults; attached = under.0.attached })) (faulty under.0.faults found.0) = record { identity_is = refl; tells = s.tells; images = s.images; kept = s.kept; journal = s.journal; counts = refl; calm_is = s.calm_is; file_is = s.file_is; acked_is = s.acked_is; opens = s.opens } in
         subst (NodeShows e p k) found.2
         (subst (λ (z : NodeSeen). NodeShows e p z (faulty under.0.faults found.0)) (sym under.2)
-        (subst (λ (v : DiskView). NodeShows e p (node_over nodes notary p v) (faulty under.0.faults found.0)) (sym stays.0) t))
+        (subst (λ (v : DiskSeen). NodeShows e p (node_over nodes notary p v) (faulty under.0.faults found.0)) (sym stays.0) t))
 
     -- the disks as they are then show that world
     pub counted_shows : Shows e (over e w.now es) (counted es w)
     counted_shows = record { count = counted_count es w.nodes ∙ shows.count ∙ over_length nodes notary 0 ds ∙ sym stay.count ∙ sym (over_length nodes notary 0 es); each = each_counted; waiting = counted_waiting es w.nodes ∙ shows.waiting ∙ same_for_each [] ds es (sym stay.count); clock = refl }
 
   -- a refused opening leaves disks that rest on journals that they may have left before
-  pub refused_rests : (w v : World) (ds : List DiskView) → Shows e (net_over nodes notary w.now ds) v → Coherent e v → Rests e ds v
+  pub refused_rests : (w v : World) (ds : List DiskSeen) → Shows e (net_over nodes notary w.now ds) v → Coherent e v → Rests e ds v
   refused_rests w v ds s c = stands v ds (subst (λ (n : ℕ). Shows e (over e n ds) v) (sym s.clock) s) c
 
 pub down_fewer : (why : BootFault) (w v : World) → StayDown why w v → LeavesFewer w v

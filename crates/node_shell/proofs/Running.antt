@@ -3,7 +3,7 @@ use Rattle.std.proofs.Common.{◌≡◌, ℕ, ◌+◌, ◌*◌, List, length, ma
 use Rattle.std.specs.Prelude.{◌<◌, ◌≤◌}
 use Rattle.std.specs.List.{slice_get}
 use Rattle.std.proofs.lemmas.List.{length-map}
-use Rattle.outside.specs.Disk.{Attached, DiskView}
+use Rattle.outside.specs.Disk.{Attached, DiskSeen}
 use Rattle.net_base.proofs.Lists.{map_both}
 use Rattle.node_core.specs.Disks.{attached_as}
 use Rattle.node_shell.specs.Pairs.{first_disks, woven}
@@ -12,7 +12,7 @@ use Rattle.node_shell.proofs.Weaving.{map_woven, woven_count, firsts, seconds, b
 use Rattle.node_shell.proofs.Readying.{first_stay, first_fails}
 
 -- the disks were made ready, the first ones of the nodes were taken out, and others, as many, were put back
-pub record Handed {X : Type 0} (seen : X → DiskView) (n : ℕ) (olds ready own rest back ends : List X) : Type 0 where
+pub record Handed {X : Type 0} (seen : X → DiskSeen) (n : ℕ) (olds ready own rest back ends : List X) : Type 0 where
   pub few : n ≤ 16
   pub all : length olds ≡ 32
   pub stay : AllStay (map seen olds) (map seen ready)
@@ -21,7 +21,7 @@ pub record Handed {X : Type 0} (seen : X → DiskView) (n : ℕ) (olds ready own
   pub same : length back ≡ length own
   pub put : ends ≡ woven back rest
 
-module _ {X : Type 0} (seen : X → DiskView) (n : ℕ) (olds ready own rest back ends : List X) (h : Handed seen n olds ready own rest back ends) where
+module _ {X : Type 0} (seen : X → DiskSeen) (n : ℕ) (olds ready own rest back ends : List X) (h : Handed seen n olds ready own rest back ends) where
   both : length own + length rest ≡ 32
   both =
       let old = length-map olds seen in
@@ -47,7 +47,7 @@ module _ {X : Type 0} (seen : X → DiskView) (n : ℕ) (olds ready own rest bac
   pub last_behind : drop (2 * n) ready ≡ drop (2 * n) olds → drop (2 * n) ends ≡ drop (2 * n) olds
   last_behind before = behind seen back rest ends n (sym h.put) (h.same ∙ h.count) enough ∙ sym (behind seen own rest ready n h.taken h.count enough) ∙ before
 
-  pub last_second : (p : ℕ) (d e : DiskView) → p < n → slice_get (map seen olds) (2 * p + 1) ≡ Some d → slice_get (map seen ends) (2 * p + 1) ≡ Some e → StaysBut d e
+  pub last_second : (p : ℕ) (d e : DiskSeen) → p < n → slice_get (map seen olds) (2 * p + 1) ≡ Some d → slice_get (map seen ends) (2 * p + 1) ≡ Some e → StaysBut d e
   last_second p d e within at there =
       h.stay.each (2 * p + 1) d e at (seconds seen own rest ready n h.taken h.count enough p within ∙ sym (seconds seen back rest ends n (sym h.put) (h.same ∙ h.count) enough p within) ∙ there)
 
@@ -57,7 +57,7 @@ module _ {X : Type 0} (seen : X → DiskView) (n : ℕ) (olds ready own rest bac
   -- each disk is attached as it was when all were made ready, where those that were put back are
   pub last_attached : attached_as (map seen back) ≡ attached_as (map seen own) → attached_as (map seen ends) ≡ attached_as (map seen ready)
   last_attached kept =
-      let all = λ (l : List X). map_both (λ (d : DiskView). d.attached) seen l in
+      let all = λ (l : List X). map_both (λ (d : DiskSeen). d.attached) seen l in
       let firsts_same : map name back ≡ map name own = sym (all back) ∙ kept ∙ all own in
       let wove : map name ends ≡ map name ready =
       ap (map name) h.put ∙ map_woven name back rest ∙ ap (λ l. woven l (map name rest)) firsts_same ∙ sym (map_woven name own rest) ∙ ap (map name) h.taken in

@@ -1,7 +1,7 @@
 -- A run in which nothing was read, since a disk was not made ready or there was no memory.
 use Rattle.std.proofs.Common.{◌≡◌, ◌⊎◌, inl, inr, ⊎_elim, ℕ, ◌+◌, ◌*◌, List, length, map, Option, sym, ap, subst, arith}
 use Rattle.std.specs.Prelude.{◌<◌}
-use Rattle.outside.specs.Disk.{DiskView}
+use Rattle.outside.specs.Disk.{DiskSeen}
 use Rattle.net_model.specs.Environment.{Meaning, party}
 use Rattle.node_core.specs.Disks.{attached_as}
 use Rattle.shell_words.specs.declared.program.NetworkWords.{NetworkWords}
@@ -31,7 +31,7 @@ pub not_played : (number : ℕ) → (number ≡ 6) ⊎ (number ≡ 7) → IsPlay
 not_played number is played =
     ⊎_elim (λ h. no_other 0 number (inl (omega arith)) is h) (λ r. ⊎_elim (λ h. no_other 3 number (inl (omega arith)) is h) (λ h. no_other 4 number (inl (omega arith)) is h) r) played
 
-module _ {F B : Type 0} (m : Meaning F) (seen : B → DiskView) (words : List (List ℕ)) (ds es : List B) (left written : Option (List ℕ)) (a b count number : ℕ) (n : NetworkWords) (s : Status)
+module _ {F B : Type 0} (m : Meaning F) (seen : B → DiskSeen) (words : List (List ℕ)) (ds es : List B) (left written : Option (List ℕ)) (a b count number : ℕ) (n : NetworkWords) (s : Status)
     (is : IsOpeningStatus s) (equal : number ≡ number_of_status s) (none : count ≡ 0) where
   abbrev r : Ran B
   r = still words ds es left written a b count number

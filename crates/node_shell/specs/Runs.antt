@@ -1,7 +1,7 @@
 -- A whole run: how the network opened, and how the script went.
 use Rattle.std.specs.Prelude.{◌≡◌, ◌⊎◌, ◌↔◌, ℕ, ◌+◌, ◌*◌, ◌<◌, ◌≤◌, drop, List, [], ◌∷◌, ◌++◌, length, map, Option, Some, None, codes, decimal, true, false, slice_get, ⊤}
 use Rattle.std.specs.Io.KnownBytes.{Appends}
-use Rattle.outside.specs.Disk.{DiskView, IfTold, IsImage}
+use Rattle.outside.specs.Disk.{DiskSeen, IfTold, IsImage}
 use Rattle.outside.specs.Faults.{Rose}
 use Rattle.net_base.specs.declared.causes.Cause.{Cause}
 use Rattle.net_base.specs.declared.names.Identity.{Identity}
@@ -46,7 +46,7 @@ abbrev pub environment_for : {F : Type 0} → Meaning F → NetworkWords → Env
 environment_for m n = environment m (member n.nodes (party n.notary) 0)
 
 -- the network whose nodes are down over these disks, the first one of each node, at a moment
-abbrev pub over : {F : Type 0} → Environment F → ℕ → List DiskView → NetSeen
+abbrev pub over : {F : Type 0} → Environment F → ℕ → List DiskSeen → NetSeen
 over e now disks = net_over e.nodes e.notary now disks
 
 -- a world whose nodes are all down, and in which no frame waits
@@ -60,24 +60,24 @@ pub record MadeReady (w v : World) : Type 0 where
   pub clock : v.now ≡ w.now
 
 -- the disks show a coherent world, and whichever journals power cuts leave of them are those of one run of the network
-pub record Rests {F : Type 0} (e : Environment F) (disks : List DiskView) (w : World) : Type 0 where
+pub record Rests {F : Type 0} (e : Environment F) (disks : List DiskSeen) (w : World) : Type 0 where
   pub shows : Shows e (over e w.now disks) w
   pub coherent : Coherent e w
   pub faithful : (lists : List (List (List ℕ))) → Choice w lists → IsFaithful e (map (records_of e.frame_at) lists) × (network_of e (map (causes_of e.frame_at) lists) ≡ Some (map (state_of e.frame_at) lists))
 
 -- where a disk tells its content, no opening of this node refuses it: it keeps no begun journal, or a sound one of the node's own whose records fit
-abbrev pub KeepsOwn : {F : Type 0} → Reads F → Identity → DiskView → Type 0
+abbrev pub KeepsOwn : {F : Type 0} → Reads F → Identity → DiskSeen → Type 0
 KeepsOwn frame_at id disk = disk.tells ≡ true → (refusal id disk.state.kept ≡ None) × (misfit frame_at id.notary id.nodes id.party (placed 16 (journal_of disk.state.kept)) ≡ None)
 
 -- no opening of one of these nodes refuses its disk
-abbrev pub KeepOwn : {F : Type 0} → Reads F → ℕ → Party → List DiskView → Type 0
-KeepOwn frame_at nodes notary disks = (p : ℕ) (d : DiskView) → slice_get disks p ≡ Some d → KeepsOwn frame_at (member nodes notary p) d
+abbrev pub KeepOwn : {F : Type 0} → Reads F → ℕ → Party → List DiskSeen → Type 0
+KeepOwn frame_at nodes notary disks = (p : ℕ) (d : DiskSeen) → slice_get disks p ≡ Some d → KeepsOwn frame_at (member nodes notary p) d
 
 -- each node opened its own journal, and the script went from the opening world to the last by steps, and the disks rest in that one; each world of
 -- its story is reached from the opening one, and each world that is reached is coherent; what is acknowledged in any world on the way stands once in
 -- the merged journals of every later one, whichever journals power cuts leave; and of no node's disk there is an image in the end that the node's
 -- opening refuses
-pub record Plays {F : Type 0} (e : Environment F) (w : World) (old new : List DiskView) (left0 left1 written0 written1 : Option (List ℕ)) (count : ℕ) (status : Status) : Type 0 where
+pub record Plays {F : Type 0} (e : Environment F) (w : World) (old new : List DiskSeen) (left0 left1 written0 written1 : Option (List ℕ)) (count : ℕ) (status : Status) : Type 0 where
   pub is_script : IsScriptStatus status
   pub own : KeepOwn e.frame_at e.nodes e.notary old
   pub ready : World
@@ -125,81 +125,81 @@ abbrev pub KeepsJournals : World → World → Type 0
 KeepsJournals w v = (p : ℕ) (x y : NodeWorld) → slice_get w.nodes p ≡ Some x → slice_get v.nodes p ≡ Some y → y.journal ≡ x.journal
 
 -- a disk is as before but for its count of faults, which has not fallen, and what it is attached as
-abbrev pub StaysBut : DiskView → DiskView → Type 0
+abbrev pub StaysBut : DiskSeen → DiskSeen → Type 0
 StaysBut old new = (new ≡ record old { faults = new.faults; attached = new.attached }) × (old.faults ≤ new.faults)
 
 -- each of the disks is as before but for its count of faults, which has not fallen, and what it is attached as
-pub record AllStay (old new : List DiskView) : Type 0 where
+pub record AllStay (old new : List DiskSeen) : Type 0 where
   pub count : length new ≡ length old
-  pub each : (p : ℕ) (d e : DiskView) → slice_get old p ≡ Some d → slice_get new p ≡ Some e → StaysBut d e
+  pub each : (p : ℕ) (d e : DiskSeen) → slice_get old p ≡ Some d → slice_get new p ≡ Some e → StaysBut d e
 
 -- no disk's count of faults has fallen
-pub record NoneFalls (old new : List DiskView) : Type 0 where
+pub record NoneFalls (old new : List DiskSeen) : Type 0 where
   pub count : length new ≡ length old
-  pub each : (p : ℕ) (d e : DiskView) → slice_get old p ≡ Some d → slice_get new p ≡ Some e → d.faults ≤ e.faults
+  pub each : (p : ℕ) (d e : DiskSeen) → slice_get old p ≡ Some d → slice_get new p ≡ Some e → d.faults ≤ e.faults
 
 -- what making disks ready leaves of them: in memory each is as before but for its count of faults and what it is attached as, and in a folder no count has fallen
-abbrev pub StayIn : Option (List ℕ) → List DiskView → List DiskView → Type 0
+abbrev pub StayIn : Option (List ℕ) → List DiskSeen → List DiskSeen → Type 0
 StayIn None old new = AllStay old new
 StayIn (Some path) old new = NoneFalls old new
 
 -- the disks before a place are attached under their own names, in this folder or in memory, and all others as they were before
-pub record AreNamed (folder : Option (List ℕ)) (place : ℕ) (old new : List DiskView) : Type 0 where
-  pub own : (p : ℕ) (e : DiskView) → p < place → slice_get new p ≡ Some e → e.attached ≡ Some (own_name folder p)
-  pub rest : (p : ℕ) (d e : DiskView) → place ≤ p → slice_get old p ≡ Some d → slice_get new p ≡ Some e → e.attached ≡ d.attached
+pub record AreNamed (folder : Option (List ℕ)) (place : ℕ) (old new : List DiskSeen) : Type 0 where
+  pub own : (p : ℕ) (e : DiskSeen) → p < place → slice_get new p ≡ Some e → e.attached ≡ Some (own_name folder p)
+  pub rest : (p : ℕ) (d e : DiskSeen) → place ≤ p → slice_get old p ≡ Some d → slice_get new p ≡ Some e → e.attached ≡ d.attached
 
 -- of the first disks, so many, those before some place are attached under their own names, and no others
-abbrev pub StopsNaming : Option (List ℕ) → ℕ → List DiskView → List DiskView → Type 0
+abbrev pub StopsNaming : Option (List ℕ) → ℕ → List DiskSeen → List DiskSeen → Type 0
 StopsNaming folder count old new = (place : ℕ) × (place < count) × AreNamed folder place old new
 
 -- the attaching stopped at a disk of the nodes, for a disk that failed or for want of memory, or did not begin: nothing was read, and the disks are left
 -- as making them ready leaves them
-pub record StopsAttaching (folder : Option (List ℕ)) (nodes : ℕ) (old new : List DiskView) (count number : ℕ) : Type 0 where
+pub record StopsAttaching (folder : Option (List ℕ)) (nodes : ℕ) (old new : List DiskSeen) (count number : ℕ) : Type 0 where
   pub named : StopsNaming folder (2 * nodes) old new ⊎ (new ≡ old)
   pub stay : StayIn folder old new
   pub none : count ≡ 0
   pub status_is : (number ≡ 6) ⊎ (number ≡ 7)
 
 -- both disks of each node are attached under their own names, in this folder or in memory, and all others as they were before; or the attaching stopped
-abbrev pub NamesDisks : Option (List ℕ) → ℕ → List DiskView → List DiskView → ℕ → ℕ → Type 0
+abbrev pub NamesDisks : Option (List ℕ) → ℕ → List DiskSeen → List DiskSeen → ℕ → ℕ → Type 0
 NamesDisks folder nodes old new count number = AreNamed folder (2 * nodes) old new ⊎ StopsAttaching folder nodes old new count number
 
 -- the count of faults of a disk rose, and the disk was not calm
-pub record Fails (old new : DiskView) : Type 0 where
+pub record Fails (old new : DiskSeen) : Type 0 where
   pub rose : Rose old.faults new.faults
   pub uneasy : old.calm ≡ true → ⊥
 
 -- one of the first of these disks, so many, failed
-pub record OneFails (count : ℕ) (old new : List DiskView) : Type 0 where
+pub record OneFails (count : ℕ) (old new : List DiskSeen) : Type 0 where
   pub place : ℕ
   pub own : place < count
-  pub before : DiskView
-  pub after : DiskView
+  pub before : DiskSeen
+  pub after : DiskSeen
   pub at : slice_get old place ≡ Some before
   pub now : slice_get new place ≡ Some after
   pub fails : Fails before after
 
 -- the count of faults of one of the first of these disks, so many, rose
-pub record OneRises (count : ℕ) (old new : List DiskView) : Type 0 where
+pub record OneRises (count : ℕ) (old new : List DiskSeen) : Type 0 where
   pub place : ℕ
   pub own : place < count
-  pub before : DiskView
-  pub after : DiskView
+  pub before : DiskSeen
+  pub after : DiskSeen
   pub at : slice_get old place ≡ Some before
   pub now : slice_get new place ≡ Some after
   pub rose : Rose before.faults after.faults
 
 -- a disk's count of faults has not fallen, and if it was calm it is so
-abbrev pub KeepsCalm : DiskView → DiskView → Type 0
+abbrev pub KeepsCalm : DiskSeen → DiskSeen → Type 0
 KeepsCalm old new = (old.faults ≤ new.faults) × (old.calm ≡ true → new.calm ≡ true)
 
 -- a node's journal was opened: its disk keeps what it kept, with a journal begun where there was none, and every image spells the journal that was kept
-abbrev pub IsOpened : Identity → DiskView → DiskView → Type 0
+abbrev pub IsOpened : Identity → DiskSeen → DiskSeen → Type 0
 IsOpened id old new = IfTold old new (λ d e. (e.kept ≡ formatted id d.kept) × ((c : List ℕ) → IsImage e.now c → journal_of c ≡ journal_of d.kept))
 
 -- what a refused opening leaves of its node's disk: every image spells a journal that an image spelt before; and but for a fault the disk keeps the
 -- same journal, and the same bytes where one was begun and finished
-abbrev pub AfterRefusal : BootFault → DiskView → DiskView → Type 0
+abbrev pub AfterRefusal : BootFault → DiskSeen → DiskSeen → Type 0
 AfterRefusal why old new = IfTold old new (λ d e. ((c : List ℕ) → IsImage e.now c → WasSpelt d c)
     × ((why ≡ boot.Fault → ⊥) → (journal_of e.kept ≡ journal_of d.kept) × (is_unformatted d.kept ≡ false → e.kept ≡ d.kept)))
 
@@ -209,7 +209,7 @@ MisfitsAt frame_at id bytes at = (refusal id bytes ≡ None) × (misfit frame_at
 
 -- why the first opening of a node over a disk was refused: the disk failed; or memory ran out; or it keeps no sound journal of the node's, or
 -- one whose records do not fit, and then it keeps the same bytes as before
-abbrev pub HasCause : {F : Type 0} → Reads F → Identity → DiskView → BootFault → DiskView → Type 0
+abbrev pub HasCause : {F : Type 0} → Reads F → Identity → DiskSeen → BootFault → DiskSeen → Type 0
 HasCause frame_at id old boot.Fault new = Fails old new
 HasCause frame_at id old boot.Memory new = ⊤
 HasCause frame_at id old boot.NotAJournal new = IfTold old new (λ d e. (refusal id d.kept ≡ Some open_fault.NotAJournal) × (e.kept ≡ d.kept))
@@ -221,27 +221,27 @@ abbrev pub GivesUp : Option (List ℕ) → Option (List ℕ) → Status → Type
 GivesUp written0 written1 s = ((s ≡ status.DiskFault) ⊎ (s ≡ status.NoMemory)) × (written1 ≡ written0)
 
 -- the disks were not made ready: one failed, or memory ran out, and nothing was written; each is as before but for its count of faults and what it is attached as
-abbrev pub IsUnready : List DiskView → List DiskView → Option (List ℕ) → Option (List ℕ) → Status → Type 0
+abbrev pub IsUnready : List DiskSeen → List DiskSeen → Option (List ℕ) → Option (List ℕ) → Status → Type 0
 IsUnready old new written0 written1 s = GivesUp written0 written1 s × AllStay old new
 
 -- an opening was refused for a cause, which what was written tells, with the number of the node: the first one, since no opening of those before it
 -- refuses its disk. The disks of those keep what they kept, and those of the nodes behind it are as before but for their counts of faults and what they are attached as;
 -- of the node's own disk only a fault may have lost what was pending. No count has fallen, and each disk that was calm is so
-pub record IsToldWhy {F : Type 0} (frame_at : Reads F) (nodes : ℕ) (notary : Party) (old new : List DiskView) (written0 written1 : Option (List ℕ)) (s : Status) : Type 0 where
+pub record IsToldWhy {F : Type 0} (frame_at : Reads F) (nodes : ℕ) (notary : Party) (old new : List DiskSeen) (written0 written1 : Option (List ℕ)) (s : Status) : Type 0 where
   pub node : ℕ
   pub within : node < nodes
-  pub earlier : (p : ℕ) (d : DiskView) → p < node → slice_get old p ≡ Some d → KeepsOwn frame_at (member nodes notary p) d
-  pub opened : (p : ℕ) (d b : DiskView) → p < node → slice_get old p ≡ Some d → slice_get new p ≡ Some b → IsOpened (member nodes notary p) d b
-  pub later : (p : ℕ) (d b : DiskView) → node < p → slice_get old p ≡ Some d → slice_get new p ≡ Some b → StaysBut (roomless d) (roomless b)
+  pub earlier : (p : ℕ) (d : DiskSeen) → p < node → slice_get old p ≡ Some d → KeepsOwn frame_at (member nodes notary p) d
+  pub opened : (p : ℕ) (d b : DiskSeen) → p < node → slice_get old p ≡ Some d → slice_get new p ≡ Some b → IsOpened (member nodes notary p) d b
+  pub later : (p : ℕ) (d b : DiskSeen) → node < p → slice_get old p ≡ Some d → slice_get new p ≡ Some b → StaysBut (roomless d) (roomless b)
   pub why : BootFault
-  pub cause : (d b : DiskView) → slice_get old node ≡ Some d → slice_get new node ≡ Some b → HasCause frame_at (member nodes notary node) d why b
-  pub left : (d b : DiskView) → slice_get old node ≡ Some d → slice_get new node ≡ Some b → AfterRefusal why d b
-  pub calm : (p : ℕ) (d b : DiskView) → slice_get old p ≡ Some d → slice_get new p ≡ Some b → KeepsCalm d b
+  pub cause : (d b : DiskSeen) → slice_get old node ≡ Some d → slice_get new node ≡ Some b → HasCause frame_at (member nodes notary node) d why b
+  pub left : (d b : DiskSeen) → slice_get old node ≡ Some d → slice_get new node ≡ Some b → AfterRefusal why d b
+  pub calm : (p : ℕ) (d b : DiskSeen) → slice_get old p ≡ Some d → slice_get new p ≡ Some b → KeepsCalm d b
   pub told : RefusedWith node why written0 written1 s
 
 -- some node did not open: nothing was read, and the disks rest on journals that they may have left before; what was written says why. Where no node's
 -- disk had an image that the node's opening refuses, none has one then, and what came is a disk that failed or want of memory
-pub record Refuses {F : Type 0} (e : Environment F) (w : World) (old new : List DiskView) (left0 left1 written0 written1 : Option (List ℕ)) (count : ℕ) (s : Status) : Type 0 where
+pub record Refuses {F : Type 0} (e : Environment F) (w : World) (old new : List DiskSeen) (left0 left1 written0 written1 : Option (List ℕ)) (count : ℕ) (s : Status) : Type 0 where
   pub unread : left1 ≡ left0
   pub none : count ≡ 0
   pub world : World
@@ -285,8 +285,8 @@ IsPlayedNumber number = (number ≡ 0) ⊎ ((number ≡ 3) ⊎ (number ≡ 4))
 -- ---- over any disks
 
 -- whatever the disks tell: they were made ready, each node opened its journal, and the script went from there to the last network, line by line; its nodes' disks are those that come back
-pub record GoesOn {F : Type 0} (m : Meaning F) (nodes : ℕ) (notary : Party) (old new : List DiskView) (left0 left1 written0 written1 : Option (List ℕ)) (count : ℕ) (status : Status) : Type 0 where
-  pub ready : List DiskView
+pub record GoesOn {F : Type 0} (m : Meaning F) (nodes : ℕ) (notary : Party) (old new : List DiskSeen) (left0 left1 written0 written1 : Option (List ℕ)) (count : ℕ) (status : Status) : Type 0 where
+  pub ready : List DiskSeen
   pub made : AllStay old ready
   pub begun : NetSeen
   pub opened : BootsUpTo m.frame_at nodes begun.now (nodes_over nodes notary 0 ready) begun.nodes
@@ -297,17 +297,17 @@ pub record GoesOn {F : Type 0} (m : Meaning F) (nodes : ℕ) (notary : Party) (o
   pub back : map (λ (n : NodeSeen). n.disk) last.nodes ≡ map roomless new
 
 -- whatever the disks tell: nothing was read, since one was not made ready, or some node did not open
-pub record Halts {F : Type 0} (frame_at : Reads F) (nodes : ℕ) (notary : Party) (old new : List DiskView) (left0 left1 written0 written1 : Option (List ℕ)) (count : ℕ) (status : Status) : Type 0 where
+pub record Halts {F : Type 0} (frame_at : Reads F) (nodes : ℕ) (notary : Party) (old new : List DiskSeen) (left0 left1 written0 written1 : Option (List ℕ)) (count : ℕ) (status : Status) : Type 0 where
   pub unread : left1 ≡ left0
   pub none : count ≡ 0
   pub why : IsUnready old new written0 written1 status ⊎ IsToldWhy frame_at nodes notary old new written0 written1 status
 
 -- a run over any disks
-abbrev pub GoesOrHalts : {F : Type 0} → Meaning F → ℕ → Party → List DiskView → List DiskView → Option (List ℕ) → Option (List ℕ) → Option (List ℕ) → Option (List ℕ) → ℕ → Status → Type 0
+abbrev pub GoesOrHalts : {F : Type 0} → Meaning F → ℕ → Party → List DiskSeen → List DiskSeen → Option (List ℕ) → Option (List ℕ) → Option (List ℕ) → Option (List ℕ) → ℕ → Status → Type 0
 GoesOrHalts m nodes notary old new left0 left1 written0 written1 count s = GoesOn m nodes notary old new left0 left1 written0 written1 count s ⊎ Halts m.frame_at nodes notary old new left0 left1 written0 written1 count s
 
 -- a run over any disks, by the number of its status
-pub record RunsAnyhow {F : Type 0} (m : Meaning F) (nodes : ℕ) (notary : Party) (old new : List DiskView) (left0 left1 written0 written1 : Option (List ℕ)) (count number : ℕ) : Type 0 where
+pub record RunsAnyhow {F : Type 0} (m : Meaning F) (nodes : ℕ) (notary : Party) (old new : List DiskSeen) (left0 left1 written0 written1 : Option (List ℕ)) (count number : ℕ) : Type 0 where
   pub status : Status
   pub is : number ≡ number_of_status status
   pub ran : GoesOrHalts m nodes notary old new left0 left1 written0 written1 count status
@@ -315,7 +315,7 @@ pub record RunsAnyhow {F : Type 0} (m : Meaning F) (nodes : ℕ) (notary : Party
 -- ---- over disks that show a coherent world
 
 -- the networks of the script went together with these worlds, line by line: so the script is one way (`scripts_are_ways`)
-pub record GoTogether {F : Type 0} (m : Meaning F) (nodes : ℕ) (notary : Party) (start last : World) (old new : List DiskView) (left0 left1 written0 written1 : Option (List ℕ)) (count : ℕ) (status : Status) : Type 0 where
+pub record GoTogether {F : Type 0} (m : Meaning F) (nodes : ℕ) (notary : Party) (start last : World) (old new : List DiskSeen) (left0 left1 written0 written1 : Option (List ℕ)) (count : ℕ) (status : Status) : Type 0 where
   pub went : GoesOn m nodes notary old new left0 left1 written0 written1 count status
   pub shows : Shows (environment m (member nodes notary 0)) went.begun start
   pub coherent : Coherent (environment m (member nodes notary 0)) start
@@ -324,18 +324,18 @@ pub record GoTogether {F : Type 0} (m : Meaning F) (nodes : ℕ) (notary : Party
   pub script : ScriptRun (PairLink m (member nodes notary 0)) (PairShort m (member nodes notary 0)) (with_world went.begun start shows coherent) left0 left1 written0 written1 count (with_world went.last last shows_last coherent_last) status
 
 -- the nodes opened and the script was played, and at every moment of it the networks went together with the worlds
-pub record PlaysOneWay {F : Type 0} (m : Meaning F) (nodes : ℕ) (notary : Party) (w : World) (old new : List DiskView) (left0 left1 written0 written1 : Option (List ℕ)) (count : ℕ) (status : Status) : Type 0 where
+pub record PlaysOneWay {F : Type 0} (m : Meaning F) (nodes : ℕ) (notary : Party) (w : World) (old new : List DiskSeen) (left0 left1 written0 written1 : Option (List ℕ)) (count : ℕ) (status : Status) : Type 0 where
   pub plays : Plays (environment m (member nodes notary 0)) w old new left0 left1 written0 written1 count status
   pub together : GoTogether m nodes notary plays.start plays.last old new left0 left1 written0 written1 count status
 
 -- the nodes opened and the script was played, or one did not open
-abbrev pub PlaysOrRefuses : {F : Type 0} → Meaning F → ℕ → Party → World → List DiskView → List DiskView → Option (List ℕ) → Option (List ℕ) → Option (List ℕ) → Option (List ℕ) → ℕ → Status → Type 0
+abbrev pub PlaysOrRefuses : {F : Type 0} → Meaning F → ℕ → Party → World → List DiskSeen → List DiskSeen → Option (List ℕ) → Option (List ℕ) → Option (List ℕ) → Option (List ℕ) → ℕ → Status → Type 0
 PlaysOrRefuses m nodes notary w old new left0 left1 written0 written1 count s =
     PlaysOneWay m nodes notary w old new left0 left1 written0 written1 count s
     ⊎ Refuses (environment m (member nodes notary 0)) w old new left0 left1 written0 written1 count s
 
 -- a run over disks that show this world while their nodes are down: the nodes opened and the script was played, or one did not open
-pub record RunsAs {F : Type 0} (m : Meaning F) (nodes : ℕ) (notary : Party) (w : World) (old new : List DiskView) (left0 left1 written0 written1 : Option (List ℕ)) (count number : ℕ) : Type 0 where
+pub record RunsAs {F : Type 0} (m : Meaning F) (nodes : ℕ) (notary : Party) (w : World) (old new : List DiskSeen) (left0 left1 written0 written1 : Option (List ℕ)) (count number : ℕ) : Type 0 where
   pub status : Status
   pub is : number ≡ number_of_status status
   pub ran : PlaysOrRefuses m nodes notary w old new left0 left1 written0 written1 count status
@@ -364,11 +364,11 @@ abbrev pub Ends : {B : Type 0} → Ran B → Status → Type 0
 Ends r s = r.status ≡ number_of_status s
 
 -- the disks as contracts see them
-abbrev pub views : {B : Type 0} → (B → DiskView) → Change (List B) → Change (List DiskView)
+abbrev pub views : {B : Type 0} → (B → DiskSeen) → Change (List B) → Change (List DiskSeen)
 views seen disks = record { old = map seen disks.old; new = map seen disks.new }
 
 -- of these the first one of each node
-abbrev pub firsts : ℕ → Change (List DiskView) → Change (List DiskView)
+abbrev pub firsts : ℕ → Change (List DiskSeen) → Change (List DiskSeen)
 firsts nodes disks = record { old = first_disks nodes disks.old; new = first_disks nodes disks.new }
 
 -- this holds of the network that the words ask for, where they ask for one
@@ -384,12 +384,12 @@ abbrev pub InFolder : List (List ℕ) → (NetworkWords → Type 0) → Type 0
 InFolder words P = (path : List ℕ) → dir_of_words words ≡ Some path → OfNetwork words P
 
 -- where the nodes' first disks show a coherent world, the script is a story that begins in it, or a node did not open
-abbrev pub IsStory : {F B : Type 0} → Meaning F → Ran B → Change (List DiskView) → NetworkWords → Type 0
+abbrev pub IsStory : {F B : Type 0} → Meaning F → Ran B → Change (List DiskSeen) → NetworkWords → Type 0
 IsStory m r disks n = (w : World) → Shows (environment_for m n) (over (environment_for m n) w.now disks.old) w → Coherent (environment_for m n) w
     → RunsAs m n.nodes (party n.notary) w disks.old disks.new r.left.old r.left.new r.written.old r.written.new r.count r.status
 
 -- whatever the disks tell, the script went line by line, or nothing was read
-abbrev pub Went : {F B : Type 0} → Meaning F → Ran B → Change (List DiskView) → NetworkWords → Type 0
+abbrev pub Went : {F B : Type 0} → Meaning F → Ran B → Change (List DiskSeen) → NetworkWords → Type 0
 Went m r disks n = RunsAnyhow m n.nodes (party n.notary) disks.old disks.new r.left.old r.left.new r.written.old r.written.new r.count r.status
 
 -- the disks behind those of the nodes are handed back as they were
@@ -397,8 +397,8 @@ abbrev pub KeepsOthers : {B : Type 0} → Change (List B) → NetworkWords → T
 KeepsOthers disks n = drop (2 * n.nodes) disks.new ≡ drop (2 * n.nodes) disks.old
 
 -- the second disk of each node is as it was but for its count of faults and its name
-abbrev pub KeepsSeconds : Change (List DiskView) → NetworkWords → Type 0
-KeepsSeconds disks n = (p : ℕ) (d e : DiskView) → p < n.nodes → slice_get disks.old (2 * p + 1) ≡ Some d → slice_get disks.new (2 * p + 1) ≡ Some e → StaysBut d e
+abbrev pub KeepsSeconds : Change (List DiskSeen) → NetworkWords → Type 0
+KeepsSeconds disks n = (p : ℕ) (d e : DiskSeen) → p < n.nodes → slice_get disks.old (2 * p + 1) ≡ Some d → slice_get disks.new (2 * p + 1) ≡ Some e → StaysBut d e
 
 -- nothing was read or written, and the disks are as they were
 pub record IsUntouched {B : Type 0} (r : Ran B) : Type 0 where
@@ -408,16 +408,16 @@ pub record IsUntouched {B : Type 0} (r : Ran B) : Type 0 where
   pub written : r.written.new ≡ r.written.old
 
 -- an opening was refused and told, the first of the nodes on these first disks
-abbrev pub ToldWhy : {F B : Type 0} → Meaning F → Ran B → Change (List DiskView) → NetworkWords → Type 0
+abbrev pub ToldWhy : {F B : Type 0} → Meaning F → Ran B → Change (List DiskSeen) → NetworkWords → Type 0
 ToldWhy m r disks n = IsToldWhy m.frame_at n.nodes (party n.notary) disks.old disks.new r.written.old r.written.new status.BadJournal
 
 -- no opening refuses what these first disks keep
-abbrev pub OpensOwn : {F : Type 0} → Meaning F → Change (List DiskView) → NetworkWords → Type 0
+abbrev pub OpensOwn : {F : Type 0} → Meaning F → Change (List DiskSeen) → NetworkWords → Type 0
 OpensOwn m disks n = KeepOwn m.frame_at n.nodes (party n.notary) disks.old
 
 -- Why the run ended so: 4 and 5 come only where the source or the sink failed. In memory 6 comes only where a disk failed that was not calm, 8 only where
 -- the first disk of some node keeps no journal that the node can open, which was told; and where the script was read no opening refuses what its disk keeps.
-pub record HasCauses {F B : Type 0} (m : Meaning F) (r : Ran B) (disks : Change (List DiskView)) : Type 0 where
+pub record HasCauses {F B : Type 0} (m : Meaning F) (r : Ran B) (disks : Change (List DiskSeen)) : Type 0 where
   pub read_fault : Ends r status.ReadFault → Rose r.source_faults.old r.source_faults.new
   pub write_fault : Ends r status.WriteFault → Rose r.sink_faults.old r.sink_faults.new
   pub disk_fault : Ends r status.DiskFault → InMemory r.words (λ n. OneFails (2 * n.nodes) disks.old disks.new)
@@ -425,7 +425,7 @@ pub record HasCauses {F B : Type 0} (m : Meaning F) (r : Ran B) (disks : Change 
   pub own : IsPlayedNumber r.status → InMemory r.words (λ n. OpensOwn m (firsts n.nodes disks) n)
 
 -- A run over disks that were made ready: over such as show a coherent world it is a story, over any it went line by line or nothing was read.
-pub record IsPlayed {F B : Type 0} (m : Meaning F) (seen : B → DiskView) (r : Ran B) (n : NetworkWords) : Type 0 where
+pub record IsPlayed {F B : Type 0} (m : Meaning F) (seen : B → DiskSeen) (r : Ran B) (n : NetworkWords) : Type 0 where
   pub story : IsStory m r (firsts n.nodes (views seen r.disks)) n
   pub went : Went m r (firsts n.nodes (views seen r.disks)) n
   pub bad_journal : Ends r status.BadJournal → ToldWhy m r (firsts n.nodes (views seen r.disks)) n
@@ -447,13 +447,13 @@ pub record EndsWell {B : Type 0} (r : Ran B) (n : NetworkWords) : Type 0 where
   pub later : (r.source_faults.old ≤ r.source_faults.new) × (r.sink_faults.old ≤ r.sink_faults.new)
 
 -- a run over disks that were made ready, and why it ended so
-pub record RanReady {F B : Type 0} (m : Meaning F) (seen : B → DiskView) (r : Ran B) (n : NetworkWords) : Type 0 where
+pub record RanReady {F B : Type 0} (m : Meaning F) (seen : B → DiskSeen) (r : Ran B) (n : NetworkWords) : Type 0 where
   pub played : IsPlayed m seen r n
   pub disk_fault : Ends r status.DiskFault → OneFails (2 * n.nodes) (map seen r.disks.old) (map seen r.disks.new)
   pub ends : EndsWell r n
 
 -- a run in memory, in which the disks are made ready first, and why it ended so
-pub record RanInMemory {F B : Type 0} (m : Meaning F) (seen : B → DiskView) (r : Ran B) (n : NetworkWords) : Type 0 where
+pub record RanInMemory {F B : Type 0} (m : Meaning F) (seen : B → DiskSeen) (r : Ran B) (n : NetworkWords) : Type 0 where
   pub story : IsStory m r (firsts n.nodes (views seen r.disks)) n
   pub went : Went m r (firsts n.nodes (views seen r.disks)) n
   pub disk_fault : Ends r status.DiskFault → OneFails (2 * n.nodes) (map seen r.disks.old) (map seen r.disks.new)
@@ -464,14 +464,14 @@ pub record RanInMemory {F B : Type 0} (m : Meaning F) (seen : B → DiskView) (r
   pub ends : EndsWell r n
 
 -- A run over files: once they were made ready, by which no count of faults fell, it is a run over them; 6 comes only where a count rose.
-pub record RunsOverFiles {F B : Type 0} (m : Meaning F) (seen : B → DiskView) (r : Ran B) (n : NetworkWords) : Type 0 where
+pub record RunsOverFiles {F B : Type 0} (m : Meaning F) (seen : B → DiskSeen) (r : Ran B) (n : NetworkWords) : Type 0 where
   pub ready : List B
   pub none_falls : NoneFalls (map seen r.disks.old) (map seen ready)
   pub played : IsPlayed m seen (record r { disks = record r.disks { old = ready } }) n
   pub disk_fault : Ends r status.DiskFault → OneRises (2 * n.nodes) (map seen r.disks.old) (map seen r.disks.new)
 
 -- a run over the files of a folder, in which the disks are made ready first, and why it ended so
-pub record RanInFolder {F B : Type 0} (m : Meaning F) (seen : B → DiskView) (path : List ℕ) (r : Ran B) (n : NetworkWords) : Type 0 where
+pub record RanInFolder {F B : Type 0} (m : Meaning F) (seen : B → DiskSeen) (path : List ℕ) (r : Ran B) (n : NetworkWords) : Type 0 where
   pub files : RunsOverFiles m seen r n
   pub named : NamesDisks (Some path) n.nodes (map seen r.disks.old) (map seen r.disks.new) r.count r.status
   pub ends : EndsWell r n
@@ -481,7 +481,7 @@ pub record RanInFolder {F B : Type 0} (m : Meaning F) (seen : B → DiskView) (p
 -- only where the words are refused (`words`), which leaves everything untouched, and is the status then unless memory ran out (`refused`); 3 is exactly a script
 -- that is too long (`too_long`). The 32 disks come back in order, those of the nodes under their names, and those behind them as they were. No count of
 -- faults of the source or the sink falls.
-pub record IsRun {F B : Type 0} (m : Meaning F) (seen : B → DiskView) (r : Ran B) : Type 0 where
+pub record IsRun {F B : Type 0} (m : Meaning F) (seen : B → DiskSeen) (r : Ran B) : Type 0 where
   pub story : InMemory r.words (λ n. IsStory m r (firsts n.nodes (views seen r.disks)) n)
   pub went : InMemory r.words (λ n. Went m r (firsts n.nodes (views seen r.disks)) n)
   pub causes : HasCauses m r (views seen r.disks)

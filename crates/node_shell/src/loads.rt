@@ -45,7 +45,9 @@ fn add_start<F: FlowSet>(
     class: &str,
     args: &[String],
 ) -> Result<(), AllocError>
-    ensures { OnOk result (steps.new.items ≡ steps.old.items ++ start_by node (F.machine.worded class.now (map (λ s. string_bytes s) args.now))) }
+    ensures { OnOk result (steps.new.items
+        ≡ steps.old.items ++ start_by node
+        (F.machine.worded class.now (map (λ s. string_bytes s) args.now))) }
 {
     match F::read_words(alloc, class, args) {
         Ok((class, args)) => steps.push(Step::Start { node, class, args })?,
@@ -102,8 +104,12 @@ fn start_and_drain<B: Bay, F: FlowSet, J: Judge>(
     starts: Vec<Step>,
     contracts: &J,
 ) -> Result<Vec<Outcome>, AllocError>
-    ensures ok { IfOk result (λ outcomes. (net_states (meaning F.machine F.reading (J.judges contracts.now))).follows (then_drain starts.items) outcomes.items true net.old net.new) }
-    ensures err { OnErr result (Breaks (net_states (meaning F.machine F.reading (J.judges contracts.now))) (then_drain starts.items) net.old net.new) }
+    ensures ok { IfOk result (λ outcomes.
+        (net_states (meaning F.machine F.reading (J.judges contracts.now))).follows
+        (then_drain starts.items) outcomes.items true net.old net.new) }
+    ensures err { OnErr result (Breaks
+        (net_states (meaning F.machine F.reading (J.judges contracts.now)))
+        (then_drain starts.items) net.old net.new) }
     ensures count { length net.new.nodes ≡ length net.old.nodes }
 {
     let mut steps = starts;
@@ -141,7 +147,8 @@ fn started(outcomes: &[Outcome]) -> Option<u32>
 
 /// Whether a payment of which these are the outcomes is paid.
 fn is_paid<B: Bay, F: FlowSet>(net: &Net<B, F>, node: u8, outcomes: &[Outcome]) -> bool
-    ensures { result ≡ option_map_or (λ flow. ended_seen F.reading node flow net.entry.now) (started outcomes.now) false }
+    ensures { result ≡ option_map_or (λ flow. ended_seen F.reading node flow net.entry.now)
+        (started outcomes.now) false }
 {
     match started(outcomes) {
         None => false,
@@ -158,8 +165,12 @@ fn pay<B: Bay, F: FlowSet, J: Judge>(
     contracts: &J,
 ) -> Result<bool, AllocError>
     requires { (drawn.from < length nodes.now) × (drawn.to < length nodes.now) }
-    ensures ok { IfOk result (IsMade (net_states (meaning F.machine F.reading (J.judges contracts.now))) (deal_of F.machine nodes.now drawn) net.old net.new) }
-    ensures err { OnErr result (Breaks (net_states (meaning F.machine F.reading (J.judges contracts.now))) (then_drain (deal_of F.machine nodes.now drawn).starts) net.old net.new) }
+    ensures ok { IfOk result (IsMade (net_states
+        (meaning F.machine F.reading (J.judges contracts.now)))
+        (deal_of F.machine nodes.now drawn) net.old net.new) }
+    ensures err { OnErr result (Breaks
+        (net_states (meaning F.machine F.reading (J.judges contracts.now)))
+        (then_drain (deal_of F.machine nodes.now drawn).starts) net.old net.new) }
     ensures count { length net.new.nodes ≡ length net.old.nodes }
 {
     let from = nodes[drawn.from as usize];
@@ -179,9 +190,13 @@ fn pay_all<B: Bay, F: FlowSet, J: Judge>(
     contracts: &J,
 ) -> Result<u64, AllocError>
     requires { (2 ≤ length nodes.now) × (length nodes.now ≤ 16) }
-    ensures ok { IfOk result (λ paid. Pays (net_states (meaning F.machine F.reading (J.judges contracts.now))) (deals_of F.machine nodes.now seed count) paid net.old net.new) }
+    ensures ok { IfOk result (λ paid. Pays
+        (net_states (meaning F.machine F.reading (J.judges contracts.now)))
+        (deals_of F.machine nodes.now seed count) paid net.old net.new) }
     ensures few { IfOk result (λ paid. paid ≤ count) }
-    ensures err { OnErr result (PaysShort (net_states (meaning F.machine F.reading (J.judges contracts.now))) (deals_of F.machine nodes.now seed count) net.old net.new) }
+    ensures err { OnErr result (PaysShort
+        (net_states (meaning F.machine F.reading (J.judges contracts.now)))
+        (deals_of F.machine nodes.now seed count) net.old net.new) }
     ensures count { length net.new.nodes ≡ length net.old.nodes }
 {
     let mut maker = Maker::new(seed, nodes.len() as u32);
@@ -217,7 +232,8 @@ fn load_text<B: Bay, F: FlowSet>(
     paid: u64,
 ) -> Result<String, AllocError>
     requires { paid ≤ count }
-    ensures { IfOk result (λ text. string_bytes text ≡ load_text count paid (flat_map (held_of F.reading) net.entry.now.nodes)) }
+    ensures { IfOk result (λ text. string_bytes text
+        ≡ load_text count paid (flat_map (held_of F.reading) net.entry.now.nodes)) }
 {
     let held = held(alloc, net.nodes())?;
     let totals = totals_text(alloc, held.as_slice())?;
@@ -252,7 +268,8 @@ pub fn load<B: Bay, F: FlowSet, J: Judge>(
     count: u64,
     contracts: &J,
 ) -> Result<Reply, AllocError>
-    ensures goes { Loads (net_states (meaning F.machine F.reading (J.judges contracts.now))) F.machine seed count net.old (given result) net.new }
+    ensures goes { Loads (net_states (meaning F.machine F.reading (J.judges contracts.now)))
+        F.machine seed count net.old (given result) net.new }
     ensures count { length net.new.nodes ≡ length net.old.nodes }
     ensures goes_on { IfOk result (λ reply. is_end reply ≡ false) }
 {

@@ -34,13 +34,17 @@ fn attach<B: Bay>(
     disk: &mut B,
     place: usize,
 ) -> Result<(), Status>
-    ensures stays { option_map (λ s. s.now) dir.entry ≡ None → StaysBut (B.seen disk.old) (B.seen disk.new) }
+    ensures stays { option_map (λ s. s.now) dir.entry ≡ None
+        → StaysBut (B.seen disk.old) (B.seen disk.new) }
     ensures later { (B.seen disk.old).faults ≤ (B.seen disk.new).faults }
-    ensures named { OnOk result ((B.seen disk.new).attached ≡ Some (own_name (option_map (λ s. s.now) dir.entry) place)) }
+    ensures named { OnOk result ((B.seen disk.new).attached
+        ≡ Some (own_name (option_map (λ s. s.now) dir.entry) place)) }
     ensures unnamed { OnErr result ((B.seen disk.new).attached ≡ (B.seen disk.old).attached) }
     ensures kinds { IfErr result IsOpeningStatus }
-    ensures cause { option_map (λ s. s.now) dir.entry ≡ None → IsErrOf result Status.DiskFault → Fails (B.seen disk.old) (B.seen disk.new) }
-    ensures rose { IsErrOf result Status.DiskFault → Rose (B.seen disk.old).faults (B.seen disk.new).faults }
+    ensures cause { option_map (λ s. s.now) dir.entry ≡ None → IsErrOf result Status.DiskFault
+        → Fails (B.seen disk.old) (B.seen disk.new) }
+    ensures rose { IsErrOf result Status.DiskFault
+        → Rose (B.seen disk.old).faults (B.seen disk.new).faults }
 {
     let Ok(name) = disk_name(alloc, place / 2, place % 2 == 1) else {
         return Err(Status::NoMemory);
@@ -104,14 +108,19 @@ pub fn attach_all<B: Bay>(
 ) -> Result<(), Status>
     requires few { nodes ≤ 16 }
     requires disks { 2 * nodes ≤ length disks.old.items }
-    ensures stay { StayIn (option_map (λ s. s.now) dir.entry) (map B.seen disks.old.items) (map B.seen disks.new.items) }
+    ensures stay { StayIn (option_map (λ s. s.now) dir.entry) (map B.seen disks.old.items)
+        (map B.seen disks.new.items) }
     ensures none_falls { NoneFalls (map B.seen disks.old.items) (map B.seen disks.new.items) }
-    ensures named { OnOk result (AreNamed (option_map (λ s. s.now) dir.entry) (2 * nodes) (map B.seen disks.old.items) (map B.seen disks.new.items)) }
-    ensures stopped { OnErr result (StopsNaming (option_map (λ s. s.now) dir.entry) (2 * nodes) (map B.seen disks.old.items) (map B.seen disks.new.items)) }
+    ensures named { OnOk result (AreNamed (option_map (λ s. s.now) dir.entry) (2 * nodes)
+        (map B.seen disks.old.items) (map B.seen disks.new.items)) }
+    ensures stopped { OnErr result (StopsNaming (option_map (λ s. s.now) dir.entry) (2 * nodes)
+        (map B.seen disks.old.items) (map B.seen disks.new.items)) }
     ensures rest { drop (2 * nodes) disks.new.items ≡ drop (2 * nodes) disks.old.items }
     ensures kinds { IfErr result IsOpeningStatus }
-    ensures cause { option_map (λ s. s.now) dir.entry ≡ None → IsErrOf result Status.DiskFault → OneFails (2 * nodes) (map B.seen disks.old.items) (map B.seen disks.new.items) }
-    ensures rose { IsErrOf result Status.DiskFault → OneRises (2 * nodes) (map B.seen disks.old.items) (map B.seen disks.new.items) }
+    ensures cause { option_map (λ s. s.now) dir.entry ≡ None → IsErrOf result Status.DiskFault
+        → OneFails (2 * nodes) (map B.seen disks.old.items) (map B.seen disks.new.items) }
+    ensures rose { IsErrOf result Status.DiskFault
+        → OneRises (2 * nodes) (map B.seen disks.old.items) (map B.seen disks.new.items) }
 {
     'places: for place in 0..2 * nodes {
         let disk = &mut disks[place];

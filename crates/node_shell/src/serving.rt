@@ -81,8 +81,10 @@ fn make<B: Bay, F: FlowSet, J: Judge>(
     step: &Step,
     contracts: &J,
 ) -> Result<Reply, AllocError>
-    ensures serves { KeepsWorld (meaning F.machine F.reading (J.judges contracts.now)) net.old net.new (λ e w v. StepComes e w step.now result v) }
-    ensures responds { StepResponds (meaning F.machine F.reading (J.judges contracts.now)) step.now net.old (given result) net.new }
+    ensures serves { KeepsWorld (meaning F.machine F.reading (J.judges contracts.now)) net.old
+        net.new (λ e w v. StepComes e w step.now result v) }
+    ensures responds { StepResponds (meaning F.machine F.reading (J.judges contracts.now)) step.now
+        net.old (given result) net.new }
     ensures count { length net.new.nodes ≡ length net.old.nodes }
     ensures goes_on { IfOk result (λ reply. is_end reply ≡ false) }
 {
@@ -91,7 +93,8 @@ fn make<B: Bay, F: FlowSet, J: Judge>(
 
 /// What the node at a place recorded, where it is there and up.
 fn store_of<B: Bay, F: FlowSet>(net: &Net<B, F>, place: u8) -> Option<&Store>
-    ensures { option_map_or (λ store. store.now.list) result [] ≡ recorded_seen F.reading net.entry.now place }
+    ensures { option_map_or (λ store. store.now.list) result []
+        ≡ recorded_seen F.reading net.entry.now place }
 {
     match net.nodes().get(place as usize) {
         None => None,
@@ -117,7 +120,8 @@ fn put_in(alloc: Global, store: &Store, word: &str) -> Result<String, AllocError
 
 /// The arguments of a start, each `#k` that names a recorded transaction replaced so.
 fn put_in_all(alloc: Global, store: &Store, args: &[String]) -> Result<Vec<String>, AllocError>
-    ensures { IfOk result (λ filled. map (λ s. string_bytes s) filled.items ≡ map (put_in store.now.list) (map (λ s. string_bytes s) args.now)) }
+    ensures { IfOk result (λ filled. map (λ s. string_bytes s) filled.items
+        ≡ map (put_in store.now.list) (map (λ s. string_bytes s) args.now)) }
 {
     let mut filled = Vec::with_capacity(alloc, args.len())?;
     for word in args {
@@ -132,7 +136,8 @@ fn named_by<F: FlowSet>(
     class: &str,
     args: &[String],
 ) -> Result<(u16, ByteList), WordFault>
-    ensures { GivesWords result (named_by F.machine class.now (map (λ s. string_bytes s) args.now)) }
+    ensures { GivesWords result (named_by F.machine class.now
+        (map (λ s. string_bytes s) args.now)) }
 {
     match F::read_words(alloc, class, args) {
         Ok(_) if has_mark(args) => Err(WordFault::BadArgs),
@@ -149,7 +154,8 @@ fn started_by<B: Bay, F: FlowSet>(
     words: &[String],
 ) -> Result<(u16, ByteList), WordFault>
     requires { 2 < length words.now }
-    ensures { GivesWords result (started_by F.machine (recorded_seen F.reading net.entry.now place) (map (λ s. string_bytes s) words.now)) }
+    ensures { GivesWords result (started_by F.machine (recorded_seen F.reading net.entry.now place)
+        (map (λ s. string_bytes s) words.now)) }
 {
     let args = &words[3..];
     if !has_mark(args) {
@@ -184,8 +190,11 @@ fn start<B: Bay, F: FlowSet, J: Judge>(
     contracts: &J,
 ) -> Result<Reply, AllocError>
     requires { 2 < length words.now }
-    ensures serves { KeepsWorld (meaning F.machine F.reading (J.judges contracts.now)) net.old net.new (λ e w v. Comes e w (command.Start node) (map (λ s. string_bytes s) words.now) result v) }
-    ensures responds { CommandResponds (meaning F.machine F.reading (J.judges contracts.now)) (command.Start node) (map (λ s. string_bytes s) words.now) net.old (given result) net.new }
+    ensures serves { KeepsWorld (meaning F.machine F.reading (J.judges contracts.now)) net.old
+        net.new (λ e w v. Comes e w (command.Start node)
+        (map (λ s. string_bytes s) words.now) result v) }
+    ensures responds { CommandResponds (meaning F.machine F.reading (J.judges contracts.now))
+        (command.Start node) (map (λ s. string_bytes s) words.now) net.old (given result) net.new }
     ensures count { length net.new.nodes ≡ length net.old.nodes }
     ensures goes_on { IfOk result (λ reply. is_end reply ≡ false) }
 {
@@ -211,7 +220,8 @@ fn print_flows<B: Bay, F: FlowSet>(
     net: &Net<B, F>,
     place: u8,
 ) -> Result<Reply, AllocError>
-    ensures asks { IfOk result (λ reply. AtSeen net.entry.now place reply (PrintsFlows F.reading reply)) }
+    ensures asks { IfOk result (λ reply.
+        AtSeen net.entry.now place reply (PrintsFlows F.reading reply)) }
     ensures goes_on { IfOk result (λ reply. is_end reply ≡ false) }
 {
     let Some(node) = net.nodes().get(place as usize) else {
@@ -230,7 +240,8 @@ fn print_flow<B: Bay, F: FlowSet>(
     place: u8,
     flow: u32,
 ) -> Result<Reply, AllocError>
-    ensures asks { IfOk result (λ reply. AtSeen net.entry.now place reply (PrintsFlow F.reading flow reply)) }
+    ensures asks { IfOk result (λ reply.
+        AtSeen net.entry.now place reply (PrintsFlow F.reading flow reply)) }
     ensures goes_on { IfOk result (λ reply. is_end reply ≡ false) }
 {
     let Some(node) = net.nodes().get(place as usize) else {
@@ -251,7 +262,8 @@ fn print_vault<B: Bay, F: FlowSet>(
     net: &Net<B, F>,
     place: u8,
 ) -> Result<Reply, AllocError>
-    ensures asks { IfOk result (λ reply. OfSeen net.entry.now place reply (PrintsVault F.reading reply)) }
+    ensures asks { IfOk result (λ reply.
+        OfSeen net.entry.now place reply (PrintsVault F.reading reply)) }
     ensures goes_on { IfOk result (λ reply. is_end reply ≡ false) }
 {
     let Some(node) = net.nodes().get(place as usize) else {
@@ -272,7 +284,8 @@ fn print_balance<B: Bay, F: FlowSet>(
     net: &Net<B, F>,
     place: u8,
 ) -> Result<Reply, AllocError>
-    ensures asks { IfOk result (λ reply. OfSeen net.entry.now place reply (PrintsBalance F.reading reply)) }
+    ensures asks { IfOk result (λ reply.
+        OfSeen net.entry.now place reply (PrintsBalance F.reading reply)) }
     ensures goes_on { IfOk result (λ reply. is_end reply ≡ false) }
 {
     let Some(node) = net.nodes().get(place as usize) else {
@@ -300,7 +313,8 @@ fn print_book<B: Bay, F: FlowSet>(
     net: &Net<B, F>,
     place: u8,
 ) -> Result<Reply, AllocError>
-    ensures asks { IfOk result (λ reply. AtSeen net.entry.now place reply (PrintsBook F.reading reply)) }
+    ensures asks { IfOk result (λ reply.
+        AtSeen net.entry.now place reply (PrintsBook F.reading reply)) }
     ensures goes_on { IfOk result (λ reply. is_end reply ≡ false) }
 {
     let Some(node) = net.nodes().get(place as usize) else {
@@ -314,7 +328,8 @@ fn print_book<B: Bay, F: FlowSet>(
 
 /// The line of a recorded transaction, with its end; `None` where none is so named.
 fn tx_line(alloc: Global, store: &Store, name: &TxName) -> Result<Option<String>, AllocError>
-    ensures { IfOk result (λ line. IsLineOf name.now store.now.list (option_map (λ s. string_bytes s) line)) }
+    ensures { IfOk result (λ line. IsLineOf name.now store.now.list
+        (option_map (λ s. string_bytes s) line)) }
 {
     match name {
         TxName::Id(id) => tx_text_of(alloc, store, id),
@@ -329,7 +344,8 @@ fn print_tx<B: Bay, F: FlowSet>(
     place: u8,
     name: &TxName,
 ) -> Result<Reply, AllocError>
-    ensures asks { IfOk result (λ reply. AtSeen net.entry.now place reply (PrintsTx F.reading name.now reply)) }
+    ensures asks { IfOk result (λ reply.
+        AtSeen net.entry.now place reply (PrintsTx F.reading name.now reply)) }
     ensures goes_on { IfOk result (λ reply. is_end reply ≡ false) }
 {
     let Some(node) = net.nodes().get(place as usize) else {
@@ -349,7 +365,8 @@ fn all_causes<B: Bay, F: FlowSet>(
     alloc: Global,
     nodes: &[Node<B, F>],
 ) -> Result<Option<Vec<CauseList>>, AllocError>
-    ensures { IfOk result (λ r. option_map (λ lists. lists.items) r ≡ causes_up F.reading nodes.now) }
+    ensures { IfOk result (λ r. option_map (λ lists. lists.items) r
+        ≡ causes_up F.reading nodes.now) }
 {
     let mut lists = Vec::with_capacity(alloc, nodes.len())?;
     for node in nodes {
@@ -379,10 +396,15 @@ fn serve<B: Bay, F: FlowSet, J: Judge>(
     words: &[String],
     contracts: &J,
 ) -> Result<Reply, AllocError>
-    ensures serves { let ws = map (λ s. string_bytes s) words.now in KeepsWorld (meaning F.machine F.reading (J.judges contracts.now)) net.old net.new (λ e w v. Comes e w (command_of ws) ws result v) }
-    ensures responds { let ws = map (λ s. string_bytes s) words.now in CommandResponds (meaning F.machine F.reading (J.judges contracts.now)) (command_of ws) ws net.old (given result) net.new }
+    ensures serves { let ws = map (λ s. string_bytes s) words.now in
+        KeepsWorld (meaning F.machine F.reading (J.judges contracts.now)) net.old net.new
+        (λ e w v. Comes e w (command_of ws) ws result v) }
+    ensures responds { let ws = map (λ s. string_bytes s) words.now in
+        CommandResponds (meaning F.machine F.reading (J.judges contracts.now))
+        (command_of ws) ws net.old (given result) net.new }
     ensures count { length net.new.nodes ≡ length net.old.nodes }
-    ensures end { IfOk result (λ reply. is_end reply ≡ is_quit_command (command_of (map (λ s. string_bytes s) words.now))) }
+    ensures end { IfOk result (λ reply. is_end reply
+        ≡ is_quit_command (command_of (map (λ s. string_bytes s) words.now))) }
 {
     match command_of(words) {
         Command::Clock { to } => make(alloc, net, &Step::Clock { to: Moment(to) }, contracts),
@@ -465,8 +487,10 @@ pub fn reply_to<B: Bay, F: FlowSet, J: Judge>(
     line: &[u8],
     contracts: &J,
 ) -> Result<Reply, AllocError>
-    ensures replies { KeepsWorld (meaning F.machine F.reading (J.judges contracts.now)) net.old net.new (λ e w v. LineComes e w line.now result v) }
-    ensures responds { LineResponds (meaning F.machine F.reading (J.judges contracts.now)) line.now net.old (given result) net.new }
+    ensures replies { KeepsWorld (meaning F.machine F.reading (J.judges contracts.now)) net.old
+        net.new (λ e w v. LineComes e w line.now result v) }
+    ensures responds { LineResponds (meaning F.machine F.reading (J.judges contracts.now)) line.now
+        net.old (given result) net.new }
     ensures count { length net.new.nodes ≡ length net.old.nodes }
     ensures end { IfOk result (λ reply. is_end reply ≡ is_quit line.now) }
 {

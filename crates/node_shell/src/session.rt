@@ -45,7 +45,9 @@ fn answer<B: Bay, F: FlowSet, K: Sink, J: Judge>(
     line: &[u8],
     contracts: &J,
 ) -> Result<bool, Stop>
-    ensures comes { AnswerComes (NetLink (meaning F.machine F.reading (J.judges contracts.now))) (NetShort (meaning F.machine F.reading (J.judges contracts.now))) net.old line.now (K.written sink.old) (K.written sink.new) result net.new }
+    ensures comes { AnswerComes (NetLink (meaning F.machine F.reading (J.judges contracts.now)))
+        (NetShort (meaning F.machine F.reading (J.judges contracts.now))) net.old line.now
+        (K.written sink.old) (K.written sink.new) result net.new }
     ensures count { length net.new.nodes ≡ length net.old.nodes }
     ensures quit { IfOk result (λ quit. quit ≡ is_quit line.now) }
     ensures cause { IsErrOf result Stop.Write → Rose (K.faults sink.old) (K.faults sink.new) }
@@ -80,8 +82,13 @@ fn answer_last<B: Bay, F: FlowSet, K: Sink, J: Judge>(
     line: &[u8],
     contracts: &J,
 ) -> Status
-    ensures ended { (start : NetSeen) (left0 left1 written0 : Option (List ℕ)) (count : ℕ) → count ≤ 16777216 → IsAtEnd left1 → Progress (NetLink (meaning F.machine F.reading (J.judges contracts.now))) start left0 left1 written0 (K.written sink.old) count net.old line.now
-        → ScriptRun (NetLink (meaning F.machine F.reading (J.judges contracts.now))) (NetShort (meaning F.machine F.reading (J.judges contracts.now))) start left0 left1 written0 (K.written sink.new) count net.new result }
+    ensures ended { (start : NetSeen) (left0 left1 written0 : Option (List ℕ)) (count : ℕ)
+        → count ≤ 16777216 → IsAtEnd left1
+        → Progress (NetLink (meaning F.machine F.reading (J.judges contracts.now))) start left0
+        left1 written0 (K.written sink.old) count net.old line.now
+        → ScriptRun (NetLink (meaning F.machine F.reading (J.judges contracts.now)))
+        (NetShort (meaning F.machine F.reading (J.judges contracts.now))) start left0 left1
+        written0 (K.written sink.new) count net.new result }
     ensures count { length net.new.nodes ≡ length net.old.nodes }
     ensures kinds { IsLastStatus result }
     ensures cause { result ≡ Status.WriteFault → Rose (K.faults sink.old) (K.faults sink.new) }
@@ -104,13 +111,24 @@ fn answer_line<B: Bay, F: FlowSet, K: Sink, J: Judge>(
     line: &[u8],
     contracts: &J,
 ) -> Result<(), Status>
-    ensures ok { OnOk result ((start : NetSeen) (left0 left1 left2 written0 : Option (List ℕ)) (count : ℕ) → count < 16777216 → Consumes left1 left2 (10 ∷ []) → Progress (NetLink (meaning F.machine F.reading (J.judges contracts.now))) start left0 left1 written0 (K.written sink.old) count net.old line.now
-        → Progress (NetLink (meaning F.machine F.reading (J.judges contracts.now))) start left0 left2 written0 (K.written sink.new) (count + 1) net.new []) }
-    ensures err { IfErr result (λ status. (start : NetSeen) (left0 left1 left2 written0 : Option (List ℕ)) (count : ℕ) → count < 16777216 → Consumes left1 left2 (10 ∷ []) → Progress (NetLink (meaning F.machine F.reading (J.judges contracts.now))) start left0 left1 written0 (K.written sink.old) count net.old line.now
-        → ScriptRun (NetLink (meaning F.machine F.reading (J.judges contracts.now))) (NetShort (meaning F.machine F.reading (J.judges contracts.now))) start left0 left2 written0 (K.written sink.new) (count + 1) net.new status) }
+    ensures ok { OnOk result ((start : NetSeen) (left0 left1 left2 written0 : Option (List ℕ))
+        (count : ℕ) → count < 16777216 → Consumes left1 left2 (10 ∷ [])
+        → Progress (NetLink (meaning F.machine F.reading (J.judges contracts.now))) start left0
+        left1 written0 (K.written sink.old) count net.old line.now
+        → Progress (NetLink (meaning F.machine F.reading (J.judges contracts.now))) start left0
+        left2 written0 (K.written sink.new) (count + 1) net.new []) }
+    ensures err { IfErr result (λ status.
+        (start : NetSeen) (left0 left1 left2 written0 : Option (List ℕ)) (count : ℕ)
+        → count < 16777216 → Consumes left1 left2 (10 ∷ [])
+        → Progress (NetLink (meaning F.machine F.reading (J.judges contracts.now))) start left0
+        left1 written0 (K.written sink.old) count net.old line.now
+        → ScriptRun (NetLink (meaning F.machine F.reading (J.judges contracts.now)))
+        (NetShort (meaning F.machine F.reading (J.judges contracts.now))) start left0 left2
+        written0 (K.written sink.new) (count + 1) net.new status) }
     ensures count { length net.new.nodes ≡ length net.old.nodes }
     ensures kinds { IfErr result IsLastStatus }
-    ensures cause { IsErrOf result Status.WriteFault → Rose (K.faults sink.old) (K.faults sink.new) }
+    ensures cause { IsErrOf result Status.WriteFault
+        → Rose (K.faults sink.old) (K.faults sink.new) }
     ensures later { K.faults sink.old ≤ K.faults sink.new }
 {
     match answer(alloc, net, sink, without_cr(line), contracts) {
@@ -131,18 +149,28 @@ fn take_byte<B: Bay, F: FlowSet, S: Source, K: Sink, J: Judge>(
     contracts: &J,
 ) -> Result<(), End>
     requires within { count ≤ 16777216 }
-    ensures ok { OnOk result ((start : NetSeen) (left0 written0 : Option (List ℕ)) → Progress (NetLink (meaning F.machine F.reading (J.judges contracts.now))) start left0 (S.left source.old) written0 (K.written sink.old) count net.old line.old.items
-        → Progress (NetLink (meaning F.machine F.reading (J.judges contracts.now))) start left0 (S.left source.new) written0 (K.written sink.new) (count + 1) net.new line.new.items) }
+    ensures ok { OnOk result ((start : NetSeen) (left0 written0 : Option (List ℕ))
+        → Progress (NetLink (meaning F.machine F.reading (J.judges contracts.now))) start left0
+        (S.left source.old) written0 (K.written sink.old) count net.old line.old.items
+        → Progress (NetLink (meaning F.machine F.reading (J.judges contracts.now))) start left0
+        (S.left source.new) written0 (K.written sink.new) (count + 1) net.new line.new.items) }
     ensures within { OnOk result (count < 16777216) }
-    ensures err { IfErr result (λ e. (start : NetSeen) (left0 written0 : Option (List ℕ)) → Progress (NetLink (meaning F.machine F.reading (J.judges contracts.now))) start left0 (S.left source.old) written0 (K.written sink.old) count net.old line.old.items
-        → ScriptRun (NetLink (meaning F.machine F.reading (J.judges contracts.now))) (NetShort (meaning F.machine F.reading (J.judges contracts.now))) start left0 (S.left source.new) written0 (K.written sink.new) e.bytes_read net.new e.status) }
+    ensures err { IfErr result (λ e. (start : NetSeen) (left0 written0 : Option (List ℕ))
+        → Progress (NetLink (meaning F.machine F.reading (J.judges contracts.now))) start left0
+        (S.left source.old) written0 (K.written sink.old) count net.old line.old.items
+        → ScriptRun (NetLink (meaning F.machine F.reading (J.judges contracts.now)))
+        (NetShort (meaning F.machine F.reading (J.judges contracts.now))) start left0
+        (S.left source.new) written0 (K.written sink.new) e.bytes_read net.new e.status) }
     ensures too_long { IfErr result (λ e. e.status ≡ Status.TooLong ↔ (e.bytes_read ≡ 16777217)) }
     ensures few { IfErr result (λ e. e.bytes_read ≤ 16777217) }
     ensures count { length net.new.nodes ≡ length net.old.nodes }
     ensures kinds { IfErr result (λ e. IsScriptStatus e.status) }
-    ensures read_fault { IfErr result (λ e. e.status ≡ Status.ReadFault → Rose (S.faults source.old) (S.faults source.new)) }
-    ensures write_fault { IfErr result (λ e. e.status ≡ Status.WriteFault → Rose (K.faults sink.old) (K.faults sink.new)) }
-    ensures later { (S.faults source.old ≤ S.faults source.new) × (K.faults sink.old ≤ K.faults sink.new) }
+    ensures read_fault { IfErr result (λ e. e.status ≡ Status.ReadFault
+        → Rose (S.faults source.old) (S.faults source.new)) }
+    ensures write_fault { IfErr result
+        (λ e. e.status ≡ Status.WriteFault → Rose (K.faults sink.old) (K.faults sink.new)) }
+    ensures later { (S.faults source.old ≤ S.faults source.new)
+        × (K.faults sink.old ≤ K.faults sink.new) }
 {
     let byte = match next_byte(source) {
         Ok(Some(byte)) => byte,
@@ -192,20 +220,29 @@ pub fn session<B: Bay, F: FlowSet, S: Source, K: Sink, J: Judge>(
     contracts: &J,
 ) -> End
     ensures count { length net.new.nodes ≡ length net.old.nodes }
-    ensures went { ScriptRun (NetLink (meaning F.machine F.reading (J.judges contracts.now))) (NetShort (meaning F.machine F.reading (J.judges contracts.now))) net.old (S.left source.old) (S.left source.new) (K.written sink.old) (K.written sink.new) result.bytes_read net.new result.status }
+    ensures went { ScriptRun (NetLink (meaning F.machine F.reading (J.judges contracts.now)))
+        (NetShort (meaning F.machine F.reading (J.judges contracts.now))) net.old
+        (S.left source.old) (S.left source.new) (K.written sink.old)
+        (K.written sink.new) result.bytes_read net.new result.status }
     ensures ran { (id : Identity) (start : World)
-        (shows : Shows (environment (meaning F.machine F.reading (J.judges contracts.now)) id) net.old start)
-        (coherent : Coherent (environment (meaning F.machine F.reading (J.judges contracts.now)) id) start)
+        (shows : Shows (environment (meaning F.machine F.reading (J.judges contracts.now)) id)
+        net.old start)
+        (coherent : Coherent (environment (meaning F.machine F.reading (J.judges contracts.now)) id)
+        start)
         → InPair (environment (meaning F.machine F.reading (J.judges contracts.now)) id) net.new
-        (λ last. ScriptRun (PairLink (meaning F.machine F.reading (J.judges contracts.now)) id) (PairShort (meaning F.machine F.reading (J.judges contracts.now)) id)
+        (λ last. ScriptRun (PairLink (meaning F.machine F.reading (J.judges contracts.now)) id)
+        (PairShort (meaning F.machine F.reading (J.judges contracts.now)) id)
         (with_world net.old start shows coherent) (S.left source.old) (S.left source.new)
         (K.written sink.old) (K.written sink.new) result.bytes_read last result.status) }
     ensures too_long { result.status ≡ Status.TooLong ↔ (result.bytes_read ≡ 16777217) }
     ensures few { result.bytes_read ≤ 16777217 }
     ensures kinds { IsScriptStatus result.status }
-    ensures read_fault { result.status ≡ Status.ReadFault → Rose (S.faults source.old) (S.faults source.new) }
-    ensures write_fault { result.status ≡ Status.WriteFault → Rose (K.faults sink.old) (K.faults sink.new) }
-    ensures later { (S.faults source.old ≤ S.faults source.new) × (K.faults sink.old ≤ K.faults sink.new) }
+    ensures read_fault { result.status ≡ Status.ReadFault
+        → Rose (S.faults source.old) (S.faults source.new) }
+    ensures write_fault { result.status ≡ Status.WriteFault
+        → Rose (K.faults sink.old) (K.faults sink.new) }
+    ensures later { (S.faults source.old ≤ S.faults source.new)
+        × (K.faults sink.old ≤ K.faults sink.new) }
 {
     let mut line = Vec::new(alloc);
     'bytes: for count in 0..MOST_BYTES + 1 {

@@ -43,19 +43,35 @@ fn play<S: Source, K: Sink, B: Bay, F: FlowSet, J: Judge>(
     requires within { IsNetwork network }
     requires disks { length own.items ≡ network.nodes }
     ensures count { length result.2.items ≡ length own.items }
-    ensures attached { attached_as (map B.seen result.2.items) ≡ attached_as (map B.seen own.items) }
-    ensures runs { let e = environment_for (meaning F.machine F.reading (J.judges contracts.now)) network in (w : World) → Shows e (over e w.now (map B.seen own.items)) w → Coherent e w
-        → PlaysOrRefuses (meaning F.machine F.reading (J.judges contracts.now)) network.nodes (party network.notary) w (map B.seen own.items) (map B.seen result.2.items) (S.left source.old) (S.left source.new) (K.written sink.old) (K.written sink.new) result.1 result.0 }
-    ensures went { GoesOrHalts (meaning F.machine F.reading (J.judges contracts.now)) network.nodes (party network.notary) (map B.seen own.items) (map B.seen result.2.items) (S.left source.old) (S.left source.new) (K.written sink.old) (K.written sink.new) result.1 result.0 }
+    ensures attached { attached_as (map B.seen result.2.items)
+        ≡ attached_as (map B.seen own.items) }
+    ensures runs { let e = environment_for
+        (meaning F.machine F.reading (J.judges contracts.now)) network in (w : World)
+        → Shows e (over e w.now (map B.seen own.items)) w → Coherent e w
+        → PlaysOrRefuses (meaning F.machine F.reading (J.judges contracts.now)) network.nodes
+        (party network.notary) w (map B.seen own.items) (map B.seen result.2.items)
+        (S.left source.old) (S.left source.new) (K.written sink.old)
+        (K.written sink.new) result.1 result.0 }
+    ensures went { GoesOrHalts (meaning F.machine F.reading (J.judges contracts.now)) network.nodes
+        (party network.notary) (map B.seen own.items) (map B.seen result.2.items)
+        (S.left source.old) (S.left source.new) (K.written sink.old)
+        (K.written sink.new) result.1 result.0 }
     ensures too_long { result.0 ≡ Status.TooLong ↔ (result.1 ≡ 16777217) }
     ensures few { result.1 ≤ 16777217 }
-    ensures own { IsPlayedStatus result.0 → KeepOwn F.reading network.nodes (party network.notary) (map B.seen own.items) }
+    ensures own { IsPlayedStatus result.0
+        → KeepOwn F.reading network.nodes (party network.notary) (map B.seen own.items) }
     ensures kinds { IsRunStatus result.0 }
-    ensures read_fault { result.0 ≡ Status.ReadFault → Rose (S.faults source.old) (S.faults source.new) }
-    ensures disk_fault { result.0 ≡ Status.DiskFault → OneFails network.nodes (map B.seen own.items) (map B.seen result.2.items) }
-    ensures bad_journal { result.0 ≡ Status.BadJournal → IsToldWhy F.reading network.nodes (party network.notary) (map B.seen own.items) (map B.seen result.2.items) (K.written sink.old) (K.written sink.new) Status.BadJournal }
-    ensures write_fault { result.0 ≡ Status.WriteFault → Rose (K.faults sink.old) (K.faults sink.new) }
-    ensures later { (S.faults source.old ≤ S.faults source.new) × (K.faults sink.old ≤ K.faults sink.new) }
+    ensures read_fault { result.0 ≡ Status.ReadFault
+        → Rose (S.faults source.old) (S.faults source.new) }
+    ensures disk_fault { result.0 ≡ Status.DiskFault
+        → OneFails network.nodes (map B.seen own.items) (map B.seen result.2.items) }
+    ensures bad_journal { result.0 ≡ Status.BadJournal
+        → IsToldWhy F.reading network.nodes (party network.notary) (map B.seen own.items)
+        (map B.seen result.2.items) (K.written sink.old) (K.written sink.new) Status.BadJournal }
+    ensures write_fault { result.0 ≡ Status.WriteFault
+        → Rose (K.faults sink.old) (K.faults sink.new) }
+    ensures later { (S.faults source.old ≤ S.faults source.new)
+        × (K.faults sink.old ≤ K.faults sink.new) }
 {
     match Net::<B, F>::begin(alloc, network.nodes, Party(network.notary), own) {
         Ok(net) => {
@@ -146,16 +162,17 @@ fn run_at_path<S: Source, K: Sink, B: Bay, F: FlowSet, J: Judge>(
 ) -> Ended<B>
     requires within { IsNetwork network }
     requires disks { length disks.items ≡ 32 }
-    ensures { RanInFolder (meaning F.machine F.reading (J.judges contracts.now)) B.seen dir.now (record {
-      words = [];
-      disks = record { old = disks.items; new = result.disks.items };
-      left = record { old = S.left source.old; new = S.left source.new };
-      written = record { old = K.written sink.old; new = K.written sink.new };
-      source_faults = record { old = S.faults source.old; new = S.faults source.new };
-      sink_faults = record { old = K.faults sink.old; new = K.faults sink.new };
-      count = result.bytes_read;
-      status = result.status;
-    }) network }
+    ensures { RanInFolder (meaning F.machine F.reading (J.judges contracts.now)) B.seen dir.now
+        (record {
+          words = [];
+          disks = record { old = disks.items; new = result.disks.items };
+          left = record { old = S.left source.old; new = S.left source.new };
+          written = record { old = K.written sink.old; new = K.written sink.new };
+          source_faults = record { old = S.faults source.old; new = S.faults source.new };
+          sink_faults = record { old = K.faults sink.old; new = K.faults sink.new };
+          count = result.bytes_read;
+          status = result.status;
+        }) network }
 {
     let mut disks = disks;
     match attach_all(alloc, Some(dir), &mut disks, network.nodes as usize) {
@@ -176,16 +193,17 @@ fn run_in_folder<S: Source, K: Sink, B: Bay, F: FlowSet, J: Judge>(
 ) -> Ended<B>
     requires within { IsNetwork network }
     requires disks { length disks.items ≡ 32 }
-    ensures { RanInFolder (meaning F.machine F.reading (J.judges contracts.now)) B.seen (string_bytes dir) (record {
-      words = [];
-      disks = record { old = disks.items; new = result.disks.items };
-      left = record { old = S.left source.old; new = S.left source.new };
-      written = record { old = K.written sink.old; new = K.written sink.new };
-      source_faults = record { old = S.faults source.old; new = S.faults source.new };
-      sink_faults = record { old = K.faults sink.old; new = K.faults sink.new };
-      count = result.bytes_read;
-      status = result.status;
-    }) network }
+    ensures { RanInFolder (meaning F.machine F.reading (J.judges contracts.now)) B.seen
+        (string_bytes dir) (record {
+          words = [];
+          disks = record { old = disks.items; new = result.disks.items };
+          left = record { old = S.left source.old; new = S.left source.new };
+          written = record { old = K.written sink.old; new = K.written sink.new };
+          source_faults = record { old = S.faults source.old; new = S.faults source.new };
+          sink_faults = record { old = K.faults sink.old; new = K.faults sink.new };
+          count = result.bytes_read;
+          status = result.status;
+        }) network }
 {
     run_at_path::<S, K, B, F, J>(alloc, dir.as_str(), network, source, sink, disks, contracts)
 }
@@ -245,7 +263,8 @@ pub fn run<S: Source, K: Sink, B: Bay, F: FlowSet, J: Judge>(
 
 /// The end of a run.
 fn end_with<B: Bay>(status: Status, disks: Vec<B>, bytes_read: u64) -> Ended<B>
-    ensures { (result.status ≡ number_of_status status) × (result.disks ≡ disks) × (result.bytes_read ≡ bytes_read) }
+    ensures { (result.status ≡ number_of_status status) × (result.disks ≡ disks)
+        × (result.bytes_read ≡ bytes_read) }
 {
     Ended {
         status: status.number(),

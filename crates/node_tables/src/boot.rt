@@ -33,13 +33,15 @@ fn take_step<F: Spelt + Drop>(
 ) -> Result<(), AllocError>
     requires few { length tables.old.bodies < 65536 }
     requires reads { record_of F.reading body ≡ Some (step_record step) }
-    requires fits { fits tables.old.notary tables.old.nodes tables.old.party (state_of F.reading tables.old.bodies) (step_record step) ≡ true }
+    requires fits { fits tables.old.notary tables.old.nodes tables.old.party
+        (state_of F.reading tables.old.bodies) (step_record step) ≡ true }
     requires limits { IsStep F.within step }
     ensures party { tables.new.party ≡ tables.old.party }
     ensures nodes { tables.new.nodes ≡ tables.old.nodes }
     ensures notary { tables.new.notary ≡ tables.old.notary }
     ensures ok { OnOk result (tables.new.bodies ≡ tables.old.bodies ++ body ∷ []) }
-    ensures acked { OnOk result (tables.new.acked ≡ padded tables.old.acked (state_of F.reading tables.new.bodies).sessions) }
+    ensures acked { OnOk result (tables.new.acked
+        ≡ padded tables.old.acked (state_of F.reading tables.new.bodies).sessions) }
 {
     match tables.make_room(alloc, &step.session, &step.ledger) {
         Ok(()) => {
@@ -64,8 +66,10 @@ fn take<F: Spelt + Drop>(
     ensures party { tables.new.party ≡ tables.old.party }
     ensures nodes { tables.new.nodes ≡ tables.old.nodes }
     ensures notary { tables.new.notary ≡ tables.old.notary }
-    ensures takes { TakesAs F.reading tables.old.notary tables.old.nodes tables.old.party tables.old.bodies at body result tables.new.bodies }
-    ensures acked { OnOk result (tables.new.acked ≡ padded tables.old.acked (state_of F.reading tables.new.bodies).sessions) }
+    ensures takes { TakesAs F.reading tables.old.notary tables.old.nodes tables.old.party
+        tables.old.bodies at body result tables.new.bodies }
+    ensures acked { OnOk result (tables.new.acked
+        ≡ padded tables.old.acked (state_of F.reading tables.new.bodies).sessions) }
 {
     match tables.read(alloc, body.as_slice()) {
         Ok(Some(step)) => match take_step(tables, alloc, body, step) {

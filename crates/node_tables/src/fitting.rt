@@ -18,7 +18,8 @@ pub const LAST_STAMP: u64 = 9_223_372_036_854_775_807;
 
 /// Whether the stamp rises and is none too great, and the moment doesn't fall.
 pub fn rises(stamp: u64, moment: Moment, cause: &Cause) -> bool
-    ensures { result ≡ (nat_lt stamp cause.now.stamp && (nat_lt cause.now.stamp (2 ^ 63) && nat_le moment.0 cause.now.moment.0)) }
+    ensures { result ≡ (nat_lt stamp cause.now.stamp
+        && (nat_lt cause.now.stamp (2 ^ 63) && nat_le moment.0 cause.now.moment.0)) }
 {
     stamp < cause.stamp && (cause.stamp <= LAST_STAMP && moment.0 <= cause.moment.0)
 }
@@ -70,7 +71,8 @@ fn is_next_after<F>(flow: u32, step: u32, class: u16, after: &Option<FlowAfter<F
 
 /// Whether the flow goes on from where it stands in the table.
 pub fn goes_on<F: Drop>(flows: &Flows<F>, flow: u32, after: &Option<FlowAfter<F>>) -> bool
-    ensures { result ≡ goes_on flow (option_and_then checkpoint_of (slice_get flows.now.flows flow)) (part_after after.now) }
+    ensures { result ≡ goes_on flow (option_and_then checkpoint_of (slice_get flows.now.flows flow))
+        (part_after after.now) }
 {
     match flows.get(flow) {
         Some(FlowView::Live(at)) => is_next_after(flow, at.step, at.class, after),

@@ -17,7 +17,10 @@ impl<T> Model for Roomy<T> {
 
     ghost Value = { Listed T };
 
-    ghost view = { λ l. record { items = l.items.items; room = vec_capacity l.items - vec_len l.items } };
+    ghost view = { λ l. record {
+      items = l.items.items;
+      room = vec_capacity l.items - vec_len l.items;
+    } };
 }
 
 impl<T> Roomy<T> {

@@ -62,9 +62,25 @@ impl<F: Spelt + Drop> Model for NodeTables<F> {
 
     ghost Value = { TablesSeen };
 
-    ghost view = { λ t. record { party = t.party; nodes = t.nodes; notary = t.notary; rooms = record { store = t.ledger.store.room; vault = t.ledger.vault.room; book = t.ledger.book.room }; bodies = t.bodies; acked = t.sessions.acked; room = if nat_lt 0 t.causes.room && nat_lt 0 t.flows.room then t.sessions.room else 0 } };
+    ghost view = { λ t. record {
+      party = t.party;
+      nodes = t.nodes;
+      notary = t.notary;
+      rooms = record {
+        store = t.ledger.store.room;
+        vault = t.ledger.vault.room;
+        book = t.ledger.book.room;
+      };
+      bodies = t.bodies;
+      acked = t.sessions.acked;
+      room = if nat_lt 0 t.causes.room && nat_lt 0 t.flows.room then t.sessions.room else 0;
+    } };
 
-    ghost invariant = { λ t. (t.sessions.party ≡ t.party) × Keeps t.party F.reading F.within t.bodies t.causes.items (ledger_in (state_of F.reading t.bodies)) t.flows.flows t.sessions.list t.stamp t.moment.0 × (t.nodes ≤ 16) × (length t.sessions.acked ≡ length t.sessions.list) × HoldsLedger t.party (ledger_in (state_of F.reading t.bodies)) t.ledger };
+    ghost invariant = { λ t. (t.sessions.party ≡ t.party)
+        × Keeps t.party F.reading F.within t.bodies t.causes.items
+        (ledger_in (state_of F.reading t.bodies)) t.flows.flows t.sessions.list t.stamp t.moment.0
+        × (t.nodes ≤ 16) × (length t.sessions.acked ≡ length t.sessions.list)
+        × HoldsLedger t.party (ledger_in (state_of F.reading t.bodies)) t.ledger };
 }
 
 impl<F: Spelt + Drop> NodeTables<F> {
@@ -122,7 +138,8 @@ impl<F: Spelt + Drop> NodeTables<F> {
     /// Whether a record fits here: whether its cause and what it makes of a flow and of the sessions follow on what there is.
     pub fn fits(&self, step: &Step<F>) -> bool
         requires { IsStep F.within step.now }
-        ensures { result ≡ fits self.now.notary self.now.nodes self.now.party (state_of F.reading self.now.bodies) (step_record step.now) }
+        ensures { result ≡ fits self.now.notary self.now.nodes self.now.party
+            (state_of F.reading self.now.bodies) (step_record step.now) }
     {
         rises(self.stamp, self.moment, &step.cause)
             && (self.fits_event(step)
@@ -133,14 +150,17 @@ impl<F: Spelt + Drop> NodeTables<F> {
     /// Whether what the record changes of the ledger fits.
     fn fits_ledger(&self, step: &Step<F>) -> bool
         requires { IsStep F.within step.now }
-        ensures { result ≡ fits_ledger self.now.notary self.now.party (state_of F.reading self.now.bodies) (whole_part step.now.session step.now.ledger) }
+        ensures { result ≡ fits_ledger self.now.notary self.now.party
+            (state_of F.reading self.now.bodies) (whole_part step.now.session step.now.ledger) }
     {
         change_fits(&self.ledger, self.notary, &step.ledger)
     }
 
     /// Whether the effect is one that such an event may have.
     fn fits_event(&self, step: &Step<F>) -> bool
-        ensures { result ≡ fits_event self.now.nodes self.now.party (state_of F.reading self.now.bodies) step.now.cause.event (effect_by step.now.flow step.now.session step.now.ledger) }
+        ensures { result ≡ fits_event self.now.nodes self.now.party
+            (state_of F.reading self.now.bodies) step.now.cause.event
+            (effect_by step.now.flow step.now.session step.now.ledger) }
     {
         let came = &step.session.came;
         match &step.cause.event {
@@ -166,7 +186,8 @@ impl<F: Spelt + Drop> NodeTables<F> {
 
     /// Whether a key is new here, and its initiator is another node of the network.
     fn is_new_key(&self, key: &Key) -> bool
-        ensures { result ≡ is_new_key self.now.nodes self.now.party (state_of F.reading self.now.bodies).sessions key.now }
+        ensures { result ≡ is_new_key self.now.nodes self.now.party
+            (state_of F.reading self.now.bodies).sessions key.now }
     {
         let from = key.initiator.0;
         self.sessions.peer(key).is_none() && !(from == self.party.0 || self.nodes <= from)
@@ -174,7 +195,9 @@ impl<F: Spelt + Drop> NodeTables<F> {
 
     /// Whether an item comes next in the session of the key, if it stands, and nothing else happens.
     fn arrives(&self, key: &Key, direction: u8, number: u32, step: &Step<F>) -> bool
-        ensures { result ≡ arrives_in self.now.party key.now direction number (effect_by step.now.flow step.now.session step.now.ledger) (session_of key.now (state_of F.reading self.now.bodies).sessions) }
+        ensures { result ≡ arrives_in self.now.party key.now direction number
+            (effect_by step.now.flow step.now.session step.now.ledger)
+            (session_of key.now (state_of F.reading self.now.bodies).sessions) }
     {
         match self.sessions.expected(key, direction) {
             Some(next) => {
@@ -188,7 +211,10 @@ impl<F: Spelt + Drop> NodeTables<F> {
     /// Whether the flow that opens a session, if one does, opens it with a node of the network and owns 64 sessions at most with it.
     fn may_open(&self, step: &Step<F>) -> bool
         requires { IsStep F.within step.now }
-        ensures { result ≡ may_open self.now.nodes (begun_by step.now.cause (effect_by step.now.flow step.now.session step.now.ledger) (state_of F.reading self.now.bodies).sessions) (flow_of (part_after step.now.flow)) step.now.session.opened }
+        ensures { result ≡ may_open self.now.nodes
+            (begun_by step.now.cause (effect_by step.now.flow step.now.session step.now.ledger)
+            (state_of F.reading self.now.bodies).sessions)
+            (flow_of (part_after step.now.flow)) step.now.session.opened }
     {
         match &step.session.opened {
             Some((_, peer)) => self.owns_few(*peer, &step.cause.event, &step.flow),
@@ -199,7 +225,10 @@ impl<F: Spelt + Drop> NodeTables<F> {
     /// Whether the peer is a node of the network, and the flow owns 64 sessions at most once the event and an opening made theirs.
     fn owns_few(&self, peer: Party, event: &Event, after: &Option<FlowAfter<F>>) -> bool
         ensures none { after.now ≡ None → result ≡ false }
-        ensures some { (flow : After F) → after.now ≡ Some flow → result ≡ (nat_lt peer.0 self.now.nodes && nat_le (length (sessions_of flow.number (state_of F.reading self.now.bodies).sessions) + made_by event.now + 1) 64) }
+        ensures some { (flow : After F) → after.now ≡ Some flow
+            → result ≡ (nat_lt peer.0 self.now.nodes
+            && nat_le (length (sessions_of flow.number
+            (state_of F.reading self.now.bodies).sessions) + made_by event.now + 1) 64) }
     {
         match after {
             Some(flow) => {
@@ -216,7 +245,8 @@ impl<F: Spelt + Drop> NodeTables<F> {
     ///
     /// Want of memory.
     pub fn read(&self, alloc: Global, body: &[u8]) -> Result<Option<Step<F>>, AllocError>
-        ensures { IfOk result (λ r. IsRead self.now.notary self.now.nodes self.now.party F.reading F.within (state_of F.reading self.now.bodies) body.now r) }
+        ensures { IfOk result (λ r. IsRead self.now.notary self.now.nodes self.now.party F.reading
+            F.within (state_of F.reading self.now.bodies) body.now r) }
     {
         let Some(step) = read_step::<F>(alloc, body)? else {
             return Ok(None);
@@ -235,13 +265,15 @@ impl<F: Spelt + Drop> NodeTables<F> {
         requires rooms { HasRooms step.ledger self.old.rooms }
         requires few { length self.old.bodies < 65536 }
         requires reads { record_of F.reading body ≡ Some (step_record step) }
-        requires fits { fits self.old.notary self.old.nodes self.old.party (state_of F.reading self.old.bodies) (step_record step) ≡ true }
+        requires fits { fits self.old.notary self.old.nodes self.old.party
+            (state_of F.reading self.old.bodies) (step_record step) ≡ true }
         requires limits { IsStep F.within step }
         ensures party { self.new.party ≡ self.old.party }
         ensures nodes { self.new.nodes ≡ self.old.nodes }
         ensures notary { self.new.notary ≡ self.old.notary }
         ensures bodies { self.new.bodies ≡ self.old.bodies ++ body ∷ [] }
-        ensures acked { self.new.acked ≡ padded self.old.acked (state_of F.reading self.new.bodies).sessions }
+        ensures acked { self.new.acked ≡ padded self.old.acked
+            (state_of F.reading self.new.bodies).sessions }
     {
         let Step {
             cause,
@@ -262,12 +294,14 @@ impl<F: Spelt + Drop> NodeTables<F> {
     /// Raises the number of acknowledged items of the session to `upto`, and never lowers it. Items of the direction in which this
     /// node sends nothing are never acknowledged, nor are those of a session that doesn't stand.
     pub fn acknowledge(&mut self, key: &Key, direction: u8, upto: u32)
-        requires { (s : Session) → session_of key.now (state_of F.reading self.old.bodies).sessions ≡ Some s → upto ≤ length s.sent }
+        requires { (s : Session) → session_of key.now (state_of F.reading self.old.bodies).sessions
+            ≡ Some s → upto ≤ length s.sent }
         ensures party { self.new.party ≡ self.old.party }
         ensures nodes { self.new.nodes ≡ self.old.nodes }
         ensures notary { self.new.notary ≡ self.old.notary }
         ensures bodies { self.new.bodies ≡ self.old.bodies }
-        ensures acked { self.new.acked ≡ raised self.old.party key.now direction upto (state_of F.reading self.old.bodies).sessions self.old.acked }
+        ensures acked { self.new.acked ≡ raised self.old.party key.now direction upto
+            (state_of F.reading self.old.bodies).sessions self.old.acked }
     {
         self.sessions.acknowledge(key, direction, upto);
     }
@@ -288,7 +322,8 @@ impl<F: Spelt + Drop> NodeTables<F> {
 
     /// The ledger: what is recorded, locked and booked.
     pub fn ledger(&self) -> &LedgerTables
-        ensures { HoldsLedger self.now.party (ledger_in (state_of F.reading self.now.bodies)) result.now }
+        ensures { HoldsLedger self.now.party
+            (ledger_in (state_of F.reading self.now.bodies)) result.now }
     {
         &self.ledger
     }
@@ -351,14 +386,19 @@ impl<F: Spelt + Drop> NodeTables<F> {
         ensures numbered { AreNumbered 0 (state_of F.reading self.now.bodies).flows }
         ensures sound { IsSound self.now.party.0 (state_of F.reading self.now.bodies) }
         ensures lawful { AreLawful self.now.party (state_of F.reading self.now.bodies).sessions }
-        ensures owned { (f : ℕ) → length (sessions_of f (state_of F.reading self.now.bodies).sessions) ≤ 64 }
-        ensures keys { AllByRecursion (λ session. IsKey session.key) (state_of F.reading self.now.bodies).sessions }
+        ensures owned { (f : ℕ) → length (sessions_of f
+            (state_of F.reading self.now.bodies).sessions) ≤ 64 }
+        ensures keys { AllByRecursion (λ session. IsKey session.key)
+            (state_of F.reading self.now.bodies).sessions }
         ensures arrived { AllByRecursion IsHeld (state_of F.reading self.now.bodies).sessions }
-        ensures few_came { AllByRecursion (λ session. length session.came ≤ length self.now.bodies) (state_of F.reading self.now.bodies).sessions }
+        ensures few_came { AllByRecursion (λ session. length session.came ≤ length self.now.bodies)
+            (state_of F.reading self.now.bodies).sessions }
         ensures late { (state_of F.reading self.now.bodies).stamp < 2 ^ 63 }
         ensures flows { length (state_of F.reading self.now.bodies).flows ≤ length self.now.bodies }
-        ensures steps { AllByRecursion (λ flow. steps_of flow ≤ length self.now.bodies) (state_of F.reading self.now.bodies).flows }
-        ensures limits { AllByRecursion (IsFlow F.within) (state_of F.reading self.now.bodies).flows }
+        ensures steps { AllByRecursion (λ flow. steps_of flow ≤ length self.now.bodies)
+            (state_of F.reading self.now.bodies).flows }
+        ensures limits { AllByRecursion (IsFlow F.within)
+            (state_of F.reading self.now.bodies).flows }
         ensures network { self.now.nodes ≤ 16 }
     {
         let _ = &self.bodies;
@@ -387,7 +427,8 @@ fn with_id<F: Spelt + Drop>(alloc: Global, step: Step<F>) -> Result<Step<F>, All
 
 /// Whether nothing was recorded, locked or booked.
 fn leaves_ledger(change: &LedgerChange) -> bool
-    ensures { result ≡ (is_none change.now.recorded && (length change.now.locked == 0 && is_none change.now.booked)) }
+    ensures { result ≡ (is_none change.now.recorded
+        && (length change.now.locked == 0 && is_none change.now.booked)) }
 {
     change.recorded.is_none() && (change.locked.len() == 0 && change.booked.is_none())
 }
@@ -421,7 +462,8 @@ fn make_all_room<F: Drop>(
     ensures causes_room { OnOk result (0 < causes.new.room) }
     ensures flows_room { OnOk result (0 < flows.new.room) }
     ensures sessions_room { OnOk result (room_for session.now ≤ sessions.new.room) }
-    ensures record_room { OnOk result (HasRecordRoom change.now.recorded ledger.new.store ledger.new.vault) }
+    ensures record_room { OnOk result (HasRecordRoom change.now.recorded ledger.new.store
+        ledger.new.vault) }
     ensures entry_room { OnOk result (HasEntryRoom change.now.booked ledger.new.book) }
 {
     causes.make_room()?;
@@ -434,7 +476,8 @@ fn make_all_room<F: Drop>(
 fn set_flow<F: Drop>(flows: &mut Flows<F>, after: Option<FlowAfter<F>>)
     requires room { 0 < flows.old.room }
     requires few { length flows.old.flows < 2 ^ 32 - 1 }
-    requires place { IfSome after (λ flow. (flow.number ≤ length flows.old.flows) × IsNumbered flow.number flow.state) }
+    requires place { IfSome after (λ flow. (flow.number ≤ length flows.old.flows)
+        × IsNumbered flow.number flow.state) }
     ensures { flows.new.flows ≡ flows_after after flows.old.flows }
 {
     if let Some(FlowAfter { number, state }) = after {

@@ -31,9 +31,14 @@ impl Model for Book {
     ghost Value = { Booked };
 
     // An entry takes one place of the list, one of each of two indices, and one for each input of the third.
-    ghost view = { λ b. record { entries = b.entries.items; room = min (vec_capacity b.entries - vec_len b.entries) (min (spare b.by_request) (min (spare b.by_id) (spare b.by_reference / 64))) } };
+    ghost view = { λ b. record {
+      entries = b.entries.items;
+      room = min (vec_capacity b.entries - vec_len b.entries)
+          (min (spare b.by_request) (min (spare b.by_id) (spare b.by_reference / 64)));
+    } };
 
-    ghost invariant = { λ b. IsIndexed b.entries.items b.by_request.entries b.by_id.entries b.by_reference.entries };
+    ghost invariant = { λ b. IsIndexed b.entries.items b.by_request.entries b.by_id.entries
+        b.by_reference.entries };
 }
 
 impl Book {

@@ -86,8 +86,11 @@ impl Book {
         items: &mut Vec<ConflictItem>,
     ) -> Result<(), AllocError>
         requires { list_any (signs id.now) self.now.entries ≡ false }
-        ensures items { OnOk result (items.new.items ≡ items.old.items ++ filter_map (conflict_over self.now.entries id.now kind) refs.now) }
-        ensures limits { AllByRecursion IsConflictItem items.old.items → OnOk result (AllByRecursion IsConflictItem items.new.items) }
+        ensures items { OnOk result (items.new.items
+            ≡ items.old.items ++ filter_map (conflict_over self.now.entries id.now kind)
+            refs.now) }
+        ensures limits { AllByRecursion IsConflictItem items.old.items
+            → OnOk result (AllByRecursion IsConflictItem items.new.items) }
     {
         for reference in refs {
             if let Some(item) = self.conflict_over(id, kind, *reference) {
@@ -110,7 +113,9 @@ impl Book {
         signer: &S,
     ) -> Result<NotaryAnswer, AllocError>
         requires { list_any (signs id.now) self.now.entries ≡ false }
-        ensures answer { IfOk result (λ a. a ≡ answer_unsigned (S.mark_of signer.now) me id.now now seen.now.window (conflicts self.now.entries id.now seen.now)) }
+        ensures answer { IfOk result (λ a. a
+            ≡ answer_unsigned (S.mark_of signer.now) me id.now now seen.now.window
+            (conflicts self.now.entries id.now seen.now)) }
         ensures limits { IsParty me → IfOk result IsNotaryAnswer }
     {
         let mut items = Vec::new(alloc);
@@ -145,7 +150,9 @@ impl Book {
         now: Moment,
         signer: &S,
     ) -> Result<NotaryAnswer, AllocError>
-        ensures answer { IfOk result (λ a. a ≡ answer_shown (S.mark_of signer.now) me self.now.entries request.now now seen.now) }
+        ensures answer { IfOk result (λ a. a
+            ≡ answer_shown (S.mark_of signer.now) me self.now.entries request.now now
+            seen.now) }
         ensures limits { IsParty me → IfOk result IsNotaryAnswer }
     {
         if !has_good_tag(signer, request) {
@@ -171,7 +178,8 @@ impl Book {
         signer: &S,
     ) -> Result<NotaryAnswer, AllocError>
         requires { option_copied seen ≡ visible_of request.now.torn }
-        ensures answer { IfOk result (λ a. a ≡ answer_new (S.mark_of signer.now) me.now self.now.entries request.now now) }
+        ensures answer { IfOk result (λ a. a
+            ≡ answer_new (S.mark_of signer.now) me.now self.now.entries request.now now) }
         ensures limits { IsParty me.now.party → IfOk result IsNotaryAnswer }
     {
         if me.party != me.notary {
@@ -213,8 +221,10 @@ impl Book {
         signer: &S,
     ) -> Result<Decision, AllocError>
         requires { option_copied seen ≡ visible_of request.now.torn }
-        ensures answer { IfOk result (λ d. d.answer ≡ (reply (S.mark_of signer.now) self.now.entries request.now me.now now).answer) }
-        ensures fresh { IfOk result (λ d. d.fresh ≡ (reply (S.mark_of signer.now) self.now.entries request.now me.now now).fresh) }
+        ensures answer { IfOk result (λ d. d.answer
+            ≡ (reply (S.mark_of signer.now) self.now.entries request.now me.now now).answer) }
+        ensures fresh { IfOk result (λ d. d.fresh
+            ≡ (reply (S.mark_of signer.now) self.now.entries request.now me.now now).fresh) }
         ensures limits { IsParty me.now.party → IfOk result (λ d. IsNotaryAnswer d.answer) }
     {
         // Each look-up is in the book's indices, so no list of entries is gone through.

@@ -38,7 +38,8 @@ impl RequestKey {
 /// Notes the place under the key, unless another is there already. Takes no memory.
 pub(crate) fn note<K: Eq + Hash + Drop>(index: &mut IndexMap<K, usize>, key: K, place: usize)
     requires { 0 < spare index.old }
-    ensures places { (k : K) → get K.eq index.new k ≡ first_of (get K.eq index.old k) (K.eq k key) place }
+    ensures places { (k : K) → get K.eq index.new k
+        ≡ first_of (get K.eq index.old k) (K.eq k key) place }
     ensures room { spare index.old ≤ spare index.new + 1 }
 {
     if !index.contains_key(&key) {
@@ -53,7 +54,8 @@ pub(crate) fn note_each<K: Eq + Hash + Copy + Drop>(
     place: usize,
 )
     requires { length keys.now ≤ spare index.old }
-    ensures places { (k : K) → get K.eq index.new k ≡ first_of (get K.eq index.old k) (list_any (λ l. K.eq l k) keys.now) place }
+    ensures places { (k : K) → get K.eq index.new k
+        ≡ first_of (get K.eq index.old k) (list_any (λ l. K.eq l k) keys.now) place }
     ensures room { spare index.old ≤ spare index.new + length keys.now }
 {
     for key in keys {
@@ -79,10 +81,14 @@ pub(crate) fn note_signed(
 )
     requires id { 0 < spare by_id.old }
     requires inputs { length entry.now.inputs ≤ spare by_reference.old }
-    ensures ids { (id : Id) → lookup (hash_eq id) by_id.new.entries ≡ first_of (lookup (hash_eq id) by_id.old.entries) (signs id entry.now) place }
-    ensures references { (r : Reference) → lookup (ref_eq r) by_reference.new.entries ≡ first_of (lookup (ref_eq r) by_reference.old.entries) (takes r entry.now) place }
+    ensures ids { (id : Id) → lookup (hash_eq id) by_id.new.entries
+        ≡ first_of (lookup (hash_eq id) by_id.old.entries) (signs id entry.now) place }
+    ensures references { (r : Reference)
+        → lookup (ref_eq r) by_reference.new.entries
+        ≡ first_of (lookup (ref_eq r) by_reference.old.entries) (takes r entry.now) place }
     ensures id_room { spare by_id.old ≤ spare by_id.new + 1 }
-    ensures reference_room { spare by_reference.old ≤ spare by_reference.new + length entry.now.inputs }
+    ensures reference_room { spare by_reference.old
+        ≤ spare by_reference.new + length entry.now.inputs }
 {
     if is_signature(&entry.answer) {
         note(by_id, entry.request.torn.id, place);

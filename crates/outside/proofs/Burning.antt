@@ -1,6 +1,6 @@
 -- What writes and syncs do to power and fuse.
 use Rattle.std.proofs.Common.{◌≡◌, ℕ, zero, suc, ◌+◌, ◌≤◌, ◌&&◌, ◌||◌, not, Option, None, Some, Bool, true, false, if◌then◌else◌, Result, Ok, Err, OnOk, refl, sym, ◌∙◌, ap, arith}
-use Rattle.outside.specs.Disk.{DiskView, Burns, BurnsUpTo, blows, blows_within, burnt, burnt_by}
+use Rattle.outside.specs.Disk.{DiskSeen, Burns, BurnsUpTo, blows, blows_within, burnt, burnt_by}
 
 -- no fuse is armed: none burns
 none_burns : (n : ℕ) → burnt_by n None ≡ None
@@ -29,11 +29,11 @@ same_both true x = refl
 same_both false x = refl
 
 -- a call that is no write and no sync
-pub burns_none : (old new : DiskView) → new.fuse ≡ old.fuse → new.power ≡ old.power → Burns 0 old new
+pub burns_none : (old new : DiskSeen) → new.fuse ≡ old.fuse → new.power ≡ old.power → Burns 0 old new
 burns_none old new fuse power = record { fuse = fuse ∙ sym (same_both old.power old.fuse); power = power ∙ sym (and_all old.power) }
 
 -- one write or sync
-pub burns_one : (old new : DiskView) → new.fuse ≡ (if old.power then burnt old.fuse else old.fuse) → new.power ≡ (old.power && not (blows old.fuse)) → Burns 1 old new
+pub burns_one : (old new : DiskSeen) → new.fuse ≡ (if old.power then burnt old.fuse else old.fuse) → new.power ≡ (old.power && not (blows old.fuse)) → Burns 1 old new
 burns_one old new fuse power = record { fuse = fuse; power = power ∙ ap (λ b. old.power && not b) (sym (or_none (blows old.fuse))) }
 
 -- a fuse that blows within these calls is armed no more after them
@@ -69,7 +69,7 @@ power_then m n false blew fuse is = refl
 power_then m n true false fuse is = refl
 power_then m n true true fuse is = refl
 
-pub burns_then : (m n : ℕ) (old mid new : DiskView) → Burns m old mid → Burns n mid new → Burns (m + n) old new
+pub burns_then : (m n : ℕ) (old mid new : DiskSeen) → Burns m old mid → Burns n mid new → Burns (m + n) old new
 burns_then m n old mid new first next = record {
   fuse = next.fuse ∙ (λ i. if first.power i then burnt_by n (first.fuse i) else first.fuse i) ∙ fuse_then m n old.power (blows_within m old.fuse) old.fuse refl;
   power = next.power ∙ (λ i. first.power i && not (blows_within n (first.fuse i))) ∙ power_then m n old.power (blows_within m old.fuse) old.fuse refl ∙ ap (λ b. old.power && not b) (sym (blows_both m n old.fuse));
@@ -77,13 +77,13 @@ burns_then m n old mid new first next = record {
 
 -- at most so many
 
-pub up_to : (calls most : ℕ) (old new : DiskView) → calls ≤ most → Burns calls old new → BurnsUpTo most old new
+pub up_to : (calls most : ℕ) (old new : DiskSeen) → calls ≤ most → Burns calls old new → BurnsUpTo most old new
 up_to calls most old new few burns = (calls, few, burns)
 
-pub no_more : (less most : ℕ) (old new : DiskView) → less ≤ most → BurnsUpTo less old new → BurnsUpTo most old new
+pub no_more : (less most : ℕ) (old new : DiskSeen) → less ≤ most → BurnsUpTo less old new → BurnsUpTo most old new
 no_more less most old new few b = (b.0, omega (arith, few, b.1), b.2)
 
-pub then_up_to : (m n : ℕ) (old mid new : DiskView) → Burns m old mid → BurnsUpTo n mid new → BurnsUpTo (m + n) old new
+pub then_up_to : (m n : ℕ) (old mid new : DiskSeen) → Burns m old mid → BurnsUpTo n mid new → BurnsUpTo (m + n) old new
 then_up_to m n old mid new first next = (m + next.0, omega (arith, next.1), burns_then m next.0 old mid new first next.2)
 
 pub where_done : {T E P : Type 0} (r : Result T E) → P → OnOk r P

@@ -4,7 +4,7 @@ use Rattle.std.proofs.lemmas.List.{drop_at, append-nil}
 use Rattle.std.proofs.lemmas.List.Elements.{Contains-push_cases, Contains-append_cases, Contains-append_left, Contains-push}
 use Rattle.std.proofs.lemmas.Grind.{same_number_lists}
 use Rattle.std.specs.List.{Contains}
-use Rattle.outside.specs.Disk.{DiskState, DiskView, Durable, IsImage, EachImage, KeepsImage, Syncs, LosesPower, CutsPower, FailsSyncing, FailsWriting, moment, clean, overwritten, with_range, written, flushed}
+use Rattle.outside.specs.Disk.{DiskState, DiskSeen, Durable, IsImage, EachImage, KeepsImage, Syncs, LosesPower, CutsPower, FailsSyncing, FailsWriting, moment, clean, overwritten, with_range, written, flushed}
 
 none : {X : Type 0} (x : X) → Contains [] x → ⊥
 none x c = absurd (omega (arith, c.1))
@@ -50,14 +50,14 @@ at_now d e P l c image =
     l.each c (e.now, there, image)
 
 -- what is kept is one of the images of now, in both ways of saying it
-pub kept_image : (v : DiskView) → KeepsImage v → v.tells ≡ true → IsImage v.state.now v.state.kept
+pub kept_image : (v : DiskSeen) → KeepsImage v → v.tells ≡ true → IsImage v.state.now v.state.kept
 kept_image v keeps tells =
     let d = v.state in
     let image = (keeps d.kept (record { tells = tells; kept = refl })).image in
     let there = subst (λ (l : List Durable). Contains l image.0) (since_of d d [] (sym (append-nil d.past))) image.1 in
     subst (λ (s : Durable). IsImage s d.kept) (sym (only d.now image.0 there)) image.2
 
-pub keeps_image : (v : DiskView) → (v.tells ≡ true → IsImage v.state.now v.state.kept) → KeepsImage v
+pub keeps_image : (v : DiskSeen) → (v.tells ≡ true → IsImage v.state.now v.state.kept) → KeepsImage v
 keeps_image v image bytes kept =
     let d = v.state in
     let there = subst (λ (l : List Durable). Contains l d.now) (sym (since_of d d [] (sym (append-nil d.past)))) (Contains-push [] d.now) in

@@ -140,7 +140,7 @@ pub record Attached : Type 0 where
   pub name : List ℕ
 
 -- a disk as contracts see it
-pub record DiskView : Type 0 where
+pub record DiskSeen : Type 0 where
   -- it tells its content; of a file's content nothing is known
   pub tells : Bool
   pub state : DiskState
@@ -158,25 +158,25 @@ pub record DiskView : Type 0 where
   pub room_writes : ℕ
 
 -- what a read gives, and without power what it will give; nothing of a disk that doesn't tell
-pub record Kept (v : DiskView) (bytes : List ℕ) : Type 0 where
+pub record Kept (v : DiskSeen) (bytes : List ℕ) : Type 0 where
   pub tells : v.tells ≡ true
   pub kept : bytes ≡ v.state.kept
 
 -- what a power cut at some moment since t may leave; nothing of a disk that doesn't tell
-pub record Images (v : DiskView) (t : ℕ) (bytes : List ℕ) : Type 0 where
+pub record Images (v : DiskSeen) (t : ℕ) (bytes : List ℕ) : Type 0 where
   pub tells : v.tells ≡ true
   pub image : ImagesSince v.state t bytes
 
 -- this moment of a disk
-abbrev pub moment_of : DiskView → ℕ
+abbrev pub moment_of : DiskSeen → ℕ
 moment_of v = moment v.state
 
 -- what a disk keeps is one of the images that a power cut may leave now
-abbrev pub KeepsImage : DiskView → Type 0
+abbrev pub KeepsImage : DiskSeen → Type 0
 KeepsImage v = (bytes : List ℕ) → Kept v bytes → Images v (moment_of v) bytes
 
 -- where the disk tells its content, it went on so
-abbrev pub IfTold : DiskView → DiskView → (DiskState → DiskState → Type 0) → Type 0
+abbrev pub IfTold : DiskSeen → DiskSeen → (DiskState → DiskState → Type 0) → Type 0
 IfTold old new R = old.tells ≡ true → R old.state new.state
 
 -- the fuse after one more write or sync
@@ -200,16 +200,16 @@ blows_within zero fuse = false
 blows_within (suc n) fuse = blows fuse || blows_within n (burnt fuse)
 
 -- what so many writes and syncs do to power and fuse: with power each burns the fuse, which takes the power as it ends; without power nothing changes, and no call brings power back
-pub record Burns (calls : ℕ) (old new : DiskView) : Type 0 where
+pub record Burns (calls : ℕ) (old new : DiskSeen) : Type 0 where
   pub fuse : new.fuse ≡ (if old.power then burnt_by calls old.fuse else old.fuse)
   pub power : new.power ≡ (old.power && not (blows_within calls old.fuse))
 
 -- what at most so many do
-abbrev pub BurnsUpTo : ℕ → DiskView → DiskView → Type 0
+abbrev pub BurnsUpTo : ℕ → DiskSeen → DiskSeen → Type 0
 BurnsUpTo most old new = (calls : ℕ) × (calls ≤ most) × Burns calls old new
 
 -- what no call but `make_room` and those of a bay changes
-pub record SameRest (old new : DiskView) : Type 0 where
+pub record SameRest (old new : DiskSeen) : Type 0 where
   pub tells : new.tells ≡ old.tells
   pub of_file : new.of_file ≡ old.of_file
   pub attached : new.attached ≡ old.attached

@@ -31,14 +31,23 @@ pub trait Bay: Disk {
     /// disk that told nothing doesn't begin to tell. A refusal leaves all but the count of faults, which rises at
     /// [`AttachFault::Failed`] alone.
     fn attach(&mut self, alloc: Global, dir: Option<&str>, name: &str) -> Result<(), AttachFault>
-        ensures attached { OnOk result ((Self.seen self.new).attached ≡ Some (record { folder = option_map (λ s. s.now) dir.entry; name = name.now })) }
-        ensures in_memory { IsNone dir.entry → Self.seen self.new ≡ record (Self.seen self.old) { faults = (Self.seen self.new).faults; attached = (Self.seen self.new).attached } }
-        ensures calm { IsNone dir.entry → (Self.seen self.old).calm ≡ true → ¬ (IsErrOf result AttachFault.Failed) }
-        ensures refused { OnErr result (Self.seen self.new ≡ record (Self.seen self.old) { faults = (Self.seen self.new).faults }) }
+        ensures attached { OnOk result ((Self.seen self.new).attached
+            ≡ Some (record { folder = option_map (λ s. s.now) dir.entry; name = name.now })) }
+        ensures in_memory { IsNone dir.entry
+            → Self.seen self.new ≡ record (Self.seen self.old) {
+              faults = (Self.seen self.new).faults;
+              attached = (Self.seen self.new).attached;
+            } }
+        ensures calm { IsNone dir.entry → (Self.seen self.old).calm ≡ true
+            → ¬ (IsErrOf result AttachFault.Failed) }
+        ensures refused { OnErr result (Self.seen self.new
+            ≡ record (Self.seen self.old) { faults = (Self.seen self.new).faults }) }
         ensures silent { (Self.seen self.old).tells ≡ false → (Self.seen self.new).tells ≡ false }
         ensures later { (Self.seen self.old).faults ≤ (Self.seen self.new).faults }
-        ensures cause { IsErrOf result AttachFault.Failed → Rose (Self.seen self.old).faults (Self.seen self.new).faults }
-        ensures uncounted { (IsErrOf result AttachFault.Failed → ⊥) → (Self.seen self.new).faults ≡ (Self.seen self.old).faults };
+        ensures cause { IsErrOf result AttachFault.Failed
+            → Rose (Self.seen self.old).faults (Self.seen self.new).faults }
+        ensures uncounted { (IsErrOf result AttachFault.Failed → ⊥)
+            → (Self.seen self.new).faults ≡ (Self.seen self.old).faults };
 
     /// Cuts the power at the write or sync that comes as number `calls` from now, or now where that is 0, and leaves what
     /// the outcome says: of what was written since the last sync nothing (0), all of it (1), all but the second half of the
@@ -51,20 +60,31 @@ pub trait Bay: Disk {
         ensures unchanged { OnErr result (Self.seen self.new ≡ Self.seen self.old) }
 
         // A cut now.
-        ensures now { calls ≡ 0 → OnOk result (IfTold (Self.seen self.old) (Self.seen self.new) CutsPower) }
+        ensures now { calls ≡ 0 → OnOk result
+            (IfTold (Self.seen self.old) (Self.seen self.new) CutsPower) }
         ensures outcome { calls ≡ 0
             → OnOk result (IfTold (Self.seen self.old) (Self.seen self.new) (LeavesBy outcome)) }
-        ensures dark { calls ≡ 0 → OnOk result (((Self.seen self.new).power ≡ false) × ((Self.seen self.new).fuse ≡ None)) }
+        ensures dark { calls ≡ 0 → OnOk result
+            (((Self.seen self.new).power ≡ false) × ((Self.seen self.new).fuse ≡ None)) }
 
         // A fuse.
-        ensures armed { 0 < calls → OnOk result (Self.seen self.new ≡ record (Self.seen self.old) { fuse = Some (calls, outcome); calm = (Self.seen self.new).calm }) }
+        ensures armed { 0 < calls → OnOk result
+            (Self.seen self.new ≡ record (Self.seen self.old) {
+              fuse = Some (calls, outcome);
+              calm = (Self.seen self.new).calm;
+            }) }
         ensures faults { (Self.seen self.new).faults ≡ (Self.seen self.old).faults }
         ensures rest { SameRest (Self.seen self.old) (Self.seen self.new) }
         ensures writes { (Self.seen self.new).room_writes ≡ (Self.seen self.old).room_writes };
 
     /// Ends a cut and disarms a fuse. A disk in memory is calm afterwards, and a file that was calm stays so.
     fn restore_power(&mut self)
-        ensures restored { Self.seen self.new ≡ record (Self.seen self.old) { power = true; fuse = None; calm = (Self.seen self.new).calm } }
+        ensures restored { Self.seen self.new
+            ≡ record (Self.seen self.old) {
+              power = true;
+              fuse = None;
+              calm = (Self.seen self.new).calm;
+            } }
         ensures calm { (Self.seen self.old).of_file ≡ false → (Self.seen self.new).calm ≡ true }
         ensures stays_calm { (Self.seen self.old).calm ≡ true → (Self.seen self.new).calm ≡ true };
 

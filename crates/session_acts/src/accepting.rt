@@ -26,12 +26,16 @@ pub fn answer(
     init: Body,
     flow: Option<u32>,
 ) -> Result<SessionChange, AllocError>
-    ensures change { IfOk result (λ change. session_part change ≡ answer_to key init (is_some flow)) }
+    ensures change { IfOk result (λ change. session_part change
+        ≡ answer_to key init (is_some flow)) }
     ensures owner { IfOk result (λ change. change.owner ≡ unwrap_or flow 0) }
     ensures came_key { IfOk result (λ change. change.came_key ≡ Some key) }
-    ensures fits { IfOk result (λ change. (nodes stamp : ℕ) (me : Party) (list : List Session) → is_new_key nodes me list key ≡ true → is_init init ≡ true → IsFitting me stamp list change) }
+    ensures fits { IfOk result (λ change. (nodes stamp : ℕ) (me : Party) (list : List Session)
+        → is_new_key nodes me list key ≡ true → is_init init ≡ true
+        → IsFitting me stamp list change) }
     ensures room { IfOk result (λ change. room_for change ≡ 4) }
-    ensures limits { IsKey key → IsBody init → IfOk result (λ change. IsSession (unwrap_or flow 0) (Some key) change) }
+    ensures limits { IsKey key → IsBody init
+        → IfOk result (λ change. IsSession (unwrap_or flow 0) (Some key) change) }
 {
     let first = SentItem {
         key,
@@ -66,7 +70,9 @@ pub fn arrive(alloc: Global, key: Key, body: Body) -> SessionChange
     ensures change { session_part result ≡ arrival body }
     ensures owner { result.owner ≡ 0 }
     ensures came_key { result.came_key ≡ Some key }
-    ensures fits { (direction number stamp : ℕ) (me : Party) (list : List Session) (s : Session) → session_of key list ≡ Some s → is_next me key direction number body s ≡ true → IsFitting me stamp list result }
+    ensures fits { (direction number stamp : ℕ) (me : Party) (list : List Session) (s : Session)
+        → session_of key list ≡ Some s → is_next me key direction number body s ≡ true
+        → IsFitting me stamp list result }
     ensures room { room_for result ≡ 3 }
     ensures limits { IsBody body → IsSession 0 (Some key) result }
 {

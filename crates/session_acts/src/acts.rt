@@ -58,12 +58,16 @@ pub fn open(
     first: &Value,
 ) -> Result<Performed, AllocError>
     requires party { sessions.now.party ≡ identity.now.party }
-    ensures done { IfOk result (λ p. done_of p ≡ opens identity.now.nodes identity.now.party.0 sessions.now.list flow to class first.now) }
+    ensures done { IfOk result (λ p. done_of p
+        ≡ opens identity.now.nodes identity.now.party.0 sessions.now.list flow to class
+        first.now) }
     ensures owner { IfOk result (λ p. p.change.owner ≡ flow) }
     ensures came_key { IfOk result (λ p. p.change.came_key ≡ None) }
-    ensures fits { IfOk result (λ p. (stamp : ℕ) → AreSound identity.now.party sessions.now.list → IsFitting identity.now.party stamp sessions.now.list p.change) }
+    ensures fits { IfOk result (λ p. (stamp : ℕ) → AreSound identity.now.party sessions.now.list
+        → IsFitting identity.now.party stamp sessions.now.list p.change) }
     ensures room { IfOk result (λ p. room_for p.change ≤ 4) }
-    ensures limits { IsIdentity identity.now → IsValue first.now → IfOk result (λ p. IsSession flow None p.change) }
+    ensures limits { IsIdentity identity.now → IsValue first.now
+        → IfOk result (λ p. IsSession flow None p.change) }
 {
     if is_no_peer(identity, to) {
         return Ok(refused(alloc, flow, 48));
@@ -111,12 +115,15 @@ pub fn send(
     value: &Value,
 ) -> Result<Performed, AllocError>
     requires party { sessions.now.party ≡ identity.now.party }
-    ensures done { IfOk result (λ p. done_of p ≡ sends identity.now.party.0 value.now (owned flow key.now sessions.now.list)) }
+    ensures done { IfOk result (λ p. done_of p
+        ≡ sends identity.now.party.0 value.now (owned flow key.now sessions.now.list)) }
     ensures owner { IfOk result (λ p. p.change.owner ≡ flow) }
     ensures came_key { IfOk result (λ p. p.change.came_key ≡ None) }
-    ensures fits { IfOk result (λ p. (stamp : ℕ) → AreSound identity.now.party sessions.now.list → IsFitting identity.now.party stamp sessions.now.list p.change) }
+    ensures fits { IfOk result (λ p. (stamp : ℕ) → AreSound identity.now.party sessions.now.list
+        → IsFitting identity.now.party stamp sessions.now.list p.change) }
     ensures room { IfOk result (λ p. room_for p.change ≤ 4) }
-    ensures limits { IsKey key.now → IsValue value.now → IfOk result (λ p. IsSession flow None p.change) }
+    ensures limits { IsKey key.now → IsValue value.now
+        → IfOk result (λ p. IsSession flow None p.change) }
 {
     if !owns(sessions, flow, key) {
         return Ok(refused(alloc, flow, 58));
@@ -173,7 +180,8 @@ fn number_behind(number: u32, count: u32) -> u32
 
 /// How many items of the session are taken once the next is; `None` where an ending was taken before.
 fn taken_with(sessions: &Sessions, key: &Key) -> Option<(Key, u32)>
-    ensures taken { result ≡ option_map (λ n. (key.now, n + 1)) (option_and_then (λ found. found.0) (item_there key.now sessions.now.list)) }
+    ensures taken { result ≡ option_map (λ n. (key.now, n + 1))
+        (option_and_then (λ found. found.0) (item_there key.now sessions.now.list)) }
     ensures limits { IsKey key.now → IfSome result IsTaken }
 {
     let number = sessions.item_place(key)?;
@@ -190,12 +198,16 @@ pub fn receive(
     flow: u32,
     key: &Key,
 ) -> Result<Option<Performed>, AllocError>
-    ensures done { IfOk result (λ found. option_map done_of found ≡ receives (owned flow key.now sessions.now.list)) }
+    ensures done { IfOk result (λ found. option_map done_of found
+        ≡ receives (owned flow key.now sessions.now.list)) }
     ensures owner { IfOk result (λ found. IfSome found (λ p. p.change.owner ≡ flow)) }
     ensures came_key { IfOk result (λ found. IfSome found (λ p. p.change.came_key ≡ None)) }
-    ensures fits { IfOk result (λ found. IfSome found (λ p. (stamp : ℕ) → IsFitting sessions.now.party stamp sessions.now.list p.change)) }
+    ensures fits { IfOk result (λ found.
+        IfSome found (λ p. (stamp : ℕ) → IsFitting sessions.now.party stamp sessions.now.list
+        p.change)) }
     ensures room { IfOk result (λ found. IfSome found (λ p. room_for p.change ≤ 4)) }
-    ensures limits { IsKey key.now → IfOk result (λ found. IfSome found (λ p. IsSession flow None p.change)) }
+    ensures limits { IsKey key.now → IfOk result
+        (λ found. IfSome found (λ p. IsSession flow None p.change)) }
 {
     if !owns(sessions, flow, key) {
         return Ok(Some(refused(alloc, flow, 58)));

@@ -29,12 +29,18 @@ pub fn end_sessions(
 ) -> Result<SessionChange, AllocError>
     requires party { sessions.now.party ≡ identity.now.party }
     requires keys { keys_differ sessions.now.list ≡ true }
-    ensures change { IfOk result (λ change. session_part change ≡ last_items identity.now.party.0 sessions.now.list flow last.now) }
+    ensures change { IfOk result (λ change. session_part change
+        ≡ last_items identity.now.party.0 sessions.now.list flow last.now) }
     ensures owner { IfOk result (λ change. change.owner ≡ flow) }
     ensures came_key { IfOk result (λ change. change.came_key ≡ None) }
-    ensures fits { IfOk result (λ change. (stamp : ℕ) → AreSound identity.now.party sessions.now.list → is_last last.now ≡ true → IsFitting identity.now.party stamp sessions.now.list change) }
-    ensures room { IfOk result (λ change. room_for change ≡ length (sessions_of flow sessions.now.list) + 3) }
-    ensures limits { AllByRecursion (λ session. IsKey session.key) sessions.now.list → length (sessions_of flow sessions.now.list) ≤ 255 → IsBody last.now → IfOk result (λ change. IsSession flow None change) }
+    ensures fits { IfOk result (λ change. (stamp : ℕ)
+        → AreSound identity.now.party sessions.now.list → is_last last.now ≡ true
+        → IsFitting identity.now.party stamp sessions.now.list change) }
+    ensures room { IfOk result (λ change. room_for change
+        ≡ length (sessions_of flow sessions.now.list) + 3) }
+    ensures limits { AllByRecursion (λ session. IsKey session.key) sessions.now.list
+        → length (sessions_of flow sessions.now.list) ≤ 255 → IsBody last.now
+        → IfOk result (λ change. IsSession flow None change) }
 {
     let mut items = Vec::new(alloc);
     for place in 0..sessions.count_of_flow(flow) {

@@ -60,7 +60,8 @@ fn direction_out(identity: &Identity, key: &Key) -> u8
 /// The next item that the node sends in a session, which stands.
 pub(crate) fn item_on(identity: &Identity, sessions: &Sessions, key: Key, body: Body) -> SentItem
     requires { is_some (session_of key sessions.now.list) ≡ true }
-    ensures item { (s : Session) → session_of key sessions.now.list ≡ Some s → result ≡ item_on identity.now.party s body }
+    ensures item { (s : Session) → session_of key sessions.now.list ≡ Some s
+        → result ≡ item_on identity.now.party s body }
     ensures limits { IsKey key → IsBody body → IsSentItem result }
 {
     let seq = sessions.sent(&key).unwrap();

@@ -24,8 +24,10 @@ pub fn judge(
     bytes: &[u8],
 ) -> Result<Judged, AllocError>
     requires party { sessions.now.party ≡ identity.now.party }
-    ensures judged { IfOk result (λ judged. IsJudged identity.now sessions.now.list bytes.now judged) }
-    ensures further { IfOk result (λ judged. AreLawful identity.now.party sessions.now.list → GoesFurther identity.now sessions.now.list judged) }
+    ensures judged { IfOk result (λ judged.
+        IsJudged identity.now sessions.now.list bytes.now judged) }
+    ensures further { IfOk result (λ judged. AreLawful identity.now.party sessions.now.list
+        → GoesFurther identity.now sessions.now.list judged) }
 {
     match Frame::decode(alloc, bytes) {
         Ok(frame) => Ok(judge_frame(identity, sessions, frame)),
@@ -89,7 +91,8 @@ fn objection(
     requires party { sessions.now.party ≡ identity.now.party }
     requires sides { AreSides from to key.now }
     requires goes { GoesAt direction key.now from to }
-    ensures { result ≡ objection identity.now (session_of key.now sessions.now.list) from to key.now direction seq }
+    ensures { result ≡ objection identity.now
+        (session_of key.now sessions.now.list) from to key.now direction seq }
 {
     if to != identity.party {
         return Some(Judged::NotMine { to });
@@ -136,7 +139,8 @@ fn judge_ack(
     direction: u8,
     upto: u32,
 ) -> Judged
-    ensures { result ≡ judge_ack identity.now (session_of key.now sessions.now.list) from to key.now direction upto }
+    ensures { result ≡ judge_ack identity.now
+        (session_of key.now sessions.now.list) from to key.now direction upto }
 {
     if to != identity.party {
         return Judged::NotMine { to };

@@ -34,7 +34,8 @@ pub fn frames_to_send(
 ) -> Result<OutgoingList, AllocError>
     requires party { sessions.now.party ≡ party }
     requires lawful { AreLawful party sessions.now.list }
-    ensures list { IfOk result (λ frames. frames ≡ map (outgoing party) (unacked party sessions.now.list sessions.now.acked)) }
+    ensures list { IfOk result (λ frames. frames
+        ≡ map (outgoing party) (unacked party sessions.now.list sessions.now.acked)) }
     ensures addressed { IfOk result (λ frames. AllByRecursion IsAddressed frames) }
 {
     let items = sessions.unacked(alloc)?;

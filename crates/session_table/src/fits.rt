@@ -16,7 +16,8 @@ impl Sessions {
     /// is sent, and the number of taken items. The cause's stamp plays no part. It takes no memory. Each session is looked up, so
     /// the cost doesn't grow with the table; it grows with the square of the number of items that the change sends.
     pub fn fits(&self, change: &SessionChange) -> bool
-        ensures { (stamp : ℕ) → IsTrue result ↔ IsFitting self.now.party stamp self.now.list change.now }
+        ensures { (stamp : ℕ) → IsTrue result ↔ IsFitting self.now.party stamp self.now.list
+            change.now }
     {
         if !self.fits_came(change) {
             return false;
@@ -26,7 +27,8 @@ impl Sessions {
 
     /// Whether the item that is accepted fits, if there is one.
     fn fits_came(&self, change: &SessionChange) -> bool
-        ensures { IsTrue result ↔ FitsCame self.now.party self.now.list change.now change.now.came_key change.now.came }
+        ensures { IsTrue result ↔ FitsCame self.now.party self.now.list change.now
+            change.now.came_key change.now.came }
     {
         match &change.came_key {
             None => change.came.is_none(),
@@ -41,7 +43,8 @@ impl Sessions {
 
     /// Whether this item of the session may be accepted.
     fn accepts(&self, change: &SessionChange, key: &Key, body: &Body) -> bool
-        ensures { IsTrue result ↔ AcceptsItem self.now.party self.now.list change.now key.now body.now }
+        ensures { IsTrue result ↔ AcceptsItem self.now.party self.now.list change.now key.now
+            body.now }
     {
         if is_init(body) {
             self.accepts_init(change, key)
@@ -61,7 +64,8 @@ impl Sessions {
 
     /// Whether an item that is no `Init` may be accepted as the next one of its session. The change does nothing else then.
     fn accepts_next(&self, change: &SessionChange, key: &Key, body: &Body) -> bool
-        ensures { IsTrue result ↔ AcceptsNext self.now.party self.now.list change.now key.now body.now }
+        ensures { IsTrue result ↔ AcceptsNext self.now.party self.now.list change.now key.now
+            body.now }
     {
         match self.arrived(key) {
             None => false,
@@ -76,7 +80,8 @@ impl Sessions {
 
     /// Whether the session that is opened fits, if there is one.
     fn fits_opened(&self, change: &SessionChange) -> bool
-        ensures { IsTrue result ↔ FitsOpened self.now.party self.now.list change.now.sent change.now.opened }
+        ensures { IsTrue result ↔ FitsOpened self.now.party self.now.list change.now.sent
+            change.now.opened }
     {
         match &change.opened {
             None => true,
@@ -96,7 +101,8 @@ impl Sessions {
 
     /// Whether the items that are sent fit, one after the other.
     fn fits_sent(&self, change: &SessionChange) -> bool
-        ensures { (stamp : ℕ) → IsTrue result ↔ FitsSent self.now.party stamp (begun_on change.now self.now.list) change.now.sent }
+        ensures { (stamp : ℕ) → IsTrue result ↔ FitsSent self.now.party stamp
+            (begun_on change.now self.now.list) change.now.sent }
     {
         let items = change.sent.as_slice();
         for k in 0..items.len() {
@@ -110,7 +116,8 @@ impl Sessions {
     /// Whether the item is the next one that the node sends in its session, once these items of the change were sent, and lawful
     /// there.
     fn continues(&self, change: &SessionChange, done: &[SentItem], item: &SentItem) -> bool
-        ensures { (stamp : ℕ) → IsTrue result ↔ Continues self.now.party item.now (sent_on stamp done.now (begun_on change.now self.now.list)) }
+        ensures { (stamp : ℕ) → IsTrue result ↔ Continues self.now.party item.now
+            (sent_on stamp done.now (begun_on change.now self.now.list)) }
     {
         match self.sent_begun(change, &item.key) {
             None => false,
@@ -127,7 +134,8 @@ impl Sessions {
 
     /// How many items the node sent in the session before those of the change; none in one that the change makes.
     fn sent_begun(&self, change: &SessionChange, key: &Key) -> Option<u32>
-        ensures { result ≡ option_map (λ s. length s.sent) (session_of key.now (begun_on change.now self.now.list)) }
+        ensures { result ≡ option_map (λ s. length s.sent)
+            (session_of key.now (begun_on change.now self.now.list)) }
     {
         match self.sent(key) {
             Some(count) => Some(count),
@@ -210,7 +218,8 @@ fn is_opened(key: &Key, change: &SessionChange) -> bool
 
 /// Whether the change makes the session: it accepts its `Init`, or opens it.
 fn is_made(key: &Key, change: &SessionChange) -> bool
-    ensures { result ≡ (is_answered key.now change.now.came_key change.now.came || is_opened key.now change.now.opened) }
+    ensures { result ≡ (is_answered key.now change.now.came_key change.now.came
+        || is_opened key.now change.now.opened) }
 {
     is_answered(key, change) || is_opened(key, change)
 }
@@ -224,7 +233,8 @@ fn count_of(key: &Key, items: &[SentItem]) -> usize
 
 /// Whether the item has the direction and the number, which is the first one and so many more, and is lawful there.
 fn is_placed(item: &SentItem, direction: u8, first: u32, count: usize) -> bool
-    ensures { IsTrue result ↔ ((item.now.direction ≡ direction) × (item.now.seq ≡ first + count) × (is_lawful item.now.direction item.now.seq item.now.body ≡ true)) }
+    ensures { IsTrue result ↔ ((item.now.direction ≡ direction) × (item.now.seq ≡ first + count)
+        × (is_lawful item.now.direction item.now.seq item.now.body ≡ true)) }
 {
     item.direction == direction
         && is_past(item.seq, first, count)

@@ -34,8 +34,10 @@ pub(crate) fn put_line(lines: &mut IndexMap<Key, Standing>, key: Key, standing: 
 
 /// Counts one more item that arrived in a session that stands, and gives its number.
 pub(crate) fn count_came(lines: &mut IndexMap<Key, Standing>, key: &Key) -> u32
-    requires { (v : State) → Some v ≡ lookup (key_eq key.now) lines.old.entries → v.came + 1 < 2 ^ 32 }
-    ensures number { (v : State) → Some v ≡ lookup (key_eq key.now) lines.old.entries → result ≡ v.came }
+    requires { (v : State) → Some v ≡ lookup (key_eq key.now) lines.old.entries
+        → v.came + 1 < 2 ^ 32 }
+    ensures number { (v : State) → Some v ≡ lookup (key_eq key.now) lines.old.entries
+        → result ≡ v.came }
     ensures lines { Rewrites key.now one_came lines.old.entries lines.new.entries }
     ensures room { spare lines.new ≡ spare lines.old }
 {
@@ -51,7 +53,8 @@ pub(crate) fn count_came(lines: &mut IndexMap<Key, Standing>, key: &Key) -> u32
 
 /// Counts one more item that was sent in a session that stands.
 pub(crate) fn count_sent(lines: &mut IndexMap<Key, Standing>, key: &Key)
-    requires { (v : State) → Some v ≡ lookup (key_eq key.now) lines.old.entries → v.sent + 1 < 2 ^ 32 }
+    requires { (v : State) → Some v ≡ lookup (key_eq key.now) lines.old.entries
+        → v.sent + 1 < 2 ^ 32 }
     ensures lines { Rewrites key.now one_sent lines.old.entries lines.new.entries }
     ensures room { spare lines.new ≡ spare lines.old }
 {

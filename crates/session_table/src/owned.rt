@@ -33,7 +33,10 @@ impl Model for Owned {
 
     ghost Value = { Owners };
 
-    ghost view = { λ o. record { list = map pair_of o.keys.entries; room = min (spare o.keys) (spare o.counts) } };
+    ghost view = { λ o. record {
+      list = map pair_of o.keys.entries;
+      room = min (spare o.keys) (spare o.counts);
+    } };
 
     ghost invariant = { λ o. IsFlowIndex o.keys.entries o.counts.entries };
 }
@@ -43,7 +46,8 @@ fn count_one(counts: &mut IndexMap<u32, u32>, flow: u32) -> u32
     requires room { 0 < spare counts.old }
     requires few { unwrap_or (lookup (nat_eq flow) counts.old.entries) 0 + 1 < 2 ^ 32 }
     ensures number { result ≡ unwrap_or (lookup (nat_eq flow) counts.old.entries) 0 }
-    ensures counts { (q : ℕ) → lookup (nat_eq q) counts.new.entries ≡ (if nat_eq flow q then Some (result + 1) else lookup (nat_eq q) counts.old.entries) }
+    ensures counts { (q : ℕ) → lookup (nat_eq q) counts.new.entries
+        ≡ (if nat_eq flow q then Some (result + 1) else lookup (nat_eq q) counts.old.entries) }
     ensures room { spare counts.old ≤ spare counts.new + 1 }
 {
     let number = counts.get(&flow).copied().unwrap_or(0);

@@ -47,9 +47,17 @@ impl Model for Sessions {
 
     ghost Value = { Table };
 
-    ghost view = { λ s. record { party = s.party; list = map (session_at s.sent.entries s.came.entries) s.lines.entries; acked = map (λ e. e.1.acked) s.lines.entries; room = min (spare s.lines) (min (spare s.sent) (min (spare s.came) (min s.owned.room s.waiting.room))) } };
+    ghost view = { λ s. record {
+      party = s.party;
+      list = map (session_at s.sent.entries s.came.entries) s.lines.entries;
+      acked = map (λ e. e.1.acked) s.lines.entries;
+      room = min (spare s.lines) (min (spare s.sent)
+          (min (spare s.came) (min s.owned.room s.waiting.room)));
+    } };
 
-    ghost invariant = { λ s. IsKept s.party s.opened s.lines.entries s.sent.entries s.came.entries × (s.owned.list ≡ owners (map owner_of s.lines.entries)) × IsListed s.lines.entries s.waiting.list };
+    ghost invariant = { λ s. IsKept s.party s.opened s.lines.entries s.sent.entries s.came.entries
+        × (s.owned.list ≡ owners (map owner_of s.lines.entries))
+        × IsListed s.lines.entries s.waiting.list };
 }
 
 impl Sessions {
@@ -163,7 +171,8 @@ impl Sessions {
     /// The item that is there for the flow: the first that arrived, isn't taken and isn't a `Confirm`. Once an ending
     /// (`Reject`, `Error` or `End`) was taken it is that one for good.
     pub fn next_item(&self, key: &Key) -> Option<&Body>
-        ensures { option_copied result ≡ option_map (λ found. found.1) (item_there key.now self.now.list) }
+        ensures { option_copied result ≡ option_map (λ found. found.1)
+            (item_there key.now self.now.list) }
     {
         match &self.lines.get(key)?.ending {
             Some(ending) => Some(ending),
@@ -198,7 +207,9 @@ impl Sessions {
     /// The first item that arrived, isn't taken and isn't a `Confirm`, with its number. A `Confirm` is the first item
     /// at most, so this looks at two items.
     fn untaken(&self, key: &Key) -> Option<(u32, &Body)>
-        ensures { option_map numbered result ≡ option_and_then (λ s. first_item s.taken (drop s.taken s.came)) (session_of key.now self.now.list) }
+        ensures { option_map numbered result
+            ≡ option_and_then (λ s. first_item s.taken (drop s.taken s.came))
+            (session_of key.now self.now.list) }
     {
         let standing = self.lines.get(key)?;
         for number in standing.taken..standing.came {
@@ -232,7 +243,8 @@ impl Sessions {
         place: usize,
         items: &mut Vec<Item>,
     ) -> Result<(), AllocError>
-        ensures { OnOk result (items.new.items ≡ items.old.items ++ unacked_at self.now.party self.now.list self.now.acked place) }
+        ensures { OnOk result (items.new.items
+            ≡ items.old.items ++ unacked_at self.now.party self.now.list self.now.acked place) }
     {
         match self.lines.get_index(place) {
             Some((key, standing)) => {
@@ -259,8 +271,11 @@ impl Sessions {
         count: u32,
         items: &mut Vec<Item>,
     ) -> Result<(), AllocError>
-        requires { (s : Session) × (session_of key.now self.now.list ≡ Some s) × (s.peer ≡ peer) × (length s.sent ≡ count) }
-        ensures { OnOk result ((s : Session) → session_of key.now self.now.list ≡ Some s → items.new.items ≡ items.old.items ++ items_from self.now.party s from (drop from s.sent)) }
+        requires { (s : Session) × (session_of key.now self.now.list ≡ Some s) × (s.peer ≡ peer)
+            × (length s.sent ≡ count) }
+        ensures { OnOk result ((s : Session) → session_of key.now self.now.list ≡ Some s
+            → items.new.items ≡ items.old.items
+            ++ items_from self.now.party s from (drop from s.sent)) }
     {
         let direction = self.outgoing(key);
         for number in from..count {
@@ -316,7 +331,8 @@ impl Sessions {
 
     /// Accepts an item, if there is one. An `Init` makes its session, any other item joins those of its session.
     fn accept(&mut self, came_key: Option<Key>, came: Option<Body>, owner: Option<u32>)
-        requires fits { (change : Change) × FitsCame self.old.party self.old.list change came_key came }
+        requires fits { (change : Change) × FitsCame self.old.party self.old.list change came_key
+            came }
         requires room { 2 ≤ self.old.room }
         requires few { length self.old.list + 1 < 2 ^ 32 }
         requires few_came { arrived_in came_key self.old.list + 1 < 2 ^ 32 }
@@ -332,14 +348,16 @@ impl Sessions {
     }
 
     fn accept_item(&mut self, key: Key, body: Body, owner: Option<u32>)
-        requires fits { (change : Change) × AcceptsItem self.old.party self.old.list change key body }
+        requires fits { (change : Change) × AcceptsItem self.old.party self.old.list change key
+            body }
         requires room { 2 ≤ self.old.room }
         requires few { length self.old.list + 1 < 2 ^ 32 }
         requires few_came { arrived_in (Some key) self.old.list + 1 < 2 ^ 32 }
         ensures party { self.new.party ≡ self.old.party }
         ensures list { self.new.list ≡ came_on (Some key) (Some body) owner self.old.list }
         ensures acked { self.new.acked ≡ self.old.acked ++ acks_of_came (Some key) (Some body) }
-        ensures room { self.old.room ≤ self.new.room + (1 + length (acks_of_came (Some key) (Some body))) }
+        ensures room { self.old.room ≤ self.new.room
+            + (1 + length (acks_of_came (Some key) (Some body))) }
         ensures few { length self.new.list ≤ length self.old.list + 1 }
     {
         if is_init(&body) {
@@ -352,7 +370,8 @@ impl Sessions {
 
     /// Opens a session, if there is one to be opened.
     fn open(&mut self, opened: Option<(Key, Party)>, owner: u32)
-        requires fits { (sent : List Sending) × FitsOpened self.old.party self.old.list sent opened }
+        requires fits { (sent : List Sending)
+            × FitsOpened self.old.party self.old.list sent opened }
         requires room { 0 < self.old.room }
         requires few { length self.old.list + 1 < 2 ^ 32 }
         ensures party { self.new.party ≡ self.old.party }
@@ -382,7 +401,8 @@ impl Sessions {
 
     /// Takes items, if some are to be taken.
     fn take(&mut self, taken: Option<(Key, u32)>)
-        requires { (key : SessionKey) (n : ℕ) → taken ≡ Some (key, n) → is_some (session_of key self.old.list) ≡ true }
+        requires { (key : SessionKey) (n : ℕ) → taken ≡ Some (key, n)
+            → is_some (session_of key self.old.list) ≡ true }
         ensures party { self.new.party ≡ self.old.party }
         ensures list { self.new.list ≡ taken_on taken self.old.list }
         ensures acked { self.new.acked ≡ self.old.acked }
@@ -395,8 +415,10 @@ impl Sessions {
 
     /// Makes a session without items. Its number is the next one where this node opens it, else its key is new.
     fn begin(&mut self, key: Key, peer: Party, owner: Option<u32>)
-        requires new { is_opened_by self.old.party key ≡ false → session_of key self.old.list ≡ None }
-        requires next { is_opened_by self.old.party key ≡ true → key.number ≡ opened_by self.old.party self.old.list }
+        requires new { is_opened_by self.old.party key ≡ false
+            → session_of key self.old.list ≡ None }
+        requires next { is_opened_by self.old.party key ≡ true
+            → key.number ≡ opened_by self.old.party self.old.list }
         requires room { 0 < self.old.room }
         requires few { length self.old.list + 1 < 2 ^ 32 }
         ensures party { self.new.party ≡ self.old.party }
@@ -422,7 +444,8 @@ impl Sessions {
     fn add_came(&mut self, key: Key, body: Body)
         requires stands { is_some (session_of key self.old.list) ≡ true }
         requires room { 0 < self.old.room }
-        requires few { (s : Session) → session_of key self.old.list ≡ Some s → length s.came + 1 < 2 ^ 32 }
+        requires few { (s : Session) → session_of key self.old.list ≡ Some s
+            → length s.came + 1 < 2 ^ 32 }
         ensures party { self.new.party ≡ self.old.party }
         ensures list { self.new.list ≡ changed_at key (with_came (body ∷ [])) self.old.list }
         ensures acked { self.new.acked ≡ self.old.acked }
@@ -469,7 +492,8 @@ impl Sessions {
 
     /// The last of the first `taken` items that arrived, where it ends the session.
     fn ending_at(&self, key: Key, taken: u32) -> Option<Body>
-        ensures { (s : Session) → session_of key self.now.list ≡ Some s → result ≡ ending_at s.came taken }
+        ensures { (s : Session) → session_of key self.now.list ≡ Some s
+            → result ≡ ending_at s.came taken }
     {
         if taken == 0 {
             return None;
@@ -481,10 +505,12 @@ impl Sessions {
     /// Raises the number of acknowledged items of the session to `upto`, and never lowers it. Items of the direction in
     /// which this node sends nothing are never acknowledged, nor are those of a session that doesn't stand.
     pub fn acknowledge(&mut self, key: &Key, direction: u8, upto: u32)
-        requires { (s : Session) → session_of key.now self.old.list ≡ Some s → upto ≤ length s.sent }
+        requires { (s : Session) → session_of key.now self.old.list ≡ Some s
+            → upto ≤ length s.sent }
         ensures party { self.new.party ≡ self.old.party }
         ensures list { self.new.list ≡ self.old.list }
-        ensures acked { self.new.acked ≡ raised self.old.party key.now direction upto self.old.list self.old.acked }
+        ensures acked { self.new.acked ≡ raised self.old.party key.now direction upto self.old.list
+            self.old.acked }
         ensures room { self.old.room ≤ self.new.room }
     {
         if direction != self.outgoing(key) {

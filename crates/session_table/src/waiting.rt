@@ -47,7 +47,8 @@ impl Waiting {
     /// Adds a place, if it isn't there. There is room, so it takes no memory.
     fn add(&mut self, place: usize)
         requires { 0 < self.old.room }
-        ensures list { (n : ℕ) → has_place self.new.list n ≡ (if nat_eq place n then true else has_place self.old.list n) }
+        ensures list { (n : ℕ) → has_place self.new.list n
+            ≡ (if nat_eq place n then true else has_place self.old.list n) }
         ensures room { self.old.room ≤ self.new.room + 1 }
     {
         self.places.insert(place).unwrap();
@@ -55,7 +56,8 @@ impl Waiting {
 
     /// Takes a place out, if it is there. The order of the others may change.
     fn remove(&mut self, place: usize)
-        ensures list { (n : ℕ) → has_place self.new.list n ≡ (if nat_eq place n then false else has_place self.old.list n) }
+        ensures list { (n : ℕ) → has_place self.new.list n
+            ≡ (if nat_eq place n then false else has_place self.old.list n) }
         ensures room { self.old.room ≤ self.new.room }
     {
         self.places.swap_remove(&place);

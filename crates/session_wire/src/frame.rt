@@ -125,7 +125,8 @@ fn write_route(
     direction: u8,
     out: &mut Writer,
 ) -> Result<(), AllocError>
-    ensures { Writes (route_text from.entry.now to.entry.now key.entry.now direction) result out.old out.new }
+    ensures { Writes (route_text from.entry.now to.entry.now key.entry.now direction) result out.old
+        out.new }
 {
     out.put_u8(alloc, from.0)?;
     out.put_u8(alloc, to.0)?;

@@ -23,7 +23,9 @@ fn token_order(a: &Token, b: &Token) -> Ordering
 
 /// Where a token goes among ascending ones; `None` where it is one of them.
 fn place_for(tokens: &[Token], token: &Token) -> Option<usize>
-    ensures { MatchOption result (with_token token.now tokens.now ≡ tokens.now) (λ place. (place ≤ length tokens.now) × (with_token token.now tokens.now ≡ insert tokens.now place token.now)) }
+    ensures { MatchOption result (with_token token.now tokens.now ≡ tokens.now)
+        (λ place. (place ≤ length tokens.now)
+        × (with_token token.now tokens.now ≡ insert tokens.now place token.now)) }
 {
     let mut place = 0;
     for other in tokens {

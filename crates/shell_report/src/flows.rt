@@ -82,7 +82,9 @@ pub fn flow_text<F: Drop>(
     flows: &Flows<F>,
     number: u32,
 ) -> Result<Option<String>, AllocError>
-    ensures { IfOk result (λ found. MatchOption found (slice_get flows.now.flows number ≡ None) (λ text. (flow : FlowState F) × (slice_get flows.now.flows number ≡ Some flow) × (string_bytes text ≡ flow_line number flow ++ 10 ∷ []))) }
+    ensures { IfOk result (λ found. MatchOption found (slice_get flows.now.flows number ≡ None)
+        (λ text. (flow : FlowState F) × (slice_get flows.now.flows number ≡ Some flow)
+        × (string_bytes text ≡ flow_line number flow ++ 10 ∷ []))) }
 {
     match flows.get(number) {
         None => Ok(None),

@@ -92,7 +92,8 @@ fn encumbered_text(alloc: Global, encumbrance: &Option<u8>) -> Result<String, Al
 /// The line of an unconsumed state, without its end.
 fn state_line(alloc: Global, store: &Store, held: &Held) -> Result<String, AllocError>
     requires { IsHeld held.now }
-    ensures { IfOk result (λ text. string_bytes text ≡ state_line (ids_of store.now.list) held.now) }
+    ensures { IfOk result (λ text. string_bytes text
+        ≡ state_line (ids_of store.now.list) held.now) }
 {
     let place = place_in(store, &held.reference.id);
     let body = body_text(alloc, &held.state.body)?;
@@ -108,7 +109,8 @@ fn state_line(alloc: Global, store: &Store, held: &Held) -> Result<String, Alloc
 /// A line for each state.
 fn state_lines(alloc: Global, store: &Store, states: &[Held]) -> Result<String, AllocError>
     requires { AllByRecursion IsHeld states.now }
-    ensures { IfOk result (λ text. string_bytes text ≡ state_lines (ids_of store.now.list) states.now) }
+    ensures { IfOk result (λ text. string_bytes text
+        ≡ state_lines (ids_of store.now.list) states.now) }
 {
     let mut out = String::new(alloc);
     for held in states {
@@ -125,7 +127,8 @@ fn state_lines(alloc: Global, store: &Store, states: &[Held]) -> Result<String, 
 ///
 /// `AllocError` for want of memory.
 pub fn vault_text(alloc: Global, store: &Store, vault: &Vault) -> Result<String, AllocError>
-    ensures { IfOk result (λ text. string_bytes text ≡ vault_text (ids_of store.now.list) vault.now.held) }
+    ensures { IfOk result (λ text. string_bytes text
+        ≡ vault_text (ids_of store.now.list) vault.now.held) }
 {
     let states = vault.unconsumed(alloc)?;
     if states.len() == 0 {

@@ -41,7 +41,9 @@ fn tx_text(alloc: Global, id: &Hash32, stx: &SignedTx) -> Result<String, AllocEr
 ///
 /// `AllocError` for want of memory.
 pub fn tx_text_of(alloc: Global, store: &Store, id: &Hash32) -> Result<Option<String>, AllocError>
-    ensures { IfOk result (λ found. MatchOption found (stored_of store.now.list id.now ≡ None) (λ text. (stx : Stx) × (stored_of store.now.list id.now ≡ Some stx) × (string_bytes text ≡ tx_text id.now stx))) }
+    ensures { IfOk result (λ found. MatchOption found (stored_of store.now.list id.now ≡ None)
+        (λ text. (stx : Stx) × (stored_of store.now.list id.now ≡ Some stx)
+        × (string_bytes text ≡ tx_text id.now stx))) }
 {
     match store.get(id) {
         None => Ok(None),
@@ -55,7 +57,9 @@ pub fn tx_text_of(alloc: Global, store: &Store, id: &Hash32) -> Result<Option<St
 ///
 /// `AllocError` for want of memory.
 pub fn tx_text_at(alloc: Global, store: &Store, place: u32) -> Result<Option<String>, AllocError>
-    ensures { IfOk result (λ found. MatchOption found (slice_get store.now.list place ≡ None) (λ text. (p : Id × Stx) × (slice_get store.now.list place ≡ Some p) × (string_bytes text ≡ tx_text p.0 p.1))) }
+    ensures { IfOk result (λ found. MatchOption found (slice_get store.now.list place ≡ None)
+        (λ text. (p : Id × Stx) × (slice_get store.now.list place ≡ Some p)
+        × (string_bytes text ≡ tx_text p.0 p.1))) }
 {
     match store.at(place) {
         None => Ok(None),

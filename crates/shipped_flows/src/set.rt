@@ -27,7 +27,12 @@ impl Opens<Shipped> for NoCalls {
 
     ghost see = { no_call };
 
-    ghost opens = { record { weight = calls_cost; over = λ c. refl; tags = λ test c h. refl; limits = λ c h. (refl, (omega arith, omega arith)) } };
+    ghost opens = { record {
+      weight = calls_cost;
+      over = λ c. refl;
+      tags = λ test c h. refl;
+      limits = λ c h. (refl, (omega arith, omega arith));
+    } };
 
     fn open(_alloc: Global, _call: Call) -> Result<Shipped, AllocError> {
         let fields = Count { left: 0, all: 0 };

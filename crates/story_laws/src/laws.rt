@@ -10,8 +10,12 @@ use flow_machine::FlowSet;
 /// they show: as it begins and after every line, whichever journals power cuts leave, and at every moment of it, also within a call of a
 /// disk, whichever images they leave of the disks.
 pub fn ledgers_hold_in_scripts<F: FlowSet, J: Judge>()
-    ensures one_consumer { (contracts : J) → InScripts (meaning F.machine F.reading (J.judges contracts)) (Made HasOneConsumerEach) }
-    ensures signed { (contracts : J) → InScripts (meaning F.machine F.reading (J.judges contracts)) (Made IsSignedInBook) }
-    ensures whole_chains { (contracts : J) → InScripts (meaning F.machine F.reading (J.judges contracts)) (Made HasWholeChains) }
-    ensures none_twice { (contracts : J) → InScripts (meaning F.machine F.reading (J.judges contracts)) (Made HasNoneSpentTwice) }
+    ensures one_consumer { (contracts : J)
+        → InScripts (meaning F.machine F.reading (J.judges contracts)) (Made HasOneConsumerEach) }
+    ensures signed { (contracts : J) → InScripts (meaning F.machine F.reading (J.judges contracts))
+        (Made IsSignedInBook) }
+    ensures whole_chains { (contracts : J)
+        → InScripts (meaning F.machine F.reading (J.judges contracts)) (Made HasWholeChains) }
+    ensures none_twice { (contracts : J)
+        → InScripts (meaning F.machine F.reading (J.judges contracts)) (Made HasNoneSpentTwice) }
 {}

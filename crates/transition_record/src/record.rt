@@ -112,8 +112,17 @@ pub fn encode_parts(
     session: &SessionChange,
     ledger: &LedgerChange,
 ) -> Result<ByteList, AllocError>
-    requires { IsRecord cause.now (record { flow = flow.now; session = session.now; ledger = ledger.now }) }
-    ensures text { IfOk result (λ bytes. bytes ≡ record_text cause.now (record { flow = flow.now; session = session.now; ledger = ledger.now })) }
+    requires { IsRecord cause.now (record {
+      flow = flow.now;
+      session = session.now;
+      ledger = ledger.now;
+    }) }
+    ensures text { IfOk result (λ bytes. bytes
+        ≡ record_text cause.now (record {
+          flow = flow.now;
+          session = session.now;
+          ledger = ledger.now;
+        })) }
     ensures size { IfOk result (λ bytes. length bytes ≤ RECORD_LIMIT) }
 {
     let mut out = writer_with_room(alloc)?;
@@ -131,7 +140,8 @@ pub fn encode_parts(
 /// `Malformed { at: 0 }` exactly where the bytes aren't one record, and `Memory`.
 pub fn decode_record(alloc: Global, bytes: &[u8]) -> Result<(Cause, Effect), DecodeFault>
     ensures record { GivesRecord result bytes.now }
-    ensures back { (cause : Cause) (effect : Effect) → IsRecord cause effect → bytes.now ≡ record_text cause effect → GivesBack cause effect result }
+    ensures back { (cause : Cause) (effect : Effect) → IsRecord cause effect
+        → bytes.now ≡ record_text cause effect → GivesBack cause effect result }
 {
     if bytes.len() > RECORD_LIMIT {
         return Err(DecodeFault::Malformed { at: 0 });

@@ -19,7 +19,8 @@ fn read_two<A: Spelt, B: Spelt>(
     alloc: Global,
     from: &mut Reader,
 ) -> Result<Option<(A, B)>, PartFault>
-    ensures { Gives (λ x. x) result from.old from.new (option_at (pair_at A.reading B.reading) from.old.left) }
+    ensures { Gives (λ x. x) result from.old from.new
+        (option_at (pair_at A.reading B.reading) from.old.left) }
 {
     if read_below(from, 2)? == 0 {
         return Ok(None);
@@ -36,7 +37,8 @@ fn write_two<A: Spelt, B: Spelt>(
     out: &mut Writer,
 ) -> Result<(), AllocError>
     requires { IfSome two.now (λ p. A.within p.0 × B.within p.1) }
-    ensures { Writes (option_of (λ p. A.spelling p.0 ++ B.spelling p.1) two.now) result out.old out.new }
+    ensures { Writes (option_of (λ p. A.spelling p.0 ++ B.spelling p.1) two.now) result out.old
+        out.new }
 {
     match two {
         None => out.put_u8(alloc, 0),
@@ -72,7 +74,8 @@ fn write_sent_item(alloc: Global, item: &SentItem, out: &mut Writer) -> Result<(
 }
 
 fn read_items(alloc: Global, from: &mut Reader, count: u8) -> Result<Vec<SentItem>, PartFault>
-    ensures { Gives (λ x. x.items) result from.old from.new (items_at sent_item_at count from.old.left) }
+    ensures { Gives (λ x. x.items) result from.old from.new
+        (items_at sent_item_at count from.old.left) }
 {
     let mut items = Vec::with_capacity(alloc, count as usize)?;
     for _ in 0..count {

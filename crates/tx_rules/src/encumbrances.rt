@@ -88,7 +88,8 @@ fn is_encumbering(outputs: &[TxState], place: usize) -> bool
 }
 
 fn all_encumbered_encumber(outputs: &[TxState]) -> bool
-    ensures { result ≡ list_all (λ n. has_number n (rule.encumbering outputs.now)) (rule.encumbered outputs.now) }
+    ensures { result ≡ list_all (λ n. has_number n (rule.encumbering outputs.now))
+        (rule.encumbered outputs.now) }
 {
     outputs
         .iter()
@@ -99,7 +100,8 @@ fn all_encumbered_encumber(outputs: &[TxState]) -> bool
 }
 
 fn all_encumbering_are_encumbered(outputs: &[TxState]) -> bool
-    ensures { result ≡ list_all (λ n. has_number n (rule.encumbered outputs.now)) (rule.encumbering outputs.now) }
+    ensures { result ≡ list_all (λ n. has_number n (rule.encumbered outputs.now))
+        (rule.encumbering outputs.now) }
 {
     outputs
         .iter()

@@ -9,5 +9,6 @@ ghost use Rattle.ledger_types.specs.Signatures.{is_signed, missing_signers};
 
 /// A transaction is signed exactly where nobody who has to sign it is missing.
 pub fn signed_where_none_is_missing()
-    ensures { (mark : Party → Hash32 → Hash32) (stx : SignedTx) → is_signed mark stx ≡ is_empty (missing_signers mark stx) }
+    ensures { (mark : Party → Hash32 → Hash32) (stx : SignedTx)
+        → is_signed mark stx ≡ is_empty (missing_signers mark stx) }
 {}

@@ -52,7 +52,8 @@ fn is_good<S: Signer>(tag: &Tag, id: &Hash32, signer: &S) -> bool
 /// The parties that have a tag here over the id, which checks.
 #[tactic(auto, using(std::proofs::lemmas::List::Folds::list_any_more))]
 fn signed_by<S: Signer>(tags: &[Tag], id: &Hash32, signer: &S) -> PartySet
-    ensures { (p : ℕ) → p < 16 → has_party result p ≡ list_any (is_tag (S.mark_of signer.now) id.now p) tags.now }
+    ensures { (p : ℕ) → p < 16 → has_party result p
+        ≡ list_any (is_tag (S.mark_of signer.now) id.now p) tags.now }
 {
     let mut signed = PartySet::empty();
     for tag in tags {
@@ -75,7 +76,8 @@ fn missing_set<S: Signer>(stx: &SignedTx, signer: &S) -> PartySet
 /// The parties that have to sign the transaction of whom no tag stands here that is over its id and checks.
 pub fn missing_tags<S: Signer>(stx: &SignedTx, signer: &S) -> PartySet
     requires { IsTx stx.now.tx }
-    ensures each { (p : ℕ) → p < 16 → has_party result p ≡ is_missing (S.mark_of signer.now) stx.now p }
+    ensures each { (p : ℕ) → p < 16 → has_party result p
+        ≡ is_missing (S.mark_of signer.now) stx.now p }
     ensures all { members result ≡ missing_signers (S.mark_of signer.now) stx.now }
 {
     missing_set(stx, signer)

@@ -34,7 +34,8 @@ impl Model for Store {
 
     ghost view = { λ s. record { list = s.map.entries; room = spare s.map } };
 
-    ghost invariant = { λ s. (is_in_order s.map.entries ≡ true) × (length s.map.entries < 2 ^ 32) × AreWithin s.map.entries };
+    ghost invariant = { λ s. (is_in_order s.map.entries ≡ true) × (length s.map.entries < 2 ^ 32)
+        × AreWithin s.map.entries };
 }
 
 impl Store {
@@ -234,7 +235,8 @@ impl Store {
         requires dependencies { has_dependencies self.old.list stx.tx ≡ true }
         requires few { length self.old.list + 1 < 2 ^ 32 }
         ensures fresh { result ≡ not (is_stored self.old.list (tx_id stx.tx)) }
-        ensures list { self.new.list ≡ (if result then self.old.list ++ (tx_id stx.tx, stx) ∷ [] else self.old.list) }
+        ensures list { self.new.list ≡ (if result then self.old.list ++ (tx_id stx.tx, stx) ∷ []
+            else self.old.list) }
         ensures room { self.old.room ≤ self.new.room + (if result then 1 else 0) }
     {
         let id = stx.tx.id();
@@ -249,7 +251,9 @@ impl Store {
     /// along the back-chain of a stored transaction are stored.
     pub fn keeps_back_chains(&self)
         ensures in_order { is_in_order self.now.list ≡ true }
-        ensures back_chains { (id : Id) (ids : List Id) → leads_back self.now.list (stored_of self.now.list id) ids ≡ true → list_all (is_stored self.now.list) ids ≡ true }
+        ensures back_chains { (id : Id) (ids : List Id)
+            → leads_back self.now.list (stored_of self.now.list id) ids ≡ true
+            → list_all (is_stored self.now.list) ids ≡ true }
     {
         let _ = &self.map;
     }

@@ -79,7 +79,8 @@ fn read_shown<T: Spelt>(
     torn: &TornTx,
     ordinal: usize,
 ) -> Result<ListOf<T>, TearFault>
-    ensures tells { Tells result (option_and_then (spelt_by T.reading) (parts_at torn.now ordinal)) }
+    ensures tells { Tells result (option_and_then (spelt_by T.reading)
+        (parts_at torn.now ordinal)) }
     ensures limits { IsTornTx torn.now → IfOk result (ListWithin 64 T.within) }
 {
     match torn.groups.as_slice().get(ordinal) {

@@ -11,5 +11,6 @@ ghost use Rattle.vault.specs.Holdings.{references_of, IsVault};
 
 /// A vault over recorded transactions holds no state twice.
 pub fn holds_each_once()
-    ensures { (me : Party) (recorded : List (Hash32 × Tx)) (locks : List Lock) (held : List Held) → IsVault me recorded locks held → has_repeat ref_eq (references_of held) ≡ false }
+    ensures { (me : Party) (recorded : List (Hash32 × Tx)) (locks : List Lock) (held : List Held)
+        → IsVault me recorded locks held → has_repeat ref_eq (references_of held) ≡ false }
 {}

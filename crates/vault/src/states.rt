@@ -107,7 +107,8 @@ pub fn first_coins(alloc: Global, states: &[Held], token: &Token) -> Result<Vec<
 /// What coins are worth, in their order.
 pub fn amounts(alloc: Global, coins: &[Held]) -> Result<Vec<Coin>, AllocError>
     requires { length coins.now ≤ 64 }
-    ensures { IfOk result (λ list. map (λ c. c.amount) list.items ≡ map (λ h. cash_amount h.state.body) coins.now) }
+    ensures { IfOk result (λ list. map (λ c. c.amount) list.items
+        ≡ map (λ h. cash_amount h.state.body) coins.now) }
 {
     let mut list = Vec::with_capacity(alloc, coins.len())?;
     for i in 0..coins.len() {
@@ -121,7 +122,8 @@ pub fn amounts(alloc: Global, coins: &[Held]) -> Result<Vec<Coin>, AllocError>
 
 /// Takes the states that are consumed out of the list. It goes through the states.
 pub fn remove_consumed(states: &mut Vec<Held>, inputs: &[StateRef])
-    ensures items { states.new.items ≡ filter (λ h. not (has_ref h.reference inputs.now)) states.old.items }
+    ensures items { states.new.items ≡ filter
+        (λ h. not (has_ref h.reference inputs.now)) states.old.items }
     ensures bound { vec_len states.new ≤ vec_len states.old }
     ensures capacity { vec_capacity states.new ≡ vec_capacity states.old }
 {
@@ -131,7 +133,8 @@ pub fn remove_consumed(states: &mut Vec<Held>, inputs: &[StateRef])
 /// Adds a state where it is relevant to a party.
 fn add_if_relevant(states: &mut Vec<Held>, me: Party, held: Held)
     requires { vec_len states.old < vec_capacity states.old }
-    ensures items { states.new.items ≡ states.old.items ++ (if is_relevant me held.state.body then held ∷ [] else []) }
+    ensures items { states.new.items ≡ states.old.items
+        ++ (if is_relevant me held.state.body then held ∷ [] else []) }
     ensures bound { vec_len states.new ≤ vec_len states.old + 1 }
     ensures capacity { vec_capacity states.old ≤ vec_capacity states.new }
 {
@@ -144,7 +147,8 @@ fn add_if_relevant(states: &mut Vec<Held>, me: Party, held: Held)
 pub fn add_relevant(states: &mut Vec<Held>, me: Party, id: &Hash32, outputs: &[TxState])
     requires few { length outputs.now ≤ 64 }
     requires room { length outputs.now ≤ vec_capacity states.old - vec_len states.old }
-    ensures items { states.new.items ≡ states.old.items ++ filter (λ h. is_relevant me h.state.body) (outputs_from [] id.now 0 outputs.now) }
+    ensures items { states.new.items ≡ states.old.items
+        ++ filter (λ h. is_relevant me h.state.body) (outputs_from [] id.now 0 outputs.now) }
     ensures bound { vec_len states.new ≤ vec_len states.old + length outputs.now }
     ensures capacity { vec_capacity states.old ≤ vec_capacity states.new }
 {

@@ -37,7 +37,11 @@ impl Model for Vault {
 
     ghost Value = { Holding };
 
-    ghost view = { λ v. record { party = v.party; held = v.states.items; room = vec_capacity v.states - vec_len v.states } };
+    ghost view = { λ v. record {
+      party = v.party;
+      held = v.states.items;
+      room = vec_capacity v.states - vec_len v.states;
+    } };
 
     ghost invariant = { λ v. AreHeld v.party v.states.items };
 }
@@ -83,7 +87,10 @@ impl Vault {
         ensures party { self.new.party ≡ self.old.party }
         ensures held { self.new.held ≡ held_after self.old.party id.now tx.now self.old.held }
         ensures room { self.old.room ≤ self.new.room + length tx.now.outputs }
-        ensures vault { (recorded : List (Id × Recorded)) (locks : List Lock) → IsVault self.old.party recorded locks self.old.held → may_note recorded id.now tx.now ≡ true → IsVault self.old.party (recorded ++ (id.now, tx.now) ∷ []) locks self.new.held }
+        ensures vault { (recorded : List (Id × Recorded)) (locks : List Lock)
+            → IsVault self.old.party recorded locks self.old.held
+            → may_note recorded id.now tx.now ≡ true
+            → IsVault self.old.party (recorded ++ (id.now, tx.now) ∷ []) locks self.new.held }
     {
         id.known();
         remove_consumed(&mut self.states, tx.inputs.as_slice());
@@ -112,7 +119,8 @@ impl Vault {
         token: &Token,
         amount: u64,
     ) -> Result<HeldList, ReserveFault>
-        ensures reserved { IfOk result (λ list. reserved token.now amount self.now.held ≡ Some list) }
+        ensures reserved { IfOk result (λ list. reserved token.now amount self.now.held
+            ≡ Some list) }
         ensures fault { IfErr result (Refuses token.now amount self.now.held) }
     {
         let mut coins = first_coins(alloc, self.states.as_slice(), token)?;
@@ -137,10 +145,14 @@ impl Vault {
         token: &Token,
         amount: u64,
     ) -> Result<HeldList, ReserveFault>
-        ensures reserved { IfOk result (λ list. reserved token.now amount self.now.held ≡ Some list) }
-        ensures coins { IfOk result (λ list. list_all (has_coin self.now.held) (references_of list) ≡ true) }
-        ensures own { IfOk result (λ list. list_all (is_own_coin self.now.party token.now) list ≡ true) }
-        ensures once { has_repeat ref_eq (references_of self.now.held) ≡ false → IfOk result (λ list. has_repeat ref_eq (references_of list) ≡ false) }
+        ensures reserved { IfOk result (λ list. reserved token.now amount self.now.held
+            ≡ Some list) }
+        ensures coins { IfOk result (λ list. list_all (has_coin self.now.held) (references_of list)
+            ≡ true) }
+        ensures own { IfOk result (λ list. list_all (is_own_coin self.now.party token.now) list
+            ≡ true) }
+        ensures once { has_repeat ref_eq (references_of self.now.held) ≡ false
+            → IfOk result (λ list. has_repeat ref_eq (references_of list) ≡ false) }
         ensures limits { IfOk result (ListWithin 64 IsHeld) }
         ensures fault { IfErr result (Refuses token.now amount self.now.held) }
     {
@@ -160,7 +172,8 @@ impl Vault {
     #[tactic(auto, using(crate::proofs::Gaining::coin_behind))]
     pub fn is_coin_behind(&self, id: &Hash32, tx: &Tx, reference: &StateRef) -> bool
         requires { length tx.now.outputs ≤ 64 }
-        ensures { result ≡ has_coin (held_after self.now.party id.now tx.now self.now.held) reference.now }
+        ensures { result ≡ has_coin (held_after self.now.party id.now tx.now self.now.held)
+            reference.now }
     {
         let inputs = tx.inputs.as_slice();
         let outputs = tx.outputs.as_slice();
@@ -175,7 +188,9 @@ impl Vault {
         ensures party { self.new.party ≡ self.old.party }
         ensures held { self.new.held ≡ map (locked_in flow list.now) self.old.held }
         ensures room { self.old.room ≤ self.new.room }
-        ensures vault { (recorded : List (Id × Recorded)) (locks : List Lock) → IsVault self.old.party recorded locks self.old.held → IsVault self.old.party recorded (locks ++ locks_of flow list.now) self.new.held }
+        ensures vault { (recorded : List (Id × Recorded)) (locks : List Lock)
+            → IsVault self.old.party recorded locks self.old.held
+            → IsVault self.old.party recorded (locks ++ locks_of flow list.now) self.new.held }
     {
         lock_each(&mut self.states, flow, list.as_slice());
     }
@@ -185,7 +200,9 @@ impl Vault {
         ensures party { self.new.party ≡ self.old.party }
         ensures held { self.new.held ≡ map (freed_of flow) self.old.held }
         ensures room { self.old.room ≤ self.new.room }
-        ensures vault { (recorded : List (Id × Recorded)) (locks : List Lock) → IsVault self.old.party recorded locks self.old.held → IsVault self.old.party recorded (released flow locks) self.new.held }
+        ensures vault { (recorded : List (Id × Recorded)) (locks : List Lock)
+            → IsVault self.old.party recorded locks self.old.held
+            → IsVault self.old.party recorded (released flow locks) self.new.held }
     {
         free_each(&mut self.states, flow);
     }

@@ -25,9 +25,13 @@ impl Model for Waiting {
 
     ghost Value = { WaitingSeen };
 
-    ghost view = { λ w. record { frames = map (λ f. f.items) (drop w.gone w.frames.keys); room = spare w.frames } };
+    ghost view = { λ w. record {
+      frames = map (λ f. f.items) (drop w.gone w.frames.keys);
+      room = spare w.frames;
+    } };
 
-    ghost invariant = { λ w. (w.gone ≤ length w.frames.keys) × (waits_once (map (λ f. f.items) (drop w.gone w.frames.keys)) ≡ true) };
+    ghost invariant = { λ w. (w.gone ≤ length w.frames.keys)
+        × (waits_once (map (λ f. f.items) (drop w.gone w.frames.keys)) ≡ true) };
 }
 
 impl Waiting {

@@ -26,9 +26,13 @@ fn drain_one<R: Wait>(
     requires of { map (λ p. p.of) own.old.items ≡ inboxes.now }
     requires room { IsRoom room }
     ensures of { map (λ p. p.of) own.new.items ≡ inboxes.now }
-    ensures moves { Moves at result.items [] (map (λ p. p.seen) own.old.items) (map (λ p. p.seen) own.new.items) }
-    ensures whole { (s : Seen) → slice_get (map (λ p. p.seen) own.new.items) at ≡ Some s → FromOrigins s }
-    ensures others { (q : ℕ) → (q ≡ at → ⊥) → slice_get (map (λ p. p.seen) own.new.items) q ≡ slice_get (map (λ p. p.seen) own.old.items) q }
+    ensures moves { Moves at result.items [] (map (λ p. p.seen) own.old.items)
+        (map (λ p. p.seen) own.new.items) }
+    ensures whole { (s : Seen) → slice_get (map (λ p. p.seen) own.new.items) at ≡ Some s
+        → FromOrigins s }
+    ensures others { (q : ℕ) → (q ≡ at → ⊥)
+        → slice_get (map (λ p. p.seen) own.new.items) q
+        ≡ slice_get (map (λ p. p.seen) own.old.items) q }
     ensures few { length result.items ≤ 1024 }
 {
     let mut left = room;
@@ -58,8 +62,10 @@ pub fn drain_all<R: Wait>(
     ensures of { map (λ p. p.of) own.new.items ≡ inboxes.now }
     ensures count { length result.items ≡ length inboxes.now }
     ensures few { AllByRecursion (λ v. length v.items ≤ 1024) result.items }
-    ensures moves { (at : ℕ) → Moves at [] [] (map (λ p. p.seen) own.old.items) (map (λ p. p.seen) own.new.items) }
-    ensures left { Drained (length inboxes.now) (map (λ v. v.items) result.items) (map (λ p. p.seen) own.new.items) }
+    ensures moves { (at : ℕ) → Moves at [] [] (map (λ p. p.seen) own.old.items)
+        (map (λ p. p.seen) own.new.items) }
+    ensures left { Drained (length inboxes.now) (map (λ v. v.items) result.items)
+        (map (λ p. p.seen) own.new.items) }
 {
     let mut lists = room;
     'lists: for list in rooms {

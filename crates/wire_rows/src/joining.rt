@@ -10,7 +10,8 @@ pub fn join_row(inboxes: &[Inbox], own: &mut Vec<InboxPass>, row: Vec<InboxPass>
     requires own { map (λ p. p.of) own.old.items ≡ inboxes.now }
     requires row { map (λ p. p.of) row.items ≡ inboxes.now }
     ensures of { map (λ p. p.of) own.new.items ≡ inboxes.now }
-    ensures joined { Joined (map (λ p. p.seen) own.old.items) (map (λ p. p.seen) row.items) (map (λ p. p.seen) own.new.items) }
+    ensures joined { Joined (map (λ p. p.seen) own.old.items) (map (λ p. p.seen) row.items)
+        (map (λ p. p.seen) own.new.items) }
 {
     let mut at = 0;
     'row: for pass in row {

@@ -19,7 +19,8 @@ pub fn make_all<R: Wait>(
     requires { AllByRecursion (λ frames. length frames ≤ 1024) waiting.items }
     ensures count { IfOk result (λ r. length r.0.items ≡ length waiting.items) }
     ensures of { IfOk result (λ r. map (λ p. p.of) r.1.items ≡ r.0.items) }
-    ensures seen { IfOk result (λ r. map (λ p. p.seen) r.1.items ≡ map (λ l. seen 32 l [] []) waiting.items) }
+    ensures seen { IfOk result (λ r. map (λ p. p.seen) r.1.items
+        ≡ map (λ l. seen 32 l [] []) waiting.items) }
 {
     let mut inboxes = Vec::with_capacity(alloc, waiting.len())?;
     let mut own = Vec::with_capacity(alloc, waiting.len())?;
@@ -41,7 +42,8 @@ fn split_all(
     requires shares { AllByRecursion (λ p. 1 < p.seen.shares) own.items }
     ensures own { IfOk result (λ r. map (λ p. p.of) r.0.items ≡ inboxes.now) }
     ensures row { IfOk result (λ r. map (λ p. p.of) r.1.items ≡ inboxes.now) }
-    ensures fewer { IfOk result (λ r. map (λ p. p.seen) r.0.items ≡ map (λ p. fewer p.seen) own.items) }
+    ensures fewer { IfOk result (λ r. map (λ p. p.seen) r.0.items
+        ≡ map (λ p. fewer p.seen) own.items) }
     ensures fresh { IfOk result (λ r. AllByRecursion (λ p. p.seen ≡ fresh) r.1.items) }
 {
     let mut kept = Vec::with_capacity(alloc, own.len())?;
@@ -69,7 +71,9 @@ pub fn rows_of(
     ensures of { IfOk result (λ r. map (λ p. p.of) r.0.items ≡ inboxes.now) }
     ensures count { IfOk result (λ r. length r.1.items ≡ count) }
     ensures rows { IfOk result (λ r. AreRows inboxes.now r.1.items) }
-    ensures spread { IfOk result (λ r. (waited : List (List Frame)) → Spread waited 0 (map (λ p. p.seen) own.items) → Spread waited count (map (λ p. p.seen) r.0.items)) }
+    ensures spread { IfOk result (λ r. (waited : List (List Frame))
+        → Spread waited 0 (map (λ p. p.seen) own.items)
+        → Spread waited count (map (λ p. p.seen) r.0.items)) }
 {
     let mut kept = own;
     let mut rows = Vec::with_capacity(alloc, count)?;

@@ -15,7 +15,8 @@ use wire_queue::{Inbox, InboxPass};
 fn post_to<R: Wait>(rt: &R, inboxes: &[Inbox], passes: &mut Vec<InboxPass>, out: Outgoing)
     requires { map (λ p. p.of) passes.old.items ≡ inboxes.now }
     ensures of { map (λ p. p.of) passes.new.items ≡ inboxes.now }
-    ensures moves { (at : ℕ) → Moves at [] (out ∷ []) (map (λ p. p.seen) passes.old.items) (map (λ p. p.seen) passes.new.items) }
+    ensures moves { (at : ℕ) → Moves at [] (out ∷ []) (map (λ p. p.seen) passes.old.items)
+        (map (λ p. p.seen) passes.new.items) }
 {
     let to = out.to.0 as usize;
     if to >= inboxes.len() {
@@ -35,7 +36,8 @@ pub fn post_first<R: Wait>(
 )
     requires { map (λ p. p.of) passes.old.items ≡ inboxes.now }
     ensures of { map (λ p. p.of) passes.new.items ≡ inboxes.now }
-    ensures moves { (at : ℕ) → Moves at [] frames (map (λ p. p.seen) passes.old.items) (map (λ p. p.seen) passes.new.items) }
+    ensures moves { (at : ℕ) → Moves at [] frames (map (λ p. p.seen) passes.old.items)
+        (map (λ p. p.seen) passes.new.items) }
 {
     let mut first = frames.into_vec();
     first.truncate(most);
@@ -53,7 +55,8 @@ pub fn post_ack<R: Wait>(
 )
     requires { map (λ p. p.of) passes.old.items ≡ inboxes.now }
     ensures of { map (λ p. p.of) passes.new.items ≡ inboxes.now }
-    ensures moves { (at : ℕ) → Moves at [] (option_to_list ack) (map (λ p. p.seen) passes.old.items) (map (λ p. p.seen) passes.new.items) }
+    ensures moves { (at : ℕ) → Moves at [] (option_to_list ack) (map (λ p. p.seen) passes.old.items)
+        (map (λ p. p.seen) passes.new.items) }
 {
     if let Some(out) = ack {
         post_to(rt, inboxes, passes, out);
@@ -69,11 +72,18 @@ pub fn pull_from<R: Wait>(
 ) -> Option<ByteList>
     requires { map (λ p. p.of) passes.old.items ≡ inboxes.now }
     ensures of { map (λ p. p.of) passes.new.items ≡ inboxes.now }
-    ensures none { IfNone result (Moves at [] [] (map (λ p. p.seen) passes.old.items) (map (λ p. p.seen) passes.new.items)) }
-    ensures pulled { IfSome result (λ x. Moves at (x ∷ []) [] (map (λ p. p.seen) passes.old.items) (map (λ p. p.seen) passes.new.items)) }
-    ensures has { IfSome result (λ x. (s : Seen) → slice_get (map (λ p. p.seen) passes.new.items) at ≡ Some s → IsIn x s.pulled) }
-    ensures whole { (s : Seen) → slice_get (map (λ p. p.seen) passes.new.items) at ≡ Some s → FromOrigins s }
-    ensures others { (q : ℕ) → (q ≡ at → ⊥) → slice_get (map (λ p. p.seen) passes.new.items) q ≡ slice_get (map (λ p. p.seen) passes.old.items) q }
+    ensures none { IfNone result (Moves at [] [] (map (λ p. p.seen) passes.old.items)
+        (map (λ p. p.seen) passes.new.items)) }
+    ensures pulled { IfSome result (λ x.
+        Moves at (x ∷ []) [] (map (λ p. p.seen) passes.old.items)
+        (map (λ p. p.seen) passes.new.items)) }
+    ensures has { IfSome result (λ x. (s : Seen)
+        → slice_get (map (λ p. p.seen) passes.new.items) at ≡ Some s → IsIn x s.pulled) }
+    ensures whole { (s : Seen) → slice_get (map (λ p. p.seen) passes.new.items) at ≡ Some s
+        → FromOrigins s }
+    ensures others { (q : ℕ) → (q ≡ at → ⊥)
+        → slice_get (map (λ p. p.seen) passes.new.items) q
+        ≡ slice_get (map (λ p. p.seen) passes.old.items) q }
 {
     if at >= inboxes.len() {
         return None;
@@ -91,9 +101,11 @@ pub fn post_back<R: Wait>(
     frame: ByteList,
 )
     requires of { map (λ p. p.of) passes.old.items ≡ inboxes.now }
-    requires had { (s : Seen) → slice_get (map (λ p. p.seen) passes.old.items) at ≡ Some s → IsIn frame s.pulled }
+    requires had { (s : Seen) → slice_get (map (λ p. p.seen) passes.old.items) at ≡ Some s
+        → IsIn frame s.pulled }
     ensures of { map (λ p. p.of) passes.new.items ≡ inboxes.now }
-    ensures moves { Moves at [] [] (map (λ p. p.seen) passes.old.items) (map (λ p. p.seen) passes.new.items) }
+    ensures moves { Moves at [] [] (map (λ p. p.seen) passes.old.items)
+        (map (λ p. p.seen) passes.new.items) }
 {
     if at >= inboxes.len() {
         return;

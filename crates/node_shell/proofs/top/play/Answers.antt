@@ -2,7 +2,7 @@ use Rattle.std.proofs.Common.{◌≡◌, inl, inr, map, length, refl, sym, ◌�
 use Rattle.std.proofs.lemmas.List.{length-map}
 use Rattle.net_base.proofs.Lists.{map_both}
 use Rattle.net_model.specs.Environment.{meaning, party}
-use Rattle.outside.specs.Disk.{DiskView}
+use Rattle.outside.specs.Disk.{DiskSeen}
 use Rattle.node_core.specs.Disks.{roomless, attached_as}
 use Rattle.node_core.specs.Seen.{NodeSeen}
 use Rattle.network_core.proofs.Naming.{names_of, begun_names, refused_names}
@@ -80,7 +80,7 @@ returns-in-Ok-clause-attached g c =
     let last = c.session-end.new.net in
     let count : length own ≡ c.args.network.nodes = length-map c.args.own.items g.B.Disk.seen ∙ c.requires.disks in
     let out : attached_as (map g.B.Disk.seen back) ≡ names_of last.nodes =
-    map_both (λ (d : DiskView). d.attached) g.B.Disk.seen back ∙ sym (map_both (λ (d : DiskView). d.attached) (λ d. roomless (g.B.Disk.seen d)) back) ∙ ap attached_as c.into_disks.ensures ∙ map_both (λ (d : DiskView). d.attached) (λ (n : NodeSeen). n.disk) last.nodes in
+    map_both (λ (d : DiskSeen). d.attached) g.B.Disk.seen back ∙ sym (map_both (λ (d : DiskSeen). d.attached) (λ d. roomless (g.B.Disk.seen d)) back) ∙ ap attached_as c.into_disks.ensures ∙ map_both (λ (d : DiskSeen). d.attached) (λ (n : NodeSeen). n.disk) last.nodes in
     out ∙ script_keeps m c.in-Ok.net _ _ _ _ _ last _ c.session-end.ensures.went ∙ begun_names f c.args.network.nodes (party c.args.network.notary) own c.in-Ok.net.now c.in-Ok.net.nodes count c.in-Ok.ensures.boots
 
 pub returns-in-Err-clause-attached : goal.returns-in-Err-clause-attached
