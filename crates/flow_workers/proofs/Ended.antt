@@ -1,5 +1,5 @@
 -- What the work leaves.
-use Rattle.std.proofs.Common.{◌≡◌, ◌⊎◌, inl, inr, ⊎_elim, ℕ, zero, suc, ◌+◌, ◌≤◌, Bool, true, false, List, [], ◌∷◌, ◌++◌, length, map, take, drop, slice_get, Some, Vec, Global, refl, sym, ap, subst, ◌∙◌, arith}
+use Rattle.std.proofs.Common.{◌≡◌, ◌⊎◌, inl, inr, ⊎_elim, ℕ, zero, suc, ◌+◌, Bool, false, List, [], ◌∷◌, ◌++◌, length, map, take, drop, Vec, Global, refl, sym, ap, subst, ◌∙◌, arith}
 use Rattle.std.specs.List.{AllByRecursion}
 use lib.ListN.{take-append-drop}
 use Rattle.std.proofs.lemmas.List.{length-map}
@@ -17,7 +17,7 @@ use Rattle.network_core.specs.Parts.{IsNet}
 use Rattle.network_core.specs.Worlds.{NetSeen}
 use Rattle.work_law.specs.Calls.{Went, here}
 use Rattle.work_law.specs.Lasting.{Lasts}
-use Rattle.work_law.specs.Works.{Log, Source, Works, added}
+use Rattle.work_law.specs.Works.{Log, Works, added}
 use Rattle.work_law.proofs.Lasting.{histories_last}
 use Rattle.work_law.proofs.Together.{works_coherently}
 use Rattle.flow_workers.specs.Ends.{NodesLast, KeepsTails, WorkedOn}

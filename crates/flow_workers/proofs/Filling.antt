@@ -1,15 +1,13 @@
 -- How the work begins.
-use Rattle.std.proofs.Common.{inl, inr, ◌≡◌, ℕ, zero, suc, ◌+◌, ◌<◌, ◌≤◌, List, [], ◌∷◌, ◌++◌, length, map, take, slice_get, Option, Some, None, option_to_list, Vec, Global, refl, sym, ap, subst, ◌∙◌, arith, length-append}
+use Rattle.std.proofs.Common.{inl, inr, ◌≡◌, ℕ, zero, suc, ◌+◌, List, [], ◌∷◌, ◌++◌, length, map, take, slice_get, Option, Some, option_to_list, refl, sym, ap, subst, ◌∙◌, arith, length-append}
 use Rattle.std.specs.List.{AllByRecursion}
 use Rattle.std.proofs.lemmas.List.{length-map}
 use Rattle.net_base.proofs.Lists.{all_front, all_from_get, of_map, get_map}
-use Rattle.atomic_table.specs.Seated.{TableId}
 use Rattle.waiting_frames.specs.Waiting.{WaitingSeen}
 use Rattle.wire_queue.specs.declared.rule.Seen.{Seen}
 use Rattle.wire_queue.specs.declared.inbox.InboxPass.{InboxPass}
-use Rattle.wire_queue.specs.Wire.{Frame, IsIn, fresh, seen}
-use Rattle.wire_rows.specs.Rows.{AreRows, Spread}
-use Rattle.wire_rows.proofs.Spreading.{rows_are}
+use Rattle.wire_queue.specs.Wire.{Frame, IsIn, seen}
+use Rattle.wire_rows.specs.Rows.{Spread}
 
 -- ---- the locks
 

@@ -1,6 +1,6 @@
 -- What comes out of the locks is put together.
 use Rattle.wire_rows.specs.Rows.{Spread}
-use Rattle.std.proofs.Common.{◌-◌, ◌<◌, ◌≡◌, ◌⊎◌, inl, inr, ⊎_elim, ℕ, zero, suc, ◌+◌, ◌≤◌, List, [], ◌∷◌, ◌++◌, length, map, drop, slice_get, Option, Some, None, refl, sym, ap, subst, ◌∙◌, arith, length-append}
+use Rattle.std.proofs.Common.{◌-◌, ◌<◌, ◌≡◌, ◌⊎◌, inl, inr, ⊎_elim, ℕ, zero, suc, ◌+◌, ◌≤◌, List, [], ◌∷◌, ◌++◌, length, map, slice_get, Some, refl, sym, ap, subst, ◌∙◌, arith, length-append}
 use Rattle.std.proofs.lemmas.List.{length-map}
 use Rattle.atomic_table.specs.Seated.{TableId}
 use Rattle.wire_queue.specs.declared.inbox.InboxPass.{InboxPass}
@@ -8,15 +8,15 @@ use Rattle.net_base.proofs.Lists.{get_beside, get_push}
 use Rattle.net_base.proofs.Options.{some_eq}
 use Rattle.net_model.specs.Environment.{Meaning}
 use Rattle.wire_queue.specs.declared.rule.Seen.{Seen}
-use Rattle.wire_queue.specs.Wire.{Frame, IsIn, FromOrigins, join_of}
+use Rattle.wire_queue.specs.Wire.{Frame, IsIn, FromOrigins}
 use Rattle.wire_queue.proofs.Wires.{in_append, in_left, in_right, in_origins}
 use Rattle.node_core.specs.Seen.{NodeSeen}
-use Rattle.wire_rows.specs.Moves.{Moves, SentTo}
+use Rattle.wire_rows.specs.Moves.{Moves}
 use Rattle.wire_rows.specs.Ends.{Joined, Drained}
 use Rattle.flow_workers.specs.Desks.{Worked}
 use Rattle.work_law.specs.Calls.{Went}
 use Rattle.flow_workers.specs.Gathers.{Gathered, Gathers}
-use Rattle.work_law.specs.Works.{Log, Source, DidEach, Works, added}
+use Rattle.work_law.specs.Works.{Log, Source, Works, added}
 
 front : {X : Type 0} (xs : List X) (y : X) (n : ℕ) (x : X) → slice_get xs n ≡ Some x → slice_get (xs ++ y ∷ []) n ≡ Some x
 front [] y n x at = cc

@@ -1,5 +1,5 @@
 -- What a node did goes on by each of its calls.
-use Rattle.std.proofs.Common.{◌≡◌, ◌⊎◌, inl, inr, ⊎_elim, ℕ, ◌+◌, ◌≤◌, List, [], ◌∷◌, ◌++◌, length, map, slice_get, Option, Some, None, Result, Ok, Err, refl, sym, ap, subst, ◌∙◌, arith, append-nil}
+use Rattle.std.proofs.Common.{◌≡◌, ◌⊎◌, ⊎_elim, ℕ, ◌+◌, ◌≤◌, List, [], ◌∷◌, ◌++◌, map, slice_get, Some, Result, Ok, refl, sym, ap, subst, ◌∙◌, arith, append-nil}
 use Rattle.std.specs.List.{AllByRecursion}
 use Rattle.net_base.proofs.Lists.{get_beside, of_map, all_get}
 use Rattle.wire_queue.specs.declared.rule.Seen.{Seen}
@@ -7,7 +7,7 @@ use Rattle.wire_queue.specs.declared.inbox.InboxPass.{InboxPass}
 use Rattle.wire_queue.specs.Wire.{Frame, IsIn, fresh}
 use Rattle.wire_queue.proofs.Wires.{in_append}
 use Rattle.session_frames.specs.declared.sending.Outgoing.{Outgoing}
-use Rattle.wire_rows.specs.Moves.{Moves, SentTo}
+use Rattle.wire_rows.specs.Moves.{Moves}
 use Rattle.wire_rows.proofs.Moved.{sent_left, sent_right, moves_then}
 use Rattle.net_model.specs.Environment.{Meaning}
 use Rattle.ledger_acts.specs.declared.job.Job.{Job}
@@ -19,7 +19,6 @@ use Rattle.node_core.specs.declared.faults.TakeFault.{TakeFault}
 use Rattle.node_core.specs.Seen.{NodeSeen, IsBy}
 use Rattle.network_core.specs.Answers.{take_sent}
 use Rattle.work_law.specs.Calls.{Turns, Settles, Takes, Sends, Went, here, by_turn, by_settle, by_take, by_send, turn_commits, settle_commits, take_commits}
-use Rattle.work_law.specs.Works.{Log}
 use Rattle.work_law.proofs.Lasting.{histories_last}
 use Rattle.flow_workers.specs.Desks.{Worked, Kept}
 

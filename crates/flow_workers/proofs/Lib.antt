@@ -3,3 +3,4 @@ pub mod Histories
 pub mod Gathering
 pub mod Filling
 pub mod Ended
+pub mod Crossing

@@ -1,8 +1,7 @@
 //! How the nodes come under their locks, and out again.
 
-ghost use Rattle.std.specs.Prelude.{◌≡◌, ◌≤◌, ◌+◌, ℕ, List, [], length, map, vec_capacity};
+ghost use Rattle.std.specs.Prelude.{◌≡◌, ◌≤◌, ◌+◌, [], length, map, vec_capacity};
 ghost use Rattle.std.specs.List.{AllByRecursion};
-ghost use Rattle.wire_queue.specs.Wire.{Frame, fresh};
 ghost use Rattle.wire_rows.specs.Rows.{AreRows};
 ghost use Rattle.net_model.specs.Environment.{meaning};
 ghost use Rattle.node_core.specs.Seen.{IsBy};

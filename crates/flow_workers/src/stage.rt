@@ -1,6 +1,6 @@
 //! What a call needs besides the nodes.
 
-ghost use Rattle.std.specs.Prelude.{◌≡◌, ◌≤◌, ℕ, [], length, map, vec_capacity, IfOk, OnOk};
+ghost use Rattle.std.specs.Prelude.{◌≡◌, ◌≤◌, length, map, IfOk, OnOk};
 ghost use Rattle.std.specs.List.{AllByRecursion};
 ghost use Rattle.wire_rows.specs.Ends.{IsRoom};
 ghost use Rattle.wire_rows.specs.Rows.{Spread};

@@ -1,19 +1,18 @@
 //! Workers, and their turns.
 
-ghost use Rattle.std.specs.Prelude.{◌≡◌};
-
 use super::board::{Board, Call};
 use super::counts::Turn;
 use super::desk::Desk;
-use super::gate::Gate;
 use contract_verify::Judge;
 use flow_machine::FlowSet;
-use outside::Disk;
+use outside::{Disk, Gate};
 use rand_core::SeedableRng;
 use rand_core::utils::NextWord;
 use rand_pcg::Lcg64Xsh32;
 use std::alloc::Global;
 use std::sync::{Mutex, Wait};
+use std::thread;
+use std::thread::Threads;
 
 /// How many workers there are, how many turns each of them makes, and from which seed they draw what they do: the worker of number `j`,
 /// from 0, by the words of PCG32 (`Lcg64Xsh32`) from `seed + j`, the sum wrapping.
@@ -93,8 +92,16 @@ fn run_turns<J: Call, D: Disk, F: FlowSet, C: Judge, R: Wait, G: Gate>(
     }
 }
 
-/// The turns of all workers, one worker after another.
-pub fn run_workers<J: Call, D: Disk, F: FlowSet, C: Judge, R: Wait, G: Gate>(
+/// The turns of all workers, each in a thread of its own; where none can be made for a worker, its turns are made here. All have ended
+/// when this returns.
+pub fn run_workers<
+    J: Call + Send + Sync,
+    D: Disk + Send,
+    F: FlowSet + Send + Sync,
+    C: Judge + Sync,
+    R: Threads + Wait + Sync,
+    G: Gate + Sync,
+>(
     rt: &R,
     alloc: Global,
     board: &Board<J, C>,
@@ -102,8 +109,15 @@ pub fn run_workers<J: Call, D: Disk, F: FlowSet, C: Judge, R: Wait, G: Gate>(
     plan: Plan,
     gate: &G,
 ) {
-    for worker in 0..plan.workers {
-        let seed = plan.seed.wrapping_add(u64::from(worker));
-        run_turns(rt, alloc, board, desks, plan.turns, seed, gate);
-    }
+    thread::scope(thread::scope_env(), rt, |scope| {
+        for worker in 0..plan.workers {
+            let seed = plan.seed.wrapping_add(u64::from(worker));
+            if scope
+                .spawn(move || run_turns(rt, alloc, board, desks, plan.turns, seed, gate))
+                .is_err()
+            {
+                run_turns(rt, alloc, board, desks, plan.turns, seed, gate);
+            }
+        }
+    });
 }

@@ -12,7 +12,6 @@ ghost use Rattle.flow_workers.specs.Stages.{IsStage};
 ghost use Rattle.flow_workers.specs.Ends.{WorkedOn};
 
 use super::board::{Board, Call};
-use super::gate::Gate;
 use super::locks::{fill_desks, gather};
 use super::stage::{Stage, set_up};
 use super::turns::{Plan, run_workers};
@@ -20,7 +19,7 @@ use contract_verify::Judge;
 use flow_machine::FlowSet;
 use net_base::{ByteList, Moment};
 use node_core::Node;
-use outside::Disk;
+use outside::{Disk, Gate};
 use std::alloc::Global;
 use std::marker::Brand;
 use std::sync::Wait;
@@ -129,8 +128,9 @@ fn unworked<D: Disk, F: FlowSet>(nodes: Vec<Node<D, F>>, waiting: Vec<Waiting>) 
 /// its lock; jobs are run outside. The inboxes begin with the first 1,024 frames that wait at each node, and what is left in them stands
 /// before the others afterwards, in order, each frame once.
 ///
-/// The workers make their turns one worker after another. Where memory runs out before any turn was made, nothing has changed (`short`);
-/// later it may only keep calls of nodes from being made. The call may wait for locks.
+/// Each worker makes its turns in a thread of its own; where none can be made for it, the call makes them itself. All threads have ended
+/// when the call returns. Where memory runs out before any turn was made, nothing has changed (`short`); later it may only keep calls of
+/// nodes from being made. The call may wait for locks.
 pub fn work<
     D: Disk + Send,
     F: FlowSet + Send + Sync,

@@ -1,4 +1,4 @@
-use Rattle.std.proofs.Common.{◌≡◌, ◌+◌, ◌++◌, ◌∷◌, [], length, vec_len, ap, sym, ◌∙◌, arith, rules, length-append, refl}
+use Rattle.std.proofs.Common.{◌≡◌, ◌+◌, ◌++◌, ◌∷◌, [], length, vec_len, ap, sym, ◌∙◌, arith, rules, length-append}
 use Rattle.wire_rows.proofs.Moved.{shift}
 use Rattle.wire_rows.proofs.Spreading.{rows_are}
 use Rattle.flow_workers.proofs.Filling.{popped, rest_of, stands_at}

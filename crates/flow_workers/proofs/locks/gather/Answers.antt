@@ -1,4 +1,4 @@
-use Rattle.std.proofs.Common.{◌≡◌, ◌≤◌, ◌*◌, ◌+◌, ◌++◌, ◌∷◌, [], length, ap, sym, ◌∙◌, subst, arith, rules}
+use Rattle.std.proofs.Common.{◌≡◌, ◌+◌, ◌++◌, ◌∷◌, [], length, ap, ◌∙◌, arith, rules}
 use Rattle.wire_rows.proofs.Spreading.{all_pushed}
 use Rattle.flow_workers.proofs.Histories.{worked_few}
 use Rattle.flow_workers.proofs.Gathering.{gathers_begin, gathers_step}

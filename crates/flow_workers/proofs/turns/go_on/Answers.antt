@@ -1,6 +1,5 @@
-use Rattle.std.proofs.Common.{◌≡◌, sym, subst}
+use Rattle.std.proofs.Common.{sym, subst}
 use Rattle.ledger_acts.specs.Jobs.{IsJob}
-use Rattle.flow_workers.specs.Steps.{HandsOut}
 use Rattle.flow_workers.proofs.turns.go_on.Goals as goal
 
 pub run-done-requires-clause-limits : goal.run-done-requires-clause-limits

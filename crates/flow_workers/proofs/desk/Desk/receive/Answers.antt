@@ -1,4 +1,4 @@
-use Rattle.std.proofs.Common.{◌≡◌, ◌+◌, arith, sym, ◌∙◌}
+use Rattle.std.proofs.Common.{arith, sym, ◌∙◌}
 use Rattle.net_model.specs.Environment.{meaning}
 use Rattle.work_law.proofs.Calls.{takes_are}
 use Rattle.wire_rows.proofs.Moved.{moves_fewer}

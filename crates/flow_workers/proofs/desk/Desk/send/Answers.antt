@@ -1,4 +1,4 @@
-use Rattle.std.proofs.Common.{◌≡◌, Ok, sym, ◌∙◌}
+use Rattle.std.proofs.Common.{sym, ◌∙◌}
 use Rattle.net_model.specs.Environment.{meaning}
 use Rattle.work_law.proofs.Calls.{sends_are}
 use Rattle.flow_workers.proofs.Histories.{send_keeps}

@@ -1,4 +1,4 @@
-use Rattle.std.proofs.Common.{◌≡◌, ◌+◌, arith, sym}
+use Rattle.std.proofs.Common.{arith, sym}
 use Rattle.net_model.specs.Environment.{meaning}
 use Rattle.work_law.proofs.Calls.{settles_are}
 use Rattle.flow_workers.proofs.Histories.{settle_keeps, worked_few}

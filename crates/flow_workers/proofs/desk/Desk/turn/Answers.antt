@@ -1,4 +1,4 @@
-use Rattle.std.proofs.Common.{◌≡◌, ◌+◌, None, arith}
+use Rattle.std.proofs.Common.{None, arith}
 use Rattle.net_model.specs.Environment.{environment, meaning}
 use Rattle.work_law.proofs.Calls.{turns_are}
 use Rattle.flow_workers.proofs.Histories.{turn_keeps, worked_few}
