@@ -1,5 +1,5 @@
 -- What a node did goes on by each of its calls.
-use Rattle.std.proofs.Common.{◌≡◌, ◌⊎◌, ⊎_elim, ℕ, ◌+◌, ◌≤◌, List, [], ◌∷◌, ◌++◌, map, slice_get, Some, Result, Ok, refl, sym, ap, subst, ◌∙◌, arith, append-nil}
+use Rattle.std.proofs.Common.{◌≡◌, ⊎_elim, ℕ, ◌+◌, ◌≤◌, List, [], ◌∷◌, ◌++◌, map, slice_get, Some, Result, Ok, refl, sym, ap, subst, ◌∙◌, arith, append-nil}
 use Rattle.std.specs.List.{AllByRecursion}
 use Rattle.net_base.proofs.Lists.{get_beside, of_map, all_get}
 use Rattle.wire_queue.specs.declared.rule.Seen.{Seen}
