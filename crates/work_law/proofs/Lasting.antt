@@ -1,10 +1,14 @@
 -- A node's history, over any disk: what each call leaves, and how many records all committed.
-use Rattle.std.proofs.Common.{◌≡◌, inl, inr, ℕ, ◌+◌, ◌<◌, ◌≤◌, ◌||◌, List, [], ◌∷◌, ◌++◌, Option, Some, None, Result, Ok, Err, Bool, true, false, length, nat_le, refl, sym, ap, subst, ◌∙◌, arith, append-nil, length-append}
+use Rattle.std.proofs.Common.{◌≡◌, ◌⊎◌, inl, inr, ℕ, ◌+◌, ◌<◌, ◌≤◌, ◌||◌, List, [], ◌∷◌, ◌++◌, Option, Some, None, Result, Ok, Err, Bool, true, false, length, nat_le, refl, sym, ap, subst, ◌∙◌, arith, append-nil, length-append}
 use Rattle.std.proofs.lemmas.Bool.{true≢false}
 use Rattle.std.proofs.lemmas.Bool.Decides.{nat_tests}
 use Rattle.std.proofs.lemmas.Option.{MatchOption-at_none, MatchOption-at_some, none-some}
 use Rattle.net_base.proofs.Options.{some_eq}
+use Rattle.outside.specs.Disk.{DiskSeen, EachImage}
 use Rattle.outside.specs.Faults.{Rose}
+use Rattle.outside.proofs.Moments.{at_now, started, then, weaker}
+use Rattle.disk_journal.specs.Journal.{IsSound, IsYoung, journal_of}
+use Rattle.net_base.specs.declared.names.Identity.{Identity}
 use Rattle.net_base.specs.declared.names.Key.{Key}
 use Rattle.net_base.specs.declared.values.Party.{Party}
 use Rattle.net_base.specs.declared.causes.Event.{Event}
@@ -26,13 +30,72 @@ use Rattle.node_core.specs.declared.faults.Taken.TheVariants as taken
 use Rattle.node_core.specs.declared.faults.TakeFault.{TakeFault}
 use Rattle.node_core.specs.declared.faults.TakeFault.TheVariants as take_fault
 use Rattle.node_core.specs.Claims.{SettlesAs, SettleAnswers, TurnsBeside, TurnAnswersBeside}
+use Rattle.node_core.specs.Disks.{KeepsForm, KeepsImages, OldOrMore}
 use Rattle.node_core.specs.Journals.{is_full}
 use Rattle.node_core.specs.Seen.{NodeSeen, Commits, Faults}
 use Rattle.node_core.specs.Takes.{AcceptsAs, Responds, TakesAs, TakeAnswers}
 use Rattle.node_tables.specs.Journals.{Reads}
 use Rattle.work_law.specs.Calls.{Turns, Settles, Takes, Went, here, by_turn, by_settle, by_take, by_send, turn_commits, settle_commits, take_commits}
-use Rattle.work_law.specs.Lasting.{GoesOnBy, Lasts, HistoriesLast}
+use Rattle.work_law.specs.Lasting.{GoesOnBy, HoldsJournal, SpellsOn, Lasts, HistoriesLast}
 use Rattle.work_law.proofs.Worlds.{append_twice, rose_later}
+
+-- ---- a disk, at every moment
+
+keeps_then : (P : List ℕ → Type 0) (a b c : DiskSeen) → b.tells ≡ a.tells → KeepsImages P a b → KeepsImages P b c → KeepsImages P a c
+keeps_then P a b c told h k tells all =
+    let first = h tells all in
+    then a.state b.state c.state P first (k (told ∙ tells) (λ x image. at_now a.state b.state P first x image))
+
+form_then : (i j : Identity) (a b c : DiskSeen) → j ≡ i → b.tells ≡ a.tells → KeepsForm i a b → KeepsForm j b c → KeepsForm i a c
+form_then i j a b c same told h k = record {
+  sound = keeps_then (IsSound i) a b c told h.sound (subst (λ (z : Identity). KeepsImages (IsSound z) b c) same k.sound);
+  young = keeps_then (IsYoung i) a b c told h.young (subst (λ (z : Identity). KeepsImages (IsYoung z) b c) same k.young);
+}
+
+form_same : (i : Identity) (a : DiskSeen) → KeepsForm i a a
+form_same i a = record {
+  sound = λ tells all. started a.state (IsSound i) all;
+  young = λ tells all. started a.state (IsYoung i) all;
+}
+
+-- an image of the first part spells on to the last journal too
+spells_later : (bodies mid : List (List ℕ)) (j last : Option (List (List ℕ))) (c : List ℕ) → j ≡ Some mid → ((all : List (List ℕ)) → last ≡ Some all → (rest : List (List ℕ)) × (all ≡ mid ++ rest)) → SpellsOn bodies j c → SpellsOn bodies last c
+spells_later bodies mid j last c at goes s = record {
+  more = s.more;
+  on = s.on;
+  to_last = λ all is.
+      let first = s.to_last mid at in
+      let next = goes all is in
+      (first.0 ++ next.0, next.1 ∙ ap (λ (l : List (List ℕ)). l ++ next.0) first.1 ∙ append_twice (journal_of c) first.0 next.0);
+}
+
+-- and one of the second part spells on from the first journal
+spells_from : (count : ℕ) (bodies mid : List (List ℕ)) (last : Option (List (List ℕ))) (c : List ℕ) → GoesOnBy count bodies mid → SpellsOn mid last c → SpellsOn bodies last c
+spells_from count bodies mid last c g s = record {
+  more = g.more ++ s.more;
+  on = s.on ∙ ap (λ (l : List (List ℕ)). l ++ s.more) g.front ∙ append_twice bodies g.more s.more;
+  to_last = s.to_last;
+}
+
+spells_own : (bodies : List (List ℕ)) (last : Option (List (List ℕ))) (c : List ℕ) → last ≡ Some bodies → journal_of c ≡ bodies → SpellsOn bodies last c
+spells_own bodies last c at is = record {
+  more = [];
+  on = is ∙ sym (append-nil bodies);
+  to_last = λ all last_is. ([], some_eq (sym last_is ∙ at) ∙ sym is ∙ sym (append-nil (journal_of c)));
+}
+
+-- while a record is appended
+spells_either : (old bodies : List (List ℕ)) (body : List ℕ) (last : Option (List (List ℕ))) (c : List ℕ) → old ≡ bodies → ((all : List (List ℕ)) → last ≡ Some all → all ≡ bodies ++ body ∷ []) → (journal_of c ≡ bodies) ⊎ (journal_of c ≡ bodies ++ body ∷ []) → SpellsOn old last c
+spells_either old bodies body last c same is (inl at) = record {
+  more = [];
+  on = at ∙ sym same ∙ sym (append-nil old);
+  to_last = λ all l. (body ∷ [], is all l ∙ ap (λ (z : List (List ℕ)). z ++ body ∷ []) (sym at));
+}
+spells_either old bodies body last c same is (inr at) = record {
+  more = body ∷ [];
+  on = at ∙ ap (λ (z : List (List ℕ)). z ++ body ∷ []) (sym same);
+  to_last = λ all l. ([], is all l ∙ sym at ∙ sym (append-nil (journal_of c)));
+}
 
 -- ---- one call after another
 
@@ -69,7 +132,20 @@ lasts_then ca cb n k l h g = record {
       (λ gone. h.stays_up bodies calm was gone)
       (λ mid at. g.stays_up mid (h.calm calm) at none);
   file = g.file ∙ h.file;
+  attached = g.attached ∙ h.attached;
   tells = g.tells ∙ h.tells;
+  form = form_then n.identity k.identity n.disk k.disk l.disk h.identity h.tells h.form g.form;
+  holds = λ held. g.holds (h.holds held);
+  images = λ held bodies was tells. up_or_down (EachImage n.disk.state l.disk.state (SpellsOn bodies l.journal)) k.journal
+      (λ gone. subst (λ (z : NodeSeen). EachImage n.disk.state z.disk.state (SpellsOn bodies z.journal)) (sym (g.down gone).0) (h.images held bodies was tells))
+      (λ mid at.
+      then n.disk.state k.disk.state l.disk.state (SpellsOn bodies l.journal)
+      (weaker n.disk.state k.disk.state (SpellsOn bodies k.journal) (SpellsOn bodies l.journal)
+      (λ c s. spells_later bodies mid k.journal l.journal c at (λ all is. let on = g.journal mid all at is in (on.more, on.front)) s)
+      (h.images held bodies was tells))
+      (weaker k.disk.state l.disk.state (SpellsOn mid l.journal) (SpellsOn bodies l.journal)
+      (λ c s. spells_from ca bodies mid l.journal c (h.journal bodies mid was at) s)
+      (g.images (h.holds held) mid at (h.tells ∙ tells))));
 }
 
 lasts_same : (n : NodeSeen) → Lasts 0 n n
@@ -82,7 +158,11 @@ lasts_same n = record {
   calm = λ calm. calm;
   stays_up = λ bodies calm was none. not_both n.journal bodies was none;
   file = refl;
+  attached = refl;
   tells = refl;
+  form = form_same n.identity n.disk;
+  holds = λ held. held;
+  images = λ held bodies was tells. started n.disk.state (SpellsOn bodies n.journal) (λ c image. spells_own bodies n.journal c was (held bodies was tells c image));
 }
 
 -- ---- how many
@@ -114,7 +194,11 @@ call_noted n k acked bodies is same = subst (λ (z : NodeSeen). Call 0 n z) (sym
     calm = λ calm. calm;
     stays_up = (lasts_same n).stays_up;
     file = refl;
+    attached = refl;
     tells = refl;
+    form = form_same n.identity n.disk;
+    holds = λ held. held;
+    images = (lasts_same n).images;
   };
   few = λ count few. record { most = omega (arith, few.most); within = λ l at. omega (arith, few.within l at) };
 })
@@ -146,7 +230,14 @@ module _ {F : Type 0} (w : Environment F) (now : ℕ) (n k : NodeSeen) (bodies :
       calm = c.appended.calm;
       stays_up = λ old calm was none. not_both k.journal (bodies ++ c.body ∷ []) c.journal none;
       file = c.appended.moves.file;
+      attached = c.appended.moves.attached;
       tells = c.appended.moves.tells;
+      form = c.appended.form;
+      holds = λ held all at tells x image. c.appended.holds.images tells x image ∙ some_eq (sym c.journal ∙ at);
+      images = λ held old was tells.
+          weaker n.disk.state k.disk.state (OldOrMore bodies c.body n.disk.state) (SpellsOn old k.journal)
+          (λ x may. spells_either old bodies c.body k.journal x (same_bodies old was) (λ all at. some_eq (sym at ∙ c.journal)) may)
+          (c.appended.moves.images tells);
     };
     few = λ count few.
         let room = not_full w.frame_at (stamp_in item) bodies c.appended.room in
@@ -168,7 +259,14 @@ module _ {F : Type 0} (w : Environment F) (now : ℕ) (n k : NodeSeen) (bodies :
       calm = λ calm. absurd (c.failing.calm calm);
       stays_up = λ old calm was none. c.failing.calm calm;
       file = c.failing.moves.file;
+      attached = c.failing.moves.attached;
       tells = c.failing.moves.tells;
+      form = c.failing.form;
+      holds = λ held all at. absurd (not_both k.journal all at c.journal);
+      images = λ held old was tells.
+          weaker n.disk.state k.disk.state (OldOrMore bodies c.body n.disk.state) (SpellsOn old k.journal)
+          (λ x may. spells_either old bodies c.body k.journal x (same_bodies old was) (λ all at. absurd (not_both k.journal all at c.journal)) may)
+          (c.failing.moves.images tells);
     };
     few = λ count few. record { most = omega (arith, few.most); within = λ l at. absurd (not_both k.journal l at c.journal) };
   }
