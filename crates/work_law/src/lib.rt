@@ -17,7 +17,9 @@ pub fn works_coherently<F>()
 {}
 
 /// The law of a node's history, over any disk: the node's journal goes on by the records that it committed, at most 65,536; a node that
-/// was down stays as it was; and a node that was up is down only where its disk's count of faults rose.
+/// was down stays as it was; a node that was up is down only where its disk's count of faults rose; and the disk is attached as it was.
+/// Of a disk that tells its content, at every moment since the history began: sound images stay sound, and where each image spelt the
+/// journal that the node had, each spells one that goes on from it, and from which the node's journal at the end goes on.
 pub fn histories_last<F>()
     ensures { HistoriesLast F }
 {}
