@@ -36,7 +36,7 @@ use Rattle.node_core.specs.Seen.{NodeSeen, Commits, Faults}
 use Rattle.node_core.specs.Takes.{AcceptsAs, Responds, TakesAs, TakeAnswers}
 use Rattle.node_tables.specs.Journals.{Reads}
 use Rattle.work_law.specs.Calls.{Turns, Settles, Takes, Went, here, by_turn, by_settle, by_take, by_send, turn_commits, settle_commits, take_commits}
-use Rattle.work_law.specs.Lasting.{GoesOnBy, HoldsJournal, SpellsOn, Lasts, HistoriesLast}
+use Rattle.work_law.specs.Lasting.{GoesOnBy, SpellsOn, Lasts, HistoriesLast}
 use Rattle.work_law.proofs.Worlds.{append_twice, rose_later}
 
 -- ---- a disk, at every moment
