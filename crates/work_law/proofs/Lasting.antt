@@ -4,7 +4,7 @@ use Rattle.std.proofs.lemmas.Bool.{true≢false}
 use Rattle.std.proofs.lemmas.Bool.Decides.{nat_tests}
 use Rattle.std.proofs.lemmas.Option.{MatchOption-at_none, MatchOption-at_some, none-some}
 use Rattle.net_base.proofs.Options.{some_eq}
-use Rattle.outside.specs.Disk.{DiskSeen, EachImage}
+use Rattle.outside.specs.Disk.{DiskSeen, EachImage, IfTold}
 use Rattle.outside.specs.Faults.{Rose}
 use Rattle.outside.proofs.Moments.{at_now, started, then, weaker}
 use Rattle.disk_journal.specs.Journal.{IsSound, IsYoung, journal_of}
@@ -30,14 +30,14 @@ use Rattle.node_core.specs.declared.faults.Taken.TheVariants as taken
 use Rattle.node_core.specs.declared.faults.TakeFault.{TakeFault}
 use Rattle.node_core.specs.declared.faults.TakeFault.TheVariants as take_fault
 use Rattle.node_core.specs.Claims.{SettlesAs, SettleAnswers, TurnsBeside, TurnAnswersBeside}
-use Rattle.node_core.specs.Disks.{KeepsForm, KeepsImages, OldOrMore}
+use Rattle.node_core.specs.Disks.{KeepsForm, KeepsImages, Moves, OldOrMore}
 use Rattle.node_core.specs.Journals.{is_full}
 use Rattle.node_core.specs.Seen.{NodeSeen, Commits, Faults}
 use Rattle.node_core.specs.Takes.{AcceptsAs, Responds, TakesAs, TakeAnswers}
 use Rattle.node_tables.specs.Journals.{Reads}
 use Rattle.work_law.specs.Calls.{Turns, Settles, Takes, Went, here, by_turn, by_settle, by_take, by_send, turn_commits, settle_commits, take_commits}
-use Rattle.work_law.specs.Lasting.{GoesOnBy, SpellsOn, Lasts, HistoriesLast}
-use Rattle.work_law.proofs.Worlds.{append_twice, rose_later}
+use Rattle.work_law.specs.Lasting.{GoesOnBy, HoldsJournal, SpellsBetween, ImagesGo, Lasts, HistoriesLast}
+use Rattle.work_law.proofs.Worlds.{append_twice, grows_one, grows_same, grows_then, grows_wider, rose_later}
 
 -- ---- a disk, at every moment
 
@@ -58,43 +58,56 @@ form_same i a = record {
   young = λ tells all. started a.state (IsYoung i) all;
 }
 
--- an image of the first part spells on to the last journal too
-spells_later : (bodies mid : List (List ℕ)) (j last : Option (List (List ℕ))) (c : List ℕ) → j ≡ Some mid → ((all : List (List ℕ)) → last ≡ Some all → (rest : List (List ℕ)) × (all ≡ mid ++ rest)) → SpellsOn bodies j c → SpellsOn bodies last c
-spells_later bodies mid j last c at goes s = record {
+-- an image that spells a journal on the way spells one on a longer way
+between_to : (first mid last rest : List (List ℕ)) (c : List ℕ) → last ≡ mid ++ rest → SpellsBetween first mid c → SpellsBetween first last c
+between_to first mid last rest c is s = record {
   more = s.more;
   on = s.on;
-  to_last = λ all is.
-      let first = s.to_last mid at in
-      let next = goes all is in
-      (first.0 ++ next.0, next.1 ∙ ap (λ (l : List (List ℕ)). l ++ next.0) first.1 ∙ append_twice (journal_of c) first.0 next.0);
+  rest = s.rest ++ rest;
+  to = is ∙ ap (λ (l : List (List ℕ)). l ++ rest) s.to ∙ append_twice (journal_of c) s.rest rest;
 }
 
--- and one of the second part spells on from the first journal
-spells_from : (count : ℕ) (bodies mid : List (List ℕ)) (last : Option (List (List ℕ))) (c : List ℕ) → GoesOnBy count bodies mid → SpellsOn mid last c → SpellsOn bodies last c
-spells_from count bodies mid last c g s = record {
-  more = g.more ++ s.more;
-  on = s.on ∙ ap (λ (l : List (List ℕ)). l ++ s.more) g.front ∙ append_twice bodies g.more s.more;
-  to_last = s.to_last;
+between_from : (first mid last more : List (List ℕ)) (c : List ℕ) → mid ≡ first ++ more → SpellsBetween mid last c → SpellsBetween first last c
+between_from first mid last more c is s = record {
+  more = more ++ s.more;
+  on = s.on ∙ ap (λ (l : List (List ℕ)). l ++ s.more) is ∙ append_twice first more s.more;
+  rest = s.rest;
+  to = s.to;
 }
 
-spells_own : (bodies : List (List ℕ)) (last : Option (List (List ℕ))) (c : List ℕ) → last ≡ Some bodies → journal_of c ≡ bodies → SpellsOn bodies last c
-spells_own bodies last c at is = record {
+between_same : (bodies : List (List ℕ)) (c : List ℕ) → journal_of c ≡ bodies → SpellsBetween bodies bodies c
+between_same bodies c is = record {
   more = [];
   on = is ∙ sym (append-nil bodies);
-  to_last = λ all last_is. ([], some_eq (sym last_is ∙ at) ∙ sym is ∙ sym (append-nil (journal_of c)));
+  rest = [];
+  to = sym is ∙ sym (append-nil (journal_of c));
 }
 
 -- while a record is appended
-spells_either : (old bodies : List (List ℕ)) (body : List ℕ) (last : Option (List (List ℕ))) (c : List ℕ) → old ≡ bodies → ((all : List (List ℕ)) → last ≡ Some all → all ≡ bodies ++ body ∷ []) → (journal_of c ≡ bodies) ⊎ (journal_of c ≡ bodies ++ body ∷ []) → SpellsOn old last c
-spells_either old bodies body last c same is (inl at) = record {
+between_one : (bodies : List (List ℕ)) (body : List ℕ) (c : List ℕ) → (journal_of c ≡ bodies) ⊎ (journal_of c ≡ bodies ++ body ∷ []) → SpellsBetween bodies (bodies ++ body ∷ []) c
+between_one bodies body c (inl at) = record {
   more = [];
-  on = at ∙ sym same ∙ sym (append-nil old);
-  to_last = λ all l. (body ∷ [], is all l ∙ ap (λ (z : List (List ℕ)). z ++ body ∷ []) (sym at));
+  on = at ∙ sym (append-nil bodies);
+  rest = body ∷ [];
+  to = ap (λ (z : List (List ℕ)). z ++ body ∷ []) (sym at);
 }
-spells_either old bodies body last c same is (inr at) = record {
+between_one bodies body c (inr at) = record {
   more = body ∷ [];
-  on = at ∙ ap (λ (z : List (List ℕ)). z ++ body ∷ []) (sym same);
-  to_last = λ all l. ([], is all l ∙ sym at ∙ sym (append-nil (journal_of c)));
+  on = at;
+  rest = [];
+  to = sym at ∙ sym (append-nil (journal_of c));
+}
+
+-- a record was appended, or may have been
+images_one : (count : ℕ) (bodies : List (List ℕ)) (body : List ℕ) (n k : NodeSeen) → count ≤ 1 → ((all : List (List ℕ)) → k.journal ≡ Some all → bodies ++ body ∷ [] ≡ all) → Moves n.disk k.disk (OldOrMore bodies body) → ImagesGo count bodies n k
+images_one count bodies body n k few is moves = record {
+  last = bodies ++ body ∷ [];
+  is_last = is;
+  grows = grows_one count 1 bodies (bodies ++ body ∷ []) body few (omega arith) refl;
+  images = λ tells.
+      weaker n.disk.state k.disk.state (OldOrMore bodies body n.disk.state) (SpellsBetween bodies (bodies ++ body ∷ []))
+      (λ c may. between_one bodies body c may)
+      (moves.images tells);
 }
 
 -- ---- one call after another
@@ -111,6 +124,39 @@ goes_on_then ca cb a b c h k = record {
   more = h.more ++ k.more;
   front = k.front ∙ ap (λ (l : List (List ℕ)). l ++ k.more) h.front ∙ append_twice a h.more k.more;
   counted = omega (arith, h.counted, k.counted, length-append h.more k.more);
+}
+
+-- a disk that rested
+images_same : (n k : NodeSeen) (bodies : List (List ℕ)) → k.journal ≡ n.journal → k.disk ≡ n.disk → HoldsJournal n → n.journal ≡ Some bodies → ImagesGo 0 bodies n k
+images_same n k bodies journal disk held was = record {
+  last = bodies;
+  is_last = λ all is. some_eq (sym was ∙ sym journal ∙ is);
+  grows = grows_wider 0 0 1 bodies bodies (omega arith) (grows_same 0 bodies);
+  images = λ tells.
+      subst (λ (v : DiskSeen). EachImage n.disk.state v.state (SpellsBetween bodies bodies)) (sym disk)
+      (started n.disk.state (SpellsBetween bodies bodies) (λ c image. between_same bodies c (held bodies was tells c image)));
+}
+
+-- a node that is down rests
+images_rest : (ca cb : ℕ) (n k l : NodeSeen) (bodies : List (List ℕ)) → k.journal ≡ None → (l ≡ k) × (cb ≡ 0) → ImagesGo ca bodies n k → ImagesGo (ca + cb) bodies n l
+images_rest ca cb n k l bodies gone rests h = record {
+  last = h.last;
+  is_last = λ all is. absurd (not_both l.journal all is (ap (λ (z : NodeSeen). z.journal) rests.0 ∙ gone));
+  grows = record { more = h.grows.more; front = h.grows.front; least = omega (arith, h.grows.least, rests.1); bound = omega (arith, h.grows.bound, rests.1) };
+  images = subst (λ (z : NodeSeen). IfTold n.disk z.disk (λ d e. EachImage d e (SpellsBetween bodies h.last))) (sym rests.0) h.images;
+}
+
+images_then : (ca cb : ℕ) (n k l : NodeSeen) (bodies mid : List (List ℕ)) → GoesOnBy ca bodies mid → k.disk.tells ≡ n.disk.tells → ImagesGo ca bodies n k → k.journal ≡ Some mid → ImagesGo cb mid k l → ImagesGo (ca + cb) bodies n l
+images_then ca cb n k l bodies mid on told h at g = record {
+  last = g.last;
+  is_last = g.is_last;
+  grows = grows_then ca cb 0 1 bodies mid g.last (record { more = on.more; front = on.front; least = omega (arith, on.counted); bound = omega (arith, on.counted) }) g.grows;
+  images = λ tells.
+      let is : mid ≡ h.last = sym (h.is_last mid at) in
+      let to : g.last ≡ h.last ++ g.grows.more = g.grows.front ∙ ap (λ (z : List (List ℕ)). z ++ g.grows.more) is in
+      then n.disk.state k.disk.state l.disk.state (SpellsBetween bodies g.last)
+      (weaker n.disk.state k.disk.state (SpellsBetween bodies h.last) (SpellsBetween bodies g.last) (λ c s. between_to bodies h.last g.last g.grows.more c to s) (h.images tells))
+      (weaker k.disk.state l.disk.state (SpellsBetween mid g.last) (SpellsBetween bodies g.last) (λ c s. between_from bodies mid g.last on.more c on.front s) (g.images (told ∙ tells)));
 }
 
 lasts_then : (ca cb : ℕ) (n k l : NodeSeen) → Lasts ca n k → Lasts cb k l → Lasts (ca + cb) n l
@@ -136,16 +182,9 @@ lasts_then ca cb n k l h g = record {
   tells = g.tells ∙ h.tells;
   form = form_then n.identity k.identity n.disk k.disk l.disk h.identity h.tells h.form g.form;
   holds = λ held. g.holds (h.holds held);
-  images = λ held bodies was tells. up_or_down (EachImage n.disk.state l.disk.state (SpellsOn bodies l.journal)) k.journal
-      (λ gone. subst (λ (z : NodeSeen). EachImage n.disk.state z.disk.state (SpellsOn bodies z.journal)) (sym (g.down gone).0) (h.images held bodies was tells))
-      (λ mid at.
-      then n.disk.state k.disk.state l.disk.state (SpellsOn bodies l.journal)
-      (weaker n.disk.state k.disk.state (SpellsOn bodies k.journal) (SpellsOn bodies l.journal)
-      (λ c s. spells_later bodies mid k.journal l.journal c at (λ all is. let on = g.journal mid all at is in (on.more, on.front)) s)
-      (h.images held bodies was tells))
-      (weaker k.disk.state l.disk.state (SpellsOn mid l.journal) (SpellsOn bodies l.journal)
-      (λ c s. spells_from ca bodies mid l.journal c (h.journal bodies mid was at) s)
-      (g.images (h.holds held) mid at (h.tells ∙ tells))));
+  images = λ held bodies was. up_or_down (ImagesGo (ca + cb) bodies n l) k.journal
+      (λ gone. images_rest ca cb n k l bodies gone (g.down gone) (h.images held bodies was))
+      (λ mid at. images_then ca cb n k l bodies mid (h.journal bodies mid was at) h.tells (h.images held bodies was) at (g.images (h.holds held) mid at));
 }
 
 lasts_same : (n : NodeSeen) → Lasts 0 n n
@@ -162,7 +201,7 @@ lasts_same n = record {
   tells = refl;
   form = form_same n.identity n.disk;
   holds = λ held. held;
-  images = λ held bodies was tells. started n.disk.state (SpellsOn bodies n.journal) (λ c image. spells_own bodies n.journal c was (held bodies was tells c image));
+  images = λ held bodies was. images_same n n bodies refl refl held was;
 }
 
 -- ---- how many
@@ -198,7 +237,7 @@ call_noted n k acked bodies is same = subst (λ (z : NodeSeen). Call 0 n z) (sym
     tells = refl;
     form = form_same n.identity n.disk;
     holds = λ held. held;
-    images = (lasts_same n).images;
+    images = λ held old was. images_same n (record n { acked = acked }) old refl refl held was;
   };
   few = λ count few. record { most = omega (arith, few.most); within = λ l at. omega (arith, few.within l at) };
 })
@@ -234,10 +273,9 @@ module _ {F : Type 0} (w : Environment F) (now : ℕ) (n k : NodeSeen) (bodies :
       tells = c.appended.moves.tells;
       form = c.appended.form;
       holds = λ held all at tells x image. c.appended.holds.images tells x image ∙ some_eq (sym c.journal ∙ at);
-      images = λ held old was tells.
-          weaker n.disk.state k.disk.state (OldOrMore bodies c.body n.disk.state) (SpellsOn old k.journal)
-          (λ x may. spells_either old bodies c.body k.journal x (same_bodies old was) (λ all at. some_eq (sym at ∙ c.journal)) may)
-          (c.appended.moves.images tells);
+      images = λ held old was.
+          subst (λ (l : List (List ℕ)). ImagesGo 1 l n k) (sym (same_bodies old was))
+          (images_one 1 bodies c.body n k (omega arith) (λ all at. some_eq (sym c.journal ∙ at)) c.appended.moves);
     };
     few = λ count few.
         let room = not_full w.frame_at (stamp_in item) bodies c.appended.room in
@@ -263,10 +301,9 @@ module _ {F : Type 0} (w : Environment F) (now : ℕ) (n k : NodeSeen) (bodies :
       tells = c.failing.moves.tells;
       form = c.failing.form;
       holds = λ held all at. absurd (not_both k.journal all at c.journal);
-      images = λ held old was tells.
-          weaker n.disk.state k.disk.state (OldOrMore bodies c.body n.disk.state) (SpellsOn old k.journal)
-          (λ x may. spells_either old bodies c.body k.journal x (same_bodies old was) (λ all at. absurd (not_both k.journal all at c.journal)) may)
-          (c.failing.moves.images tells);
+      images = λ held old was.
+          subst (λ (l : List (List ℕ)). ImagesGo 0 l n k) (sym (same_bodies old was))
+          (images_one 0 bodies c.body n k (omega arith) (λ all at. absurd (not_both k.journal all at c.journal)) c.failing.moves);
     };
     few = λ count few. record { most = omega (arith, few.most); within = λ l at. absurd (not_both k.journal l at c.journal) };
   }

@@ -138,7 +138,7 @@ module _ {F : Type 0} (e : Environment F) (count p : ℕ) (n k : NodeSeen) (x : 
       let b = n.disk.state.now.synced in
       let was = synced_image n.disk.state.now in
       let spelt : journal_of b ≡ bodies = holds_shown bodies up shows.tells b was in
-      let s = at_now n.disk.state k.disk.state _ (lasts.images holds_shown bodies up shows.tells) c image in
+      let s = at_now n.disk.state k.disk.state _ ((lasts.images holds_shown bodies up).images shows.tells) c image in
       let is : journal_of c ≡ journal_of b ++ s.more = s.on ∙ ap (λ (l : List (List ℕ)). l ++ s.more) (sym spelt) in
       (b, was, causes_of e.frame_at s.more, ap (causes_of e.frame_at) is ∙ causes_append e.frame_at (journal_of b) s.more)
 

@@ -19,7 +19,8 @@ pub fn works_coherently<F>()
 /// The law of a node's history, over any disk: the node's journal goes on by the records that it committed, at most 65,536; a node that
 /// was down stays as it was; a node that was up is down only where its disk's count of faults rose; and the disk is attached as it was.
 /// Of a disk that tells its content, at every moment since the history began: sound images stay sound, and where each image spelt the
-/// journal that the node had, each spells one that goes on from it, and from which the node's journal at the end goes on.
+/// journal that the node had, each spells one on the way from there to the journal that the node has in the end, or where it went down to
+/// one of the records that it committed and one more at most.
 pub fn histories_last<F>()
     ensures { HistoriesLast F }
 {}
