@@ -1,10 +1,14 @@
 -- A node's history, over any disk: what each call leaves, and how many records all committed.
-use Rattle.std.proofs.Common.{◌≡◌, inl, inr, ℕ, ◌+◌, ◌<◌, ◌≤◌, ◌||◌, List, [], ◌∷◌, ◌++◌, Option, Some, None, Result, Ok, Err, Bool, true, false, length, nat_le, refl, sym, ap, subst, ◌∙◌, arith, append-nil, length-append}
+use Rattle.std.proofs.Common.{◌≡◌, ◌⊎◌, inl, inr, ℕ, ◌+◌, ◌<◌, ◌≤◌, ◌||◌, List, [], ◌∷◌, ◌++◌, Option, Some, None, Result, Ok, Err, Bool, true, false, length, nat_le, refl, sym, ap, subst, ◌∙◌, arith, append-nil, length-append}
 use Rattle.std.proofs.lemmas.Bool.{true≢false}
 use Rattle.std.proofs.lemmas.Bool.Decides.{nat_tests}
 use Rattle.std.proofs.lemmas.Option.{MatchOption-at_none, MatchOption-at_some, none-some}
 use Rattle.net_base.proofs.Options.{some_eq}
+use Rattle.outside.specs.Disk.{DiskSeen, EachImage, IfTold}
 use Rattle.outside.specs.Faults.{Rose}
+use Rattle.outside.proofs.Moments.{at_now, started, then, weaker}
+use Rattle.disk_journal.specs.Journal.{IsSound, IsYoung, journal_of}
+use Rattle.net_base.specs.declared.names.Identity.{Identity}
 use Rattle.net_base.specs.declared.names.Key.{Key}
 use Rattle.net_base.specs.declared.values.Party.{Party}
 use Rattle.net_base.specs.declared.causes.Event.{Event}
@@ -26,13 +30,85 @@ use Rattle.node_core.specs.declared.faults.Taken.TheVariants as taken
 use Rattle.node_core.specs.declared.faults.TakeFault.{TakeFault}
 use Rattle.node_core.specs.declared.faults.TakeFault.TheVariants as take_fault
 use Rattle.node_core.specs.Claims.{SettlesAs, SettleAnswers, TurnsBeside, TurnAnswersBeside}
+use Rattle.node_core.specs.Disks.{KeepsForm, KeepsImages, Moves, OldOrMore}
 use Rattle.node_core.specs.Journals.{is_full}
 use Rattle.node_core.specs.Seen.{NodeSeen, Commits, Faults}
 use Rattle.node_core.specs.Takes.{AcceptsAs, Responds, TakesAs, TakeAnswers}
 use Rattle.node_tables.specs.Journals.{Reads}
 use Rattle.work_law.specs.Calls.{Turns, Settles, Takes, Went, here, by_turn, by_settle, by_take, by_send, turn_commits, settle_commits, take_commits}
-use Rattle.work_law.specs.Lasting.{GoesOnBy, Lasts, HistoriesLast}
-use Rattle.work_law.proofs.Worlds.{append_twice, rose_later}
+use Rattle.work_law.specs.Lasting.{GoesOnBy, HoldsJournal, SpellsBetween, ImagesGo, Lasts, HistoriesLast}
+use Rattle.work_law.proofs.Worlds.{append_twice, grows_one, grows_same, grows_then, grows_wider, rose_later}
+
+-- ---- a disk, at every moment
+
+keeps_then : (P : List ℕ → Type 0) (a b c : DiskSeen) → b.tells ≡ a.tells → KeepsImages P a b → KeepsImages P b c → KeepsImages P a c
+keeps_then P a b c told h k tells all =
+    let first = h tells all in
+    then a.state b.state c.state P first (k (told ∙ tells) (λ x image. at_now a.state b.state P first x image))
+
+form_then : (i j : Identity) (a b c : DiskSeen) → j ≡ i → b.tells ≡ a.tells → KeepsForm i a b → KeepsForm j b c → KeepsForm i a c
+form_then i j a b c same told h k = record {
+  sound = keeps_then (IsSound i) a b c told h.sound (subst (λ (z : Identity). KeepsImages (IsSound z) b c) same k.sound);
+  young = keeps_then (IsYoung i) a b c told h.young (subst (λ (z : Identity). KeepsImages (IsYoung z) b c) same k.young);
+}
+
+form_same : (i : Identity) (a : DiskSeen) → KeepsForm i a a
+form_same i a = record {
+  sound = λ tells all. started a.state (IsSound i) all;
+  young = λ tells all. started a.state (IsYoung i) all;
+}
+
+-- an image that spells a journal on the way spells one on a longer way
+between_to : (first mid last rest : List (List ℕ)) (c : List ℕ) → last ≡ mid ++ rest → SpellsBetween first mid c → SpellsBetween first last c
+between_to first mid last rest c is s = record {
+  more = s.more;
+  on = s.on;
+  rest = s.rest ++ rest;
+  to = is ∙ ap (λ (l : List (List ℕ)). l ++ rest) s.to ∙ append_twice (journal_of c) s.rest rest;
+}
+
+between_from : (first mid last more : List (List ℕ)) (c : List ℕ) → mid ≡ first ++ more → SpellsBetween mid last c → SpellsBetween first last c
+between_from first mid last more c is s = record {
+  more = more ++ s.more;
+  on = s.on ∙ ap (λ (l : List (List ℕ)). l ++ s.more) is ∙ append_twice first more s.more;
+  rest = s.rest;
+  to = s.to;
+}
+
+between_same : (bodies : List (List ℕ)) (c : List ℕ) → journal_of c ≡ bodies → SpellsBetween bodies bodies c
+between_same bodies c is = record {
+  more = [];
+  on = is ∙ sym (append-nil bodies);
+  rest = [];
+  to = sym is ∙ sym (append-nil (journal_of c));
+}
+
+-- while a record is appended
+between_one : (bodies : List (List ℕ)) (body : List ℕ) (c : List ℕ) → (journal_of c ≡ bodies) ⊎ (journal_of c ≡ bodies ++ body ∷ []) → SpellsBetween bodies (bodies ++ body ∷ []) c
+between_one bodies body c (inl at) = record {
+  more = [];
+  on = at ∙ sym (append-nil bodies);
+  rest = body ∷ [];
+  to = ap (λ (z : List (List ℕ)). z ++ body ∷ []) (sym at);
+}
+between_one bodies body c (inr at) = record {
+  more = body ∷ [];
+  on = at;
+  rest = [];
+  to = sym at ∙ sym (append-nil (journal_of c));
+}
+
+-- a record was appended, or may have been
+images_one : (count : ℕ) (bodies : List (List ℕ)) (body : List ℕ) (n k : NodeSeen) → count ≤ 1 → ((all : List (List ℕ)) → k.journal ≡ Some all → bodies ++ body ∷ [] ≡ all) → Moves n.disk k.disk (OldOrMore bodies body) → ImagesGo count bodies n k
+images_one count bodies body n k few is moves = record {
+  last = bodies ++ body ∷ [];
+  is_last = is;
+  grows = grows_one count 1 bodies (bodies ++ body ∷ []) body few (omega arith) refl;
+  images = λ tells.
+      weaker n.disk.state k.disk.state (OldOrMore bodies body n.disk.state) (SpellsBetween bodies (bodies ++ body ∷ []))
+      (λ c may. between_one bodies body c may)
+      (moves.images tells);
+}
 
 -- ---- one call after another
 
@@ -48,6 +124,39 @@ goes_on_then ca cb a b c h k = record {
   more = h.more ++ k.more;
   front = k.front ∙ ap (λ (l : List (List ℕ)). l ++ k.more) h.front ∙ append_twice a h.more k.more;
   counted = omega (arith, h.counted, k.counted, length-append h.more k.more);
+}
+
+-- a disk that rested
+images_same : (n k : NodeSeen) (bodies : List (List ℕ)) → k.journal ≡ n.journal → k.disk ≡ n.disk → HoldsJournal n → n.journal ≡ Some bodies → ImagesGo 0 bodies n k
+images_same n k bodies journal disk held was = record {
+  last = bodies;
+  is_last = λ all is. some_eq (sym was ∙ sym journal ∙ is);
+  grows = grows_wider 0 0 1 bodies bodies (omega arith) (grows_same 0 bodies);
+  images = λ tells.
+      subst (λ (v : DiskSeen). EachImage n.disk.state v.state (SpellsBetween bodies bodies)) (sym disk)
+      (started n.disk.state (SpellsBetween bodies bodies) (λ c image. between_same bodies c (held bodies was tells c image)));
+}
+
+-- a node that is down rests
+images_rest : (ca cb : ℕ) (n k l : NodeSeen) (bodies : List (List ℕ)) → k.journal ≡ None → (l ≡ k) × (cb ≡ 0) → ImagesGo ca bodies n k → ImagesGo (ca + cb) bodies n l
+images_rest ca cb n k l bodies gone rests h = record {
+  last = h.last;
+  is_last = λ all is. absurd (not_both l.journal all is (ap (λ (z : NodeSeen). z.journal) rests.0 ∙ gone));
+  grows = record { more = h.grows.more; front = h.grows.front; least = omega (arith, h.grows.least, rests.1); bound = omega (arith, h.grows.bound, rests.1) };
+  images = subst (λ (z : NodeSeen). IfTold n.disk z.disk (λ d e. EachImage d e (SpellsBetween bodies h.last))) (sym rests.0) h.images;
+}
+
+images_then : (ca cb : ℕ) (n k l : NodeSeen) (bodies mid : List (List ℕ)) → GoesOnBy ca bodies mid → k.disk.tells ≡ n.disk.tells → ImagesGo ca bodies n k → k.journal ≡ Some mid → ImagesGo cb mid k l → ImagesGo (ca + cb) bodies n l
+images_then ca cb n k l bodies mid on told h at g = record {
+  last = g.last;
+  is_last = g.is_last;
+  grows = grows_then ca cb 0 1 bodies mid g.last (record { more = on.more; front = on.front; least = omega (arith, on.counted); bound = omega (arith, on.counted) }) g.grows;
+  images = λ tells.
+      let is : mid ≡ h.last = sym (h.is_last mid at) in
+      let to : g.last ≡ h.last ++ g.grows.more = g.grows.front ∙ ap (λ (z : List (List ℕ)). z ++ g.grows.more) is in
+      then n.disk.state k.disk.state l.disk.state (SpellsBetween bodies g.last)
+      (weaker n.disk.state k.disk.state (SpellsBetween bodies h.last) (SpellsBetween bodies g.last) (λ c s. between_to bodies h.last g.last g.grows.more c to s) (h.images tells))
+      (weaker k.disk.state l.disk.state (SpellsBetween mid g.last) (SpellsBetween bodies g.last) (λ c s. between_from bodies mid g.last on.more c on.front s) (g.images (told ∙ tells)));
 }
 
 lasts_then : (ca cb : ℕ) (n k l : NodeSeen) → Lasts ca n k → Lasts cb k l → Lasts (ca + cb) n l
@@ -69,7 +178,13 @@ lasts_then ca cb n k l h g = record {
       (λ gone. h.stays_up bodies calm was gone)
       (λ mid at. g.stays_up mid (h.calm calm) at none);
   file = g.file ∙ h.file;
+  attached = g.attached ∙ h.attached;
   tells = g.tells ∙ h.tells;
+  form = form_then n.identity k.identity n.disk k.disk l.disk h.identity h.tells h.form g.form;
+  holds = λ held. g.holds (h.holds held);
+  images = λ held bodies was. up_or_down (ImagesGo (ca + cb) bodies n l) k.journal
+      (λ gone. images_rest ca cb n k l bodies gone (g.down gone) (h.images held bodies was))
+      (λ mid at. images_then ca cb n k l bodies mid (h.journal bodies mid was at) h.tells (h.images held bodies was) at (g.images (h.holds held) mid at));
 }
 
 lasts_same : (n : NodeSeen) → Lasts 0 n n
@@ -82,7 +197,11 @@ lasts_same n = record {
   calm = λ calm. calm;
   stays_up = λ bodies calm was none. not_both n.journal bodies was none;
   file = refl;
+  attached = refl;
   tells = refl;
+  form = form_same n.identity n.disk;
+  holds = λ held. held;
+  images = λ held bodies was. images_same n n bodies refl refl held was;
 }
 
 -- ---- how many
@@ -114,7 +233,11 @@ call_noted n k acked bodies is same = subst (λ (z : NodeSeen). Call 0 n z) (sym
     calm = λ calm. calm;
     stays_up = (lasts_same n).stays_up;
     file = refl;
+    attached = refl;
     tells = refl;
+    form = form_same n.identity n.disk;
+    holds = λ held. held;
+    images = λ held old was. images_same n (record n { acked = acked }) old refl refl held was;
   };
   few = λ count few. record { most = omega (arith, few.most); within = λ l at. omega (arith, few.within l at) };
 })
@@ -146,7 +269,13 @@ module _ {F : Type 0} (w : Environment F) (now : ℕ) (n k : NodeSeen) (bodies :
       calm = c.appended.calm;
       stays_up = λ old calm was none. not_both k.journal (bodies ++ c.body ∷ []) c.journal none;
       file = c.appended.moves.file;
+      attached = c.appended.moves.attached;
       tells = c.appended.moves.tells;
+      form = c.appended.form;
+      holds = λ held all at tells x image. c.appended.holds.images tells x image ∙ some_eq (sym c.journal ∙ at);
+      images = λ held old was.
+          subst (λ (l : List (List ℕ)). ImagesGo 1 l n k) (sym (same_bodies old was))
+          (images_one 1 bodies c.body n k (omega arith) (λ all at. some_eq (sym c.journal ∙ at)) c.appended.moves);
     };
     few = λ count few.
         let room = not_full w.frame_at (stamp_in item) bodies c.appended.room in
@@ -168,7 +297,13 @@ module _ {F : Type 0} (w : Environment F) (now : ℕ) (n k : NodeSeen) (bodies :
       calm = λ calm. absurd (c.failing.calm calm);
       stays_up = λ old calm was none. c.failing.calm calm;
       file = c.failing.moves.file;
+      attached = c.failing.moves.attached;
       tells = c.failing.moves.tells;
+      form = c.failing.form;
+      holds = λ held all at. absurd (not_both k.journal all at c.journal);
+      images = λ held old was.
+          subst (λ (l : List (List ℕ)). ImagesGo 0 l n k) (sym (same_bodies old was))
+          (images_one 0 bodies c.body n k (omega arith) (λ all at. absurd (not_both k.journal all at c.journal)) c.failing.moves);
     };
     few = λ count few. record { most = omega (arith, few.most); within = λ l at. absurd (not_both k.journal l at c.journal) };
   }

@@ -5,3 +5,4 @@ pub mod Histories
 pub mod Together
 pub mod Lasting
 pub mod Calls
+pub mod Passing

@@ -1,3 +1,4 @@
 pub mod Calls
 pub mod Lasting
 pub mod Works
+pub mod Passages

@@ -6,6 +6,7 @@
 #![tactic(auto)]
 
 ghost use Rattle.work_law.specs.Lasting.{HistoriesLast};
+ghost use Rattle.work_law.specs.Passages.{AcknowledgedIsKept, AcknowledgedOnPassages, AttainedAreCoherent, KeptOnPassages};
 ghost use Rattle.work_law.specs.Works.{WorksCoherently};
 
 /// The law that from a coherent world which the nodes showed they go, by whatever they did side by side, to a coherent world which they
@@ -16,7 +17,37 @@ pub fn works_coherently<F>()
 {}
 
 /// The law of a node's history, over any disk: the node's journal goes on by the records that it committed, at most 65,536; a node that
-/// was down stays as it was; and a node that was up is down only where its disk's count of faults rose.
+/// was down stays as it was; a node that was up is down only where its disk's count of faults rose; and the disk is attached as it was.
+/// Of a disk that tells its content, at every moment since the history began: sound images stay sound, and where each image spelt the
+/// journal that the node had, each spells one on the way from there to the journal that the node has in the end, or where it went down to
+/// one of the records that it committed and one more at most.
 pub fn histories_last<F>()
     ensures { HistoriesLast F }
+{}
+
+/// The law that each world which steps, turns, posts and deliveries lead to from a coherent one, and work side by side between them, is
+/// coherent.
+pub fn attained_are_coherent<F>()
+    ensures { AttainedAreCoherent F }
+{}
+
+/// The law that what a node that is up has in its journal stands once in the merged journals of every world that steps and work side by
+/// side lead to from there, whichever journals power cuts leave of that one. So none of what was acknowledged is lost, and none of it is
+/// there twice.
+pub fn acknowledged_is_kept<F>()
+    ensures { AcknowledgedIsKept F }
+{}
+
+/// The law of every moment on ways one after another, with work side by side between one and the next, whichever image power cuts leave of
+/// each disk: the journals are those of one run of the network; the causes of each begin with those of an image that its disk had as the
+/// first way began, so nothing that was on a disk is lost; and a node all of whose images were sound then has sound images, also while it
+/// is down.
+pub fn kept_on_passages<F>()
+    ensures { KeptOnPassages F }
+{}
+
+/// The law of every moment on such ways, whichever image power cuts leave of each disk: each cause that a node that was up had in its
+/// journal as the first way began stands once in the merged journals.
+pub fn acknowledged_on_passages<F>()
+    ensures { AcknowledgedOnPassages F }
 {}
