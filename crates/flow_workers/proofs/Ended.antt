@@ -140,6 +140,7 @@ worked_on m now came nodes old mid new lists commits is same w put by =
       leads = works_coherently m now commits came nodes (frames_of old) (frames_of new) done;
       lasts = nodes_last m now came nodes commits (frames_of old) (frames_of new) done;
       tails = subst (λ (l : List (List Frame)). KeepsTails l (frames_of new)) same (tails_put mid new lists len put);
+      now = refl;
       whole = record {
         by = by;
         few = let f = is.few in omega (arith, f, done.count);
@@ -157,6 +158,7 @@ not_worked m now commits came nodes waited waiting short is same_nodes same_fram
       leads = works_coherently m now 0 came came waited waited works;
       lasts = nodes_last m now came came 0 waited waited works;
       tails = tails_same waited;
+      now = refl;
       whole = is;
       unchanged = λ so. (refl, refl);
     } in

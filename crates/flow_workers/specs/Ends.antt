@@ -30,6 +30,7 @@ pub record WorkedOn {F : Type 0} (m : Meaning F) (old new : NetSeen) (commits : 
   -- what is said of their journals and disks whatever the disks are
   pub lasts : NodesLast commits old.nodes new.nodes
   pub tails : KeepsTails old.waiting new.waiting
+  pub now : new.now ≡ old.now
   -- the parts are those of a network
   pub whole : IsNet m.frame_at new
   -- where memory ran out before any turn nothing has changed

@@ -1,5 +1,7 @@
 //! Workers, and their turns.
 
+ghost use Rattle.flow_workers.specs.Steps.{HandsOut};
+
 use super::board::{Board, Call};
 use super::counts::Turn;
 use super::desk::Desk;
@@ -23,7 +25,22 @@ pub struct Plan {
     pub seed: u64,
 }
 
-/// Lets a flow of a node go on. A job for which one waits is run outside the lock, and then settled.
+/// Lets a flow of a node go on, unless another worker is at the node.
+fn turn_if_free<J: Call, D: Disk, F: FlowSet, C: Judge>(
+    alloc: Global,
+    board: &Board<J, C>,
+    desk: &Mutex<Desk<J, D, F>>,
+) -> Turn
+    ensures { HandsOut result }
+{
+    match desk.try_lock() {
+        Some(mut desk) => desk.turn(alloc, board),
+        None => Turn::Still,
+    }
+}
+
+/// Lets a flow of a node go on. A job for which one waits is run outside the lock, and then settled: for that alone the worker waits until
+/// the node is free.
 fn go_on<J: Call, D: Disk, F: FlowSet, C: Judge, R: Wait, G: Gate>(
     rt: &R,
     alloc: Global,
@@ -32,7 +49,7 @@ fn go_on<J: Call, D: Disk, F: FlowSet, C: Judge, R: Wait, G: Gate>(
     node: u8,
     gate: &G,
 ) -> bool {
-    let turn = desk.lock(rt).turn(alloc, board);
+    let turn = turn_if_free(alloc, board, desk);
     match turn {
         Turn::Still => false,
         Turn::Committed => true,
@@ -45,8 +62,8 @@ fn go_on<J: Call, D: Disk, F: FlowSet, C: Judge, R: Wait, G: Gate>(
     }
 }
 
-/// One turn at a node, as the word says: of 4 two let a flow go on, one posts frames, and one pulls a frame. Says whether a record was
-/// committed.
+/// One turn at a node, as the word says: of 4 two let a flow go on, one posts frames, and one pulls a frame. Where another worker is at the
+/// node, nothing is done. Says whether a record was committed.
 fn turn_at<J: Call, D: Disk, F: FlowSet, C: Judge, R: Wait, G: Gate>(
     rt: &R,
     alloc: Global,
@@ -59,10 +76,15 @@ fn turn_at<J: Call, D: Disk, F: FlowSet, C: Judge, R: Wait, G: Gate>(
     match (word >> 8) % 4 {
         0 | 1 => go_on(rt, alloc, board, desk, node, gate),
         2 => {
-            desk.lock(rt).send(rt, alloc, board);
+            if let Some(mut desk) = desk.try_lock() {
+                desk.send(rt, alloc, board);
+            }
             false
         }
-        _ => desk.lock(rt).receive(rt, alloc, board, (word >> 16) % 8),
+        _ => match desk.try_lock() {
+            Some(mut desk) => desk.receive(rt, alloc, board, (word >> 16) % 8),
+            None => false,
+        },
     }
 }
 
