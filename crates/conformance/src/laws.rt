@@ -13,6 +13,10 @@ use network_core::{
     ways_have_all_moments, ways_move_one_by_one,
 };
 use shipped_flows::{ShippedFlow, a_ping_returns_its_count};
+use work_law::{
+    acknowledged_is_kept, acknowledged_on_passages, attained_are_coherent, histories_last,
+    kept_on_passages, works_coherently,
+};
 
 /// The laws of steps, of runs and of what they keep.
 pub fn of_the_model() {
@@ -49,4 +53,14 @@ pub fn of_the_network() {
     ways_have_all_moments::<ShippedFlow>();
     ways_move_one_by_one::<ShippedFlow>();
     a_ping_returns_its_count();
+}
+
+/// The laws of nodes that are worked on side by side.
+pub fn of_work_side_by_side() {
+    works_coherently::<ShippedFlow>();
+    histories_last::<ShippedFlow>();
+    attained_are_coherent::<ShippedFlow>();
+    acknowledged_is_kept::<ShippedFlow>();
+    kept_on_passages::<ShippedFlow>();
+    acknowledged_on_passages::<ShippedFlow>();
 }

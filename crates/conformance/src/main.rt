@@ -20,6 +20,8 @@ use small_contracts::{Facts, Ious, Locks};
 use stage::Stage;
 use std::alloc::Global;
 use std::io;
+use std::sync::Wait;
+use std::thread::Threads;
 
 /// Tells what a check found, and whether it passed.
 fn passes(rt: &impl Print, name: &str, check: &Check) -> Result<bool> {
@@ -30,7 +32,12 @@ fn passes(rt: &impl Print, name: &str, check: &Check) -> Result<bool> {
 }
 
 /// Makes all checks, with these contracts, and tells what differs and how many passed and failed.
-fn check_all(rt: &impl Print, alloc: Global, text: &str, contracts: &ContractBook) -> Result<()> {
+fn check_all<R: Print + Threads + Wait + Sync>(
+    rt: &R,
+    alloc: Global,
+    text: &str,
+    contracts: &ContractBook,
+) -> Result<()> {
     let mut stage = Stage::new(alloc);
     let mut passed = 0u64;
     let mut failed = 0u64;
@@ -42,7 +49,7 @@ fn check_all(rt: &impl Print, alloc: Global, text: &str, contracts: &ContractBoo
     }
     for part in text.split_inclusive("\n@") {
         let section = Section::parse(part);
-        match stage.take(alloc, &section, contracts) {
+        match stage.take(rt, alloc, &section, contracts) {
             Ok(None) => {}
             Ok(Some(check)) if passes(rt, stage.name(), &check)? => {
                 passed = passed.saturating_add(1);
@@ -62,6 +69,7 @@ fn check_all(rt: &impl Print, alloc: Global, text: &str, contracts: &ContractBoo
 fn main(rt: HostRuntime) -> Result<()> {
     laws::of_the_model();
     laws::of_the_network();
+    laws::of_work_side_by_side();
     let alloc = rt.alloc();
     let text = io::read_to_string(alloc, rt.reader())?;
     let mut contracts: Vec<BoxedContract> = Vec::new(alloc);

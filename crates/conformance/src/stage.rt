@@ -5,9 +5,11 @@ use app_flows::AppFlow;
 use contract_verify::ContractBook;
 use disk_mem::MemDisk;
 use node_shell::run;
-use outside::{Bay, Disk, MemSink, MemSource};
+use outside::{Bay, Disk, MemSink, MemSource, NoGate};
 use std::alloc::{AllocError, Global};
 use std::mem;
+use std::sync::Wait;
+use std::thread::Threads;
 
 /// How many bytes of answers a run may write. One that writes more ends with the status of a failed write.
 const ROOM: usize = 4_194_304;
@@ -127,8 +129,9 @@ impl<'a> Stage<'a> {
     }
 
     /// Plays a script over the disks that stand there.
-    fn run(
+    fn run<R: Threads + Wait + Sync>(
         &mut self,
+        rt: &R,
         alloc: Global,
         values: &str,
         script: &str,
@@ -141,13 +144,15 @@ impl<'a> Stage<'a> {
         let mut answers = MemSink::new(alloc, ROOM, writes)?;
         let disks = mem::replace(&mut self.disks, Vec::new(alloc));
         ensure!(disks.len() == 32, "no case is under way");
-        let ended = run::<_, _, _, AppFlow, _>(
+        let ended = run::<_, _, _, _, AppFlow, _, _>(
+            rt,
             alloc,
             words.as_slice(),
             &mut source,
             &mut answers,
             disks,
             contracts,
+            &NoGate,
         );
         self.disks = ended.disks;
         self.played = Some(Played {
@@ -186,8 +191,9 @@ impl<'a> Stage<'a> {
     /// # Errors
     ///
     /// Where there is no such section, or it can't be done, and for want of memory.
-    pub fn take(
+    pub fn take<R: Threads + Wait + Sync>(
         &mut self,
+        rt: &R,
         alloc: Global,
         section: &Section<'a>,
         contracts: &ContractBook,
@@ -207,10 +213,10 @@ impl<'a> Stage<'a> {
             "power" => self.disk(values)?.restore_power(),
             "failing-reads" => self.failing_reads = numbers_of(alloc, values)?,
             "failing-writes" => self.failing_writes = numbers_of(alloc, values)?,
-            "run" => self.run(alloc, values, lines, contracts)?,
+            "run" => self.run(rt, alloc, values, lines, contracts)?,
             "run-unended" => {
                 let script = lines.strip_suffix('\n').unwrap_or(lines);
-                self.run(alloc, values, script, contracts)?;
+                self.run(rt, alloc, values, script, contracts)?;
             }
             "answers" | "differs" => {
                 return Ok(Some(Check {

@@ -15,8 +15,9 @@ use app_flows::AppFlow;
 use cash_contract::Cash;
 use contract_verify::{BoxedContract, ContractBook};
 use disk_host::{HostDisk, StdSink, StdSource};
+use flow_machine::FlowSet;
 use node_shell::run;
-use outside::{Sink, Source};
+use outside::{Bay, NoGate, Sink, Source};
 use shell_words::{Told, text_told, told_of};
 use small_contracts::{Facts, Ious, Locks};
 use std::alloc::{AllocError, Global};
@@ -24,6 +25,8 @@ use std::fs::File;
 use std::io::{BufReader, Write};
 use std::process::ExitCode;
 use std::rt::Files;
+use std::sync::Wait;
+use std::thread::Threads;
 use std::{env, io};
 
 /// The status for words that the program refuses.
@@ -83,13 +86,20 @@ fn tell<W: Write>(alloc: Global, told: Told, out: &mut W) -> u8 {
     }
 }
 
-/// Runs a script with the flows and the contracts that the program ships, and gives its status.
-fn run_shipped<S: Source, K: Sink, R: Files<File = File>>(
+/// Runs a script with these flows and the contracts that the program ships, and gives its status.
+fn run_shipped<
+    F: FlowSet + Send + Sync,
+    R: Threads + Wait + Sync,
+    S: Source,
+    K: Sink,
+    B: Bay + Send,
+>(
+    rt: &R,
     alloc: Global,
     words: &[String],
     source: &mut S,
     sink: &mut K,
-    disks: Vec<HostDisk<'_, R>>,
+    disks: Vec<B>,
 ) -> Result<u8, AllocError>
     requires { length disks.items ≡ 32 }
     ensures words { IfOk result (λ status. status ≡ 2
@@ -107,7 +117,9 @@ fn run_shipped<S: Source, K: Sink, R: Files<File = File>>(
     contracts.push(Box::new(alloc, Facts)?)?;
     contracts.push(Box::new(alloc, Ious)?)?;
     let contracts = ContractBook::new(contracts);
-    let ended = run::<_, _, _, AppFlow, _>(alloc, words, source, sink, disks, &contracts);
+    let ended = run::<R, S, K, B, F, ContractBook, NoGate>(
+        rt, alloc, words, source, sink, disks, &contracts, &NoGate,
+    );
     Ok(ended.status)
 }
 
@@ -134,7 +146,14 @@ fn main(rt: HostRuntime) -> ExitCode {
     };
     let mut source = StdSource::new(reader);
     let mut sink = StdSink::new(io::writer(&rt));
-    match run_shipped(alloc, words.as_slice(), &mut source, &mut sink, disks) {
+    match run_shipped::<AppFlow, _, _, _, _>(
+        &rt,
+        alloc,
+        words.as_slice(),
+        &mut source,
+        &mut sink,
+        disks,
+    ) {
         Ok(status) => ExitCode::from(status),
         Err(_) => ExitCode::from(NO_MEMORY),
     }

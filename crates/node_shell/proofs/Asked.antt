@@ -11,10 +11,10 @@ use Rattle.network_core.specs.Answers.{Answered, answer_of}
 use Rattle.network_core.specs.Worlds.{World, NetSeen, KeepsWorld}
 use Rattle.shell_words.specs.declared.commands.Command.{Command}
 use Rattle.shell_words.specs.declared.commands.Command.TheVariants as command
-use Rattle.shell_words.specs.Script.{command_of, words_of, has_no_answer, is_readable}
+use Rattle.shell_words.specs.Script.{command_of, words_of, has_no_answer, is_readable, asked_by}
 use Rattle.node_shell.specs.declared.replies.Reply.{Reply}
 use Rattle.node_shell.specs.declared.replies.Reply.TheVariants.{Told}
-use Rattle.node_shell.specs.Loads.{load}
+use Rattle.node_shell.specs.Loads.{load, work}
 use Rattle.node_shell.specs.Serve.{Doing, asking, making, going, doing_of, start_step, started_by, recorded_in, place_of, Answers, Comes, LineComes, StepComes, Makes, Serves, Leaves}
 use Rattle.node_shell.specs.Responds.{recorded_seen, StartsNone, IsShown, StepResponds, Responds, CommandResponds, LineResponds, given}
 use Rattle.node_shell.proofs.Shown.{shown_answers, step_shown}
@@ -24,6 +24,7 @@ pub still : {F : Type 0} (e : Environment F) (d : Doing) (w : World) → Leaves 
 still e asking w = refl
 still e (making s) w = inl refl
 still e (going (load seed count)) w = inl refl
+still e (going (work workers turns seed)) w = refl
 
 -- a step was made
 pub step_comes : {F E : Type 0} (e : Environment F) (w : World) (asked : Command) (ws : List (List ℕ)) (s : Step) (result : Result Reply E) (v : World) → doing_of e.machine (recorded_in e w) asked ws ≡ making s → StepComes e w s result v → Comes e w asked ws result v
@@ -142,11 +143,19 @@ module _ {F : Type 0} (m : Meaning F) where
   none_responds net node ws fault reply is shown =
       subst (λ x. Responds m (start_step (place_of node) x) (command.Start node) ws net (Some reply) net) (sym is) (none_shown net node ws fault reply is shown, refl)
 
+  -- a line whose words were not read for want of memory
+  pub line_unread : {E : Type 0} (net : NetSeen) (line : List ℕ) (result : Result Reply E) → IsErr result → KeepsWorld m net net (λ e w v. LineComes e w line result v)
+  line_unread net line (Ok reply) is = absurd (no_err is)
+  line_unread net line (Err fault) is = λ id w shows coherent.
+      let e = environment m id in
+      (w, shows, coherent, still e (doing_of e.machine (recorded_in e w) (asked_by line) (words_of line)) w)
+
   -- want of memory before a step was begun
   pub unbegun : (net : NetSeen) (d : Doing) (asked : Command) (ws : List (List ℕ)) → Responds m d asked ws net None net
   unbegun net asking asked ws = (tt, refl)
   unbegun net (making s) asked ws = inl refl
   unbegun net (going (load seed count)) asked ws = inl refl
+  unbegun net (going (work workers turns seed)) asked ws = refl
 
 -- ---- a line
 

@@ -4,7 +4,7 @@ use Rattle.std.specs.Prelude.{if◌then◌else◌}
 use Rattle.std.proofs.lemmas.List.{map-append}
 use Rattle.flow_machine.specs.Machine.{Machine}
 use Rattle.load_maker.specs.Load.{Load, payments, payment_drawn, after_payments}
-use Rattle.node_shell.specs.Loads.{LoadStates, Deal, Pays, none, more, Breaks, PaysShort, IsMade, deal_of, then_drain}
+use Rattle.node_shell.specs.Loads.{CourseStates, Deal, Pays, none, more, Breaks, PaysShort, IsMade, deal_of, then_drain}
 
 -- a number below the next one is that one, or below it
 nearer : (k n : ℕ) → k < suc n → (k ≡ n) ⊎ (k < n)
@@ -43,7 +43,7 @@ module _ {F : Type 0} (m : Machine F) (nodes : List ℕ) (l : Load) where
           let h = earlier before in
           (h.0 ++ next n ∷ [], first_more n ∙ ap (λ ds. ds ++ next n ∷ []) h.1 ∙ append_assoc (first k) (next k ∷ h.0) (next n ∷ []))
 
-  module _ {W : Type 0} (s : LoadStates W) where
+  module _ {W : Type 0} (s : CourseStates W) where
     -- nothing is paid yet
     pub pays_none : (w : W) → Pays s (first 0) 0 w w
     pays_none w = none refl refl refl

@@ -9,7 +9,7 @@ pub mod TxLines
 pub mod Asked
 pub mod Filling
 pub mod Together
-pub mod Reached
+pub mod Attained
 pub mod Weaving
 pub mod Readying
 pub mod Running

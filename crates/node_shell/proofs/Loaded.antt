@@ -1,4 +1,4 @@
--- A load of a network is one of each coherent world that it shows, and of both together.
+-- A load of a network is one of each coherent world that it shows, and of both together; and so is work side by side.
 use Rattle.std.proofs.Common.{◌≡◌, inl, inr, ℕ, suc, ◌+◌, Bool, true, false, List, [], ◌∷◌, ◌++◌, length, Option, Some, None, refl, sym, ◌∙◌, ap, ap₂, subst, arith, append_assoc, drop}
 use Rattle.std.proofs.lemmas.List.Concat.{flat_map-cons}
 use Rattle.std.specs.Prelude.{◌&&◌, IsTrue, IsSome, is_some, option_and_then, Result, Ok, Err, if◌then◌else◌}
@@ -22,7 +22,7 @@ use Rattle.network_core.proofs.KeepingCalls.{pairs_are_both}
 use Rattle.shell_words.specs.declared.commands.Command.TheVariants as command
 use Rattle.node_shell.specs.declared.replies.Reply.{Reply}
 use Rattle.node_shell.specs.LedgerPrint.{vault_in}
-use Rattle.node_shell.specs.Loads.{Course, load, Deal, Pays, none, more, Loaded, Breaks, BreaksFirst, PaysShort, LoadedShort, Loads, GoesOver, all_but, is_paid, then_drain, issues_by, deals_of}
+use Rattle.node_shell.specs.Loads.{Course, load, work, Deal, Pays, none, more, Loaded, Breaks, BreaksFirst, PaysShort, LoadedShort, Loads, WorksOrNot, GoesOver, all_but, is_paid, then_drain, issues_by, deals_of}
 use Rattle.node_shell.specs.Serve.{Comes, ended_by, ended_up, ended_in, held_from, world_states}
 use Rattle.node_shell.specs.Responds.{given, ended_seen, held_by, held_of, net_states, notary_seen}
 use Rattle.node_shell.specs.Together.{InPair, pair_states}
@@ -182,24 +182,46 @@ module _ {F : Type 0} (m : Meaning F) (id : Identity) where
       let q = (net_states m).payers a.net in
       let v = loaded_short_in (issues_by m.machine q) (deals_of m.machine q seed count) a k short in
       record { world = v.world; shows = v.shows; coherent = v.coherent; holds = inr (takes, v.holds) }
+  course_in (work workers turns seed) (Some reply) a k (inl refused) = same_in (λ b. GoesOver (pair_states m id) m.machine (work workers turns seed) a (Some reply) b) a k refused.2 (inl (refused.0, refused.1, refl))
+  course_in (work workers turns seed) (Some reply) a k (inr (up, (commits, works, told))) =
+      let v = works.leads id a.world a.shows a.coherent in
+      let shows = subst (λ (n : ℕ). Shows env (record { nodes = k.nodes; waiting = k.waiting; now = n }) v.0) (sym works.now) v.1 in
+      record { world = v.0; shows = shows; coherent = v.2; holds = inr (up, (commits, (works, v.3), told)) }
+  course_in (work workers turns seed) None a k is = same_in (λ b. GoesOver (pair_states m id) m.machine (work workers turns seed) a None b) a k is refl
 
   -- so of the worlds alone
   pub course_world : (c : Course) (reply : Option Reply) (a b : Pair env) → GoesOver (pair_states m id) m.machine c a reply b → GoesOver (world_states env) m.machine c a.world reply b.world
   course_world c reply a b h =
       course_map (pair_states m id) (world_states env) (λ (z : Pair env). z.world) (λ p f z. ended_shown env z.net z.world z.shows p f)
       (λ steps outcomes all x y follows. (pairs_are_both m id x y).worlds steps outcomes all follows)
+      (λ commits x y works. (works.1, y.coherent))
       m.machine (λ z. payers_shown env z.net z.world z.shows) (λ z. up_shown env z.net z.world z.shows) (λ z. held_shown env z.net z.world z.shows) c reply a b h
 
--- a load of a network comes to the same of each world that it shows
+-- such a command of a network comes to the same of each world that it shows
+course_comes : {F E : Type 0} (m : Meaning F) (old new : NetSeen) (c : Course) (result : Result Reply E) → GoesOver (net_states m) m.machine c old (given result) new
+    → KeepsWorld m old new (λ e w v. GoesOver (world_states e) e.machine c w (given result) v)
+course_comes m old new c result h id w shows coherent =
+    let a = with_world old w shows coherent in
+    let b = course_in m id c (given result) a new h in
+    (b.world, b.shows, b.coherent, course_world m id c (given result) a (with_world new b.world b.shows b.coherent) b.holds)
+
 pub load_comes : {F E : Type 0} (m : Meaning F) (old new : NetSeen) (seed count : ℕ) (ws : List (List ℕ)) (result : Result Reply E) → Loads (net_states m) m.machine seed count old (given result) new
     → KeepsWorld m old new (λ e w v. Comes e w (command.Load seed count) ws result v)
 load_comes {F} {E} m old new seed count ws result h id w shows coherent =
-    let a = with_world old w shows coherent in
-    let b = course_in m id (load seed count) (given result) a new h in
-    let v = with_world new b.world b.shows b.coherent in
-    (b.world, b.shows, b.coherent, by b.world result (course_world m id (load seed count) (given result) a v b.holds))
+    let b = course_comes m old new (load seed count) result h id w shows coherent in
+    (b.0, b.1, b.2, by b.0 result b.3)
   where
     by : (z : World) (r : Result Reply E) → Loads (world_states (environment m id)) m.machine seed count w (given r) z → Comes (environment m id) w (command.Load seed count) ws r z
+    by z (Ok reply) g = g
+    by z (Err fault) g = g
+
+pub work_comes : {F E : Type 0} (m : Meaning F) (old new : NetSeen) (workers turns seed : ℕ) (ws : List (List ℕ)) (result : Result Reply E) → WorksOrNot (net_states m) old (given result) new
+    → KeepsWorld m old new (λ e w v. Comes e w (command.Workers workers turns seed) ws result v)
+work_comes {F} {E} m old new workers turns seed ws result h id w shows coherent =
+    let b = course_comes m old new (work workers turns seed) result h id w shows coherent in
+    (b.0, b.1, b.2, by b.0 result b.3)
+  where
+    by : (z : World) (r : Result Reply E) → WorksOrNot (world_states (environment m id)) w (given r) z → Comes (environment m id) w (command.Workers workers turns seed) ws r z
     by z (Ok reply) g = g
     by z (Err fault) g = g
 

@@ -1,4 +1,4 @@
--- A load over states of one kind, over what these show, and from end to end.
+-- Commands that go over several steps, over states of one kind, and over what these show.
 use Rattle.std.proofs.Common.{◌≡◌, inl, inr, ℕ, ◌+◌, ◌<◌, ◌≤◌, Bool, true, false, List, [], ◌∷◌, length, Option, Some, None, refl, sym, ◌∙◌, ap, subst}
 use Rattle.std.specs.Prelude.{if◌then◌else◌}
 use Rattle.std.specs.Option.{option_map_or}
@@ -7,7 +7,7 @@ use Rattle.network_core.specs.declared.steps.Outcome.{Outcome}
 use Rattle.network_core.specs.declared.steps.Step.{Step}
 use Rattle.network_core.specs.Served.{Links, none as no_link, more as one_link, LeadTo}
 use Rattle.node_shell.specs.declared.replies.Reply.{Reply}
-use Rattle.node_shell.specs.Loads.{Course, load, LoadStates, Deal, Pays, none, more, Loaded, Breaks, BreaksFirst, LoadedShort, RefusesLoad, TakesLoad, GoesOver, started, is_paid, then_drain, issues_by, deals_of, load_text}
+use Rattle.node_shell.specs.Loads.{Course, load, work, CourseStates, Deal, Pays, none, more, Loaded, Breaks, BreaksFirst, LoadedShort, RefusesLoad, TakesLoad, GoesOver, started, is_paid, then_drain, issues_by, deals_of, load_text}
 
 -- ---- what is so of each part is so of all
 
@@ -22,9 +22,10 @@ module _ {W : Type 0} (serve : Step → W → Option Outcome → W → Type 0) (
   leads_go steps outcomes true a b h = links_go steps outcomes a b h
   leads_go steps outcomes false a b (first, s, rest, u, is, before, serves) = trans a u b (links_go first outcomes a u before) (each s u None b serves)
 
--- and of a load
-module _ {W : Type 0} (s : LoadStates W) (R : W → W → Type 0) (here : (a b : W) → b ≡ a → R a b) (trans : (a b c : W) → R a b → R b c → R a c)
-    (part : (steps : List Step) (outcomes : List Outcome) (all : Bool) (a b : W) → s.follows steps outcomes all a b → R a b) where
+-- and of such a command
+module _ {W : Type 0} (s : CourseStates W) (R : W → W → Type 0) (here : (a b : W) → b ≡ a → R a b) (trans : (a b c : W) → R a b → R b c → R a c)
+    (part : (steps : List Step) (outcomes : List Outcome) (all : Bool) (a b : W) → s.follows steps outcomes all a b → R a b)
+    (worked : (commits : ℕ) (a b : W) → s.works commits a b → R a b) where
   pays_go : (deals : List Deal) (paid : ℕ) (a b : W) → Pays s deals paid a b → R a b
   pays_go deals paid a b (none empty unpaid is) = here a b is
   pays_go all sum a b (more {deals = deals} {paid = paid} {u = u} d outcomes before pays all_is sum_is) = trans a u b (pays_go deals paid a u before) (part (then_drain d.starts) outcomes true u b pays)
@@ -49,10 +50,13 @@ module _ {W : Type 0} (s : LoadStates W) (R : W → W → Type 0) (here : (a b :
       trans a loaded.funded b (part (then_drain (issues_by m (s.payers a))) loaded.outcomes true a loaded.funded loaded.issued) (pays_go (deals_of m (s.payers a) seed count) paid loaded.funded b loaded.pays)
   course_goes m (load seed count) None a b (inl is) = here a b is
   course_goes m (load seed count) None a b (inr (takes, short)) = short_go (issues_by m (s.payers a)) (deals_of m (s.payers a) seed count) a b short
+  course_goes m (work workers turns seed) (Some reply) a b (inl refused) = here a b refused.2
+  course_goes m (work workers turns seed) (Some reply) a b (inr (up, (commits, works, told))) = worked commits a b works
+  course_goes m (work workers turns seed) None a b is = here a b is
 
 -- ---- over what states show
 
-module _ {W V : Type 0} (s : LoadStates W) (t : LoadStates V) (g : W → V) (ended : (p f : ℕ) (a : W) → t.has_ended p f (g a) ≡ s.has_ended p f a) where
+module _ {W V : Type 0} (s : CourseStates W) (t : CourseStates V) (g : W → V) (ended : (p f : ℕ) (a : W) → t.has_ended p f (g a) ≡ s.has_ended p f a) where
   pub paid_same : (node : ℕ) (outcomes : List Outcome) (a : W) → is_paid t node outcomes (g a) ≡ is_paid s node outcomes a
   paid_same node outcomes a = by (started outcomes)
     where
@@ -60,7 +64,8 @@ module _ {W V : Type 0} (s : LoadStates W) (t : LoadStates V) (g : W → V) (end
       by None = refl
       by (Some flow) = ended node flow a
 
-  module _ (follows : (steps : List Step) (outcomes : List Outcome) (all : Bool) (a b : W) → s.follows steps outcomes all a b → t.follows steps outcomes all (g a) (g b)) where
+  module _ (follows : (steps : List Step) (outcomes : List Outcome) (all : Bool) (a b : W) → s.follows steps outcomes all a b → t.follows steps outcomes all (g a) (g b))
+      (worked : (commits : ℕ) (a b : W) → s.works commits a b → t.works commits (g a) (g b)) where
     pays_map : (deals : List Deal) (paid : ℕ) (a b : W) → Pays s deals paid a b → Pays t deals paid (g a) (g b)
     pays_map deals paid a b (none empty unpaid is) = none empty unpaid (ap g is)
     pays_map all sum a b (more {deals = deals} {paid = paid} {u = u} d outcomes before pays all_is sum_is) =
@@ -122,3 +127,6 @@ module _ {W V : Type 0} (s : LoadStates W) (t : LoadStates V) (g : W → V) (end
         takes_map a takes,
         subst (λ (l : List ℕ). LoadedShort t (issues_by m l) (deals_of m l seed count) (g a) (g b)) (sym (payers a)) (short_map (issues_by m (s.payers a)) (deals_of m (s.payers a) seed count) a b short),
       )
+      course_map (work workers turns seed) (Some reply) a b (inl refused) = inl (up a ∙ refused.0, refused.1, ap g refused.2)
+      course_map (work workers turns seed) (Some reply) a b (inr (all, (commits, works, told))) = inr (up a ∙ all, (commits, worked commits a b works, told))
+      course_map (work workers turns seed) None a b is = ap g is

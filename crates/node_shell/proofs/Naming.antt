@@ -10,6 +10,7 @@ use Rattle.network_core.specs.Worlds.{NetSeen}
 use Rattle.network_core.specs.Answers.{answer_of}
 use Rattle.network_core.specs.Served.{NetServe}
 use Rattle.network_core.proofs.Naming.{names_of, step_names}
+use Rattle.work_law.proofs.Passing.{names_stay}
 use Rattle.shell_words.specs.declared.commands.Command.{Command}
 use Rattle.shell_words.specs.Script.{has_no_answer, is_readable, words_of, command_of}
 use Rattle.node_shell.specs.declared.replies.Reply.{Reply}
@@ -38,7 +39,7 @@ module _ {F : Type 0} (m : Meaning F) where
 
   responds : (d : Doing) (asked : Command) (words : List (List ℕ)) (a b : NetSeen) (reply : Option Reply) → Responds m d asked words a reply b → Keeps a b
   responds (making s) asked words a b reply h = step_responds s a b reply h
-  responds (going c) asked words a b reply h = course_goes (net_states m) Keeps unmoved (λ x y z one two. two ∙ one) follows m.machine c reply a b h
+  responds (going c) asked words a b reply h = course_goes (net_states m) Keeps unmoved (λ x y z one two. two ∙ one) follows (λ commits x y work. names_stay m x.now commits x.nodes y.nodes x.waiting y.waiting work.works) m.machine c reply a b h
   responds asking asked words a b reply h = unmoved a b h.1
 
   line_keeps : (a b : NetSeen) (line : List ℕ) (reply : Option Reply) → LineResponds m line a reply b → Keeps a b

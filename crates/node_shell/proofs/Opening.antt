@@ -24,8 +24,7 @@ use Rattle.node_core.specs.declared.faults.BootFault.TheVariants as boot
 use Rattle.network_core.specs.Worlds.{World, NetSeen, Shows, Coherent}
 use Rattle.network_core.specs.Drains.{with_world}
 use Rattle.network_core.specs.Begins.{member, node_over, nodes_over, no_boot, BeginsWorld, IsRefused, BootsUpTo}
-use Rattle.network_core.proofs.Reaching.{reaches_coherent, reaches_openable}
-use Rattle.network_core.proofs.Standing.{acknowledged_stands_once}
+use Rattle.work_law.proofs.Passing.{attained_are_coherent, attained_openable, acknowledged_is_kept}
 use Rattle.network_core.proofs.Beginning.{first_at}
 use Rattle.node_shell.specs.declared.statuses.Status.{Status}
 use Rattle.node_shell.specs.declared.statuses.Status.TheVariants as status
@@ -34,10 +33,10 @@ use Rattle.node_shell.specs.Story.{ScriptRun, IsScriptStatus}
 use Rattle.node_shell.specs.Together.{PairLink, PairShort, InPair}
 use Rattle.shell_words.specs.Program.{network_of_words}
 use Rattle.shell_words.specs.declared.program.NetworkWords.{NetworkWords}
-use Rattle.node_shell.specs.Runs.{over, OfNetwork, number_of_status, Plays, PlaysOneWay, GoesOn, Refuses, RunsAs, IsRunStatus, journal_line, PlaysOrRefuses, RefusedWith, IsOpeningStatus, Fails, OneFails, HasCause, MisfitsAt, StaysBut, KeepsCalm, IsOpened, AfterRefusal, GivesUp, IsUnready, IsToldWhy, KeepsOwn, KeepOwn, IsPlayedStatus, IsPlayedNumber, AllStay, MadeReady, GoesOrHalts, RunsAnyhow}
+use Rattle.node_shell.specs.Runs.{over, OfNetwork, number_of_status, Plays, PlaysTogether, GoesOn, Refuses, RunsAs, IsRunStatus, journal_line, PlaysOrRefuses, RefusedWith, IsOpeningStatus, Fails, OneFails, HasCause, MisfitsAt, StaysBut, KeepsCalm, IsOpened, AfterRefusal, GivesUp, IsUnready, IsToldWhy, KeepsOwn, KeepOwn, IsPlayedStatus, IsPlayedNumber, AllStay, MadeReady, GoesOrHalts, RunsAnyhow}
 use Rattle.node_shell.proofs.Readying.{fails_since, stays_then, stay_same, stay_then}
 use Rattle.node_shell.proofs.Together.{scripts_are_both}
-use Rattle.node_shell.proofs.Reached.{story_reaches, script_reaches}
+use Rattle.node_shell.proofs.Attained.{story_attains, script_attains}
 use Rattle.node_shell.proofs.Resting.{counted, begun_openable, down_openable, made_openable, stay_openable, made_same, made_then, made_fewer, same_fewer, made_journals, same_journals, stands, rests, made_coherent, made_counted, counted_shows, refused_rests, down_fewer}
 
 no_memory : status.DiskFault ≡ status.NoMemory → ⊥
@@ -344,7 +343,7 @@ module _ {F : Type 0} (m : Meaning F) (nodes : ℕ) (notary : Party) where
       let first = with_world begun start.0 start.1 start.2 in
       let last = with_world ended end.world end.shows end.coherent in
       let worlds = (scripts_are_both m (member nodes notary 0) first last left0 left1 written0 written1 count s end.holds).worlds in
-      let reaches = script_reaches e start.0 left0 left1 written0 written1 count end.world s worlds in
+      let attains = script_attains e start.0 left0 left1 written0 written1 count end.world s worlds in
       inl (record {
         plays = record {
           is_script = script;
@@ -356,11 +355,11 @@ module _ {F : Type 0} (m : Meaning F) (nodes : ℕ) (notary : Party) where
           last = end.world;
           script = worlds;
           rests = rests m nodes notary ended end.world bs end.shows end.coherent disks;
-          openable = down_openable end.world (reaches_openable e start.0 end.world reaches (begun_openable e w start.0 start.3));
-          reaches = reaches;
-          coherent = λ u to. reaches_coherent e start.0 u start.2 to;
-          on_the_way = λ lines out u story. story_reaches e start.0 lines out u story;
-          acknowledged = λ u v to on. acknowledged_stands_once e u v (reaches_coherent e start.0 u start.2 to) on;
+          openable = down_openable end.world (attained_openable e start.0 end.world attains (begun_openable e w start.0 start.3));
+          attains = attains;
+          coherent = λ u to. attained_are_coherent e start.0 u start.2 to;
+          on_the_way = λ lines out u story. story_attains e start.0 lines out u story;
+          acknowledged = λ u v to on. acknowledged_is_kept e u v (attained_are_coherent e start.0 u start.2 to) on;
         };
         together = record {
           went = record { ready = ds; made = stay_same ds; begun = begun; opened = boots; quiet = quiet; last = ended; script = went; back = disks };
@@ -484,7 +483,7 @@ module _ {F : Type 0} (m : Meaning F) (nodes : ℕ) (notary : Party) where
     script = p.script;
     rests = p.rests;
     openable = p.openable;
-    reaches = p.reaches;
+    attains = p.attains;
     coherent = p.coherent;
     on_the_way = p.on_the_way;
     acknowledged = p.acknowledged;
@@ -493,10 +492,10 @@ module _ {F : Type 0} (m : Meaning F) (nodes : ℕ) (notary : Party) where
   goes_with : (ds ks bs : List DiskSeen) (left0 left1 written0 written1 : Option (List ℕ)) (count : ℕ) (s : Status) → AllStay ds ks → GoesOn m nodes notary ks bs left0 left1 written0 written1 count s → GoesOn m nodes notary ds bs left0 left1 written0 written1 count s
   goes_with ds ks bs left0 left1 written0 written1 count s stay g = record { ready = g.ready; made = stay_then ds ks g.ready stay g.made; begun = g.begun; opened = g.opened; quiet = g.quiet; last = g.last; script = g.script; back = g.back }
 
-  one_way_with : (w v : World) (ds ks bs : List DiskSeen) (left0 left1 written0 written1 : Option (List ℕ)) (count : ℕ) (s : Status) → MadeReady w v → AllStay ds ks
-      → PlaysOneWay m nodes notary v ks bs left0 left1 written0 written1 count s → PlaysOneWay m nodes notary w ds bs left0 left1 written0 written1 count s
+  together_with : (w v : World) (ds ks bs : List DiskSeen) (left0 left1 written0 written1 : Option (List ℕ)) (count : ℕ) (s : Status) → MadeReady w v → AllStay ds ks
+      → PlaysTogether m nodes notary v ks bs left0 left1 written0 written1 count s → PlaysTogether m nodes notary w ds bs left0 left1 written0 written1 count s
   unfolding goes_with plays_with
-  one_way_with w v ds ks bs left0 left1 written0 written1 count s made stay p = record {
+  together_with w v ds ks bs left0 left1 written0 written1 count s made stay p = record {
     plays = plays_with w v ds ks bs left0 left1 written0 written1 count s made stay p.plays;
     together = record {
       went = goes_with ds ks bs left0 left1 written0 written1 count s stay p.together.went;
@@ -529,7 +528,7 @@ module _ {F : Type 0} (m : Meaning F) (nodes : ℕ) (notary : Party) where
   ready ds ks bs w left0 left1 written0 written1 count s stay runs shows coherent =
       let v = counted ks w in
       let made = made_counted m nodes notary w ds ks stay shows in
-      ⊎_elim (λ (p : PlaysOneWay m nodes notary v ks bs left0 left1 written0 written1 count s). inl (one_way_with w v ds ks bs left0 left1 written0 written1 count s made stay p))
+      ⊎_elim (λ (p : PlaysTogether m nodes notary v ks bs left0 left1 written0 written1 count s). inl (together_with w v ds ks bs left0 left1 written0 written1 count s made stay p))
       (λ (r : Refuses e v ks bs left0 left1 written0 written1 count s). inr (refuses_with w v ds ks bs left0 left1 written0 written1 count s made stay r))
       (runs v (counted_shows m nodes notary w ds ks stay shows) (made_coherent m nodes notary w v made coherent))
 
@@ -554,7 +553,7 @@ module _ {F : Type 0} (m : Meaning F) (nodes : ℕ) (notary : Party) where
       record {
         status = ran.status;
         is = ran.is;
-        ran = ⊎_elim (λ (p : PlaysOneWay m nodes notary v ks bs left0 left1 written0 written1 count ran.status). inl (one_way_with w v ds ks bs left0 left1 written0 written1 count ran.status made stay p))
+        ran = ⊎_elim (λ (p : PlaysTogether m nodes notary v ks bs left0 left1 written0 written1 count ran.status). inl (together_with w v ds ks bs left0 left1 written0 written1 count ran.status made stay p))
             (λ (r : Refuses e v ks bs left0 left1 written0 written1 count ran.status). inr (refuses_with w v ds ks bs left0 left1 written0 written1 count ran.status made stay r))
             ran.ran;
       }

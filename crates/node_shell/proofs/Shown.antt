@@ -114,6 +114,7 @@ same_step m f g same command.Book ws = refl
 same_step m f g same (command.TxLine node named) ws = refl
 same_step m f g same command.History ws = refl
 same_step m f g same (command.Load seed count) ws = refl
+same_step m f g same (command.Workers workers turns seed) ws = refl
 same_step m f g same command.Quit ws = refl
 same_step m f g same command.Unknown ws = refl
 
@@ -400,3 +401,4 @@ module _ {F : Type 0} (m : Meaning F) (id : Identity) (net : NetSeen) (w : World
   shown_answers (command.Boot node) ws reply h = h
   shown_answers command.Drain ws reply h = h
   shown_answers (command.Load seed count) ws reply h = h
+  shown_answers (command.Workers workers turns seed) ws reply h = h

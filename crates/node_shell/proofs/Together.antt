@@ -1,4 +1,4 @@
--- A story of networks is one of them together with the worlds that they show, that is one of each alone, and it is one way.
+-- A story of networks is one of them together with the worlds that they show, that is one of each alone, and it is one passage.
 use Rattle.std.proofs.Common.{◌≡◌, ◌⊎◌, inl, inr, ℕ, List, ◌++◌, Bool, true, false, Option, Some, None, refl, sym, subst}
 use Rattle.std.specs.Prelude.{◌||◌, not, if◌then◌else◌, MatchBool}
 use Rattle.net_base.specs.declared.names.Identity.{Identity}
@@ -7,11 +7,11 @@ use Rattle.net_model.specs.Environment.{Environment, environment, Meaning}
 use Rattle.network_core.specs.declared.refusal.Refusal.TheVariants as refusal
 use Rattle.network_core.specs.declared.steps.Outcome.TheVariants as outcome
 use Rattle.network_core.specs.Drains.{Pair, with_world}
-use Rattle.network_core.specs.Ways.{Way, stay, by_part, by_step}
+use Rattle.network_core.specs.Ways.{stay}
 use Rattle.network_core.specs.Worlds.{World, NetSeen, Shows, Coherent}
 use Rattle.network_core.proofs.KeepingCalls.{calls_are_ways}
-use Rattle.network_core.proofs.KeepingWays.{kept_on_ways}
-use Rattle.network_core.proofs.KeepingCauses.{acknowledged_at_all_moments}
+use Rattle.work_law.specs.Passages.{Passage, goes, works}
+use Rattle.work_law.proofs.Passing.{passage_then, kept_on_passages, acknowledged_on_passages}
 use Rattle.shell_words.specs.declared.commands.Command.{Command}
 use Rattle.shell_words.specs.declared.commands.Command.TheVariants.{Unknown}
 use Rattle.shell_words.specs.Script.{has_no_answer, is_readable, words_of, command_of, asked_by}
@@ -24,7 +24,7 @@ use Rattle.node_shell.specs.Loads.{Course, GoesOver}
 use Rattle.node_shell.specs.Serve.{Doing, asking, making, going, world_states, doing_of, recorded_in, Makes, Serves, RepliesTo, Link, Leaves, RunsShort}
 use Rattle.node_shell.specs.Responds.{net_states, recorded_seen, Responds, CommandResponds, LineResponds, NetLink, NetShort}
 use Rattle.node_shell.specs.Story.{Story, begins, goes_on, Answered, CutOff, LeftOff, EndsWith, ScriptRun}
-use Rattle.node_shell.specs.Together.{pair_states, Goes, LineGoes, PairLink, PairShort, InPair, ComesBy, EndComesBy, LeadsOn, ScriptsAreWays, ScriptsAreBoth}
+use Rattle.node_shell.specs.Together.{pair_states, Goes, LineGoes, PairLink, PairShort, InPair, ComesBy, EndComesBy, LeadsOn, ScriptsArePassages, ScriptsAreBoth}
 use Rattle.node_shell.proofs.Shown.{shown_answers, step_shown}
 use Rattle.node_shell.proofs.Loading.{course_goes}
 use Rattle.node_shell.proofs.Loaded.{course_in, course_world}
@@ -266,92 +266,94 @@ scripts_are_both m id a b left0 left1 written0 written1 count s run = record {
   nets = run_of (PairLink m id) (PairShort m id) (NetLink m) (NetShort m) (of_nets m id) (net_link m id) (net_short m id) a left0 left1 written0 written1 count b s run;
 }
 
--- ---- the way
+-- ---- the passage
 
 -- from what it begins with to an end, by way of what it comes by
-record Ways {F : Type 0} (m : Meaning F) (id : Identity) (a b : Pair (environment m id)) (passes : Pair (environment m id) → Type 0) : Type 0 where
-  pub whole : Way m id a b
-  pub to : (u : Pair (environment m id)) → passes u → Way m id a u
-  pub on : (u : Pair (environment m id)) → passes u → Way m id u b
+record Passages {F : Type 0} (m : Meaning F) (id : Identity) (a b : Pair (environment m id)) (passes : Pair (environment m id) → Type 0) : Type 0 where
+  pub whole : Passage m id a b
+  pub to : (u : Pair (environment m id)) → passes u → Passage m id a u
+  pub on : (u : Pair (environment m id)) → passes u → Passage m id u b
 
 module _ {F : Type 0} (m : Meaning F) (id : Identity) where
   abbrev shown : Type 0
   shown = Pair (environment m id)
 
-  way_then : (a b c : shown) → Way m id a b → Way m id b c → Way m id a c
-  way_then a b c one (stay is) = subst (Way m id a) (sym is) one
-  way_then a b c one (by_part {b = d} p o way does) = by_part p o (way_then a b d one way) does
-  way_then a b c one (by_step {b = d} s o way drain answered serve) = by_step s o (way_then a b d one way) drain answered serve
+  nothing : (a b : shown) → b ≡ a → Passage m id a b
+  nothing a b is = goes (stay is)
 
-  goes_way : (d : Doing) (reply : Option Reply) (a b : shown) → Goes m id d reply a b → Way m id a b
-  goes_way (making s) (Some reply) a b (o, serves, told) = (calls_are_ways m id a b).apply s (Some o) serves
-  goes_way (making s) None a b (inl is) = stay is
-  goes_way (making s) None a b (inr serves) = (calls_are_ways m id a b).apply s None serves
-  goes_way (going c) reply a b h =
-      course_goes (pair_states m id) (Way m id) (λ x y is. stay is) way_then (λ steps outcomes all x y follows. (calls_are_ways m id x y).apply_all steps outcomes all follows) m.machine c reply a b h
-  goes_way asking reply a b is = stay is
+  follow_on : (a b c : shown) → Passage m id a b → Passage m id b c → Passage m id a c
+  follow_on a b c one two = passage_then m id a b c one two
 
-  link_way : (a : shown) (line text : List ℕ) (b : shown) → PairLink m id a line text b → Way m id a b
-  link_way a line text b l = goes_way (doing_of m.machine (recorded_seen m.frame_at a.net) (asked_by line) (words_of line)) (Some l.net.reply) a b l.goes
+  goes_passage : (d : Doing) (reply : Option Reply) (a b : shown) → Goes m id d reply a b → Passage m id a b
+  goes_passage (making s) (Some reply) a b (o, serves, told) = goes ((calls_are_ways m id a b).apply s (Some o) serves)
+  goes_passage (making s) None a b (inl is) = nothing a b is
+  goes_passage (making s) None a b (inr serves) = goes ((calls_are_ways m id a b).apply s None serves)
+  goes_passage (going c) reply a b h =
+      course_goes (pair_states m id) (Passage m id) nothing follow_on (λ steps outcomes all x y follows. goes ((calls_are_ways m id x y).apply_all steps outcomes all follows))
+      (λ commits x y worked. works commits (nothing x x refl) (record { works = worked.0.works; world = worked.1 }) (stay refl)) m.machine c reply a b h
+  goes_passage asking reply a b is = nothing a b is
 
-  short_way : (a : shown) (line : List ℕ) (b : shown) → PairShort m id a line b → Way m id a b
-  short_way a line b (inl l) = goes_way (doing_of m.machine (recorded_seen m.frame_at a.net) (asked_by line) (words_of line)) None a b l.goes
-  short_way a line b (inr (text, l)) = link_way a line text b l
+  link_passage : (a : shown) (line text : List ℕ) (b : shown) → PairLink m id a line text b → Passage m id a b
+  link_passage a line text b l = goes_passage (doing_of m.machine (recorded_seen m.frame_at a.net) (asked_by line) (words_of line)) (Some l.net.reply) a b l.goes
 
-  pub leads_on : (a b : shown) → Way m id a b → LeadsOn m id a b
-  leads_on a b way = record { way = way; kept = kept_on_ways m id a b way; acknowledged = acknowledged_at_all_moments m id a b way }
+  short_passage : (a : shown) (line : List ℕ) (b : shown) → PairShort m id a line b → Passage m id a b
+  short_passage a line b (inl l) = goes_passage (doing_of m.machine (recorded_seen m.frame_at a.net) (asked_by line) (words_of line)) None a b l.goes
+  short_passage a line b (inr (text, l)) = link_passage a line text b l
 
-  story_way : (a : shown) (lines : List (List ℕ)) (out : List ℕ) (b : shown) → Story (PairLink m id) a lines out b → Way m id a b
-  story_way a lines out b begins = stay refl
-  story_way a lines out b (goes_on {lines = earlier} {out = said} {before = c} line text before none l all longer) = way_then a c b (story_way a earlier said c before) (link_way c line text b l)
+  pub leads_on : (a b : shown) → Passage m id a b → LeadsOn m id a b
+  leads_on a b passage = record { passage = passage; kept = kept_on_passages m id a b passage; acknowledged = acknowledged_on_passages m id a b passage }
 
-  story_to : (a : shown) (lines : List (List ℕ)) (out : List ℕ) (b : shown) (story : Story (PairLink m id) a lines out b) (u : shown) → ComesBy story u → Way m id a u
-  story_to a lines out b begins u is = stay is
+  story_passage : (a : shown) (lines : List (List ℕ)) (out : List ℕ) (b : shown) → Story (PairLink m id) a lines out b → Passage m id a b
+  story_passage a lines out b begins = nothing a a refl
+  story_passage a lines out b (goes_on {lines = earlier} {out = said} {before = c} line text before none l all longer) = follow_on a c b (story_passage a earlier said c before) (link_passage c line text b l)
+
+  story_to : (a : shown) (lines : List (List ℕ)) (out : List ℕ) (b : shown) (story : Story (PairLink m id) a lines out b) (u : shown) → ComesBy story u → Passage m id a u
+  story_to a lines out b begins u is = nothing a u is
   story_to a lines out b (goes_on {lines = earlier} {out = said} {before = c} line text before none l all longer) u (inl earlier_on) = story_to a earlier said c before u earlier_on
   story_to a lines out b (goes_on {lines = earlier} {out = said} {before = c} line text before none l all longer) u (inr is) =
-      subst (Way m id a) (sym is) (way_then a c b (story_way a earlier said c before) (link_way c line text b l))
+      subst (Passage m id a) (sym is) (follow_on a c b (story_passage a earlier said c before) (link_passage c line text b l))
 
-  story_on : (a : shown) (lines : List (List ℕ)) (out : List ℕ) (b : shown) (story : Story (PairLink m id) a lines out b) (u : shown) → ComesBy story u → Way m id u b
-  story_on a lines out b begins u is = stay (sym is)
-  story_on a lines out b (goes_on {lines = earlier} {out = said} {before = c} line text before none l all longer) u (inl earlier_on) = way_then u c b (story_on a earlier said c before u earlier_on) (link_way c line text b l)
-  story_on a lines out b (goes_on {lines = earlier} {out = said} {before = c} line text before none l all longer) u (inr is) = stay (sym is)
+  story_on : (a : shown) (lines : List (List ℕ)) (out : List ℕ) (b : shown) (story : Story (PairLink m id) a lines out b) (u : shown) → ComesBy story u → Passage m id u b
+  story_on a lines out b begins u is = nothing u _ (sym is)
+  story_on a lines out b (goes_on {lines = earlier} {out = said} {before = c} line text before none l all longer) u (inl earlier_on) = follow_on u c b (story_on a earlier said c before u earlier_on) (link_passage c line text b l)
+  story_on a lines out b (goes_on {lines = earlier} {out = said} {before = c} line text before none l all longer) u (inr is) = nothing u _ (sym is)
 
-  story_ways : (a : shown) (lines : List (List ℕ)) (out : List ℕ) (b : shown) (story : Story (PairLink m id) a lines out b) → Ways m id a b (ComesBy story)
-  story_ways a lines out b story = record { whole = story_way a lines out b story; to = story_to a lines out b story; on = story_on a lines out b story }
+  story_passages : (a : shown) (lines : List (List ℕ)) (out : List ℕ) (b : shown) (story : Story (PairLink m id) a lines out b) → Passages m id a b (ComesBy story)
+  story_passages a lines out b story = record { whole = story_passage a lines out b story; to = story_to a lines out b story; on = story_on a lines out b story }
 
   -- a last line more
-  last_ways : (a b c : shown) (passes : shown → Type 0) → Ways m id a b passes → Way m id b c → Ways m id a c (λ u. passes u ⊎ (u ≡ c))
-  last_ways a b c passes ways last = record {
-    whole = way_then a b c ways.whole last;
+  last_passages : (a b c : shown) (passes : shown → Type 0) → Passages m id a b passes → Passage m id b c → Passages m id a c (λ u. passes u ⊎ (u ≡ c))
+  last_passages a b c passes all last = record {
+    whole = follow_on a b c all.whole last;
     to = λ u h. to_last u h;
     on = λ u h. on_last u h;
   }
     where
-      to_last : (u : shown) → passes u ⊎ (u ≡ c) → Way m id a u
-      to_last u (inl h) = ways.to u h
-      to_last u (inr is) = subst (Way m id a) (sym is) (way_then a b c ways.whole last)
+      to_last : (u : shown) → passes u ⊎ (u ≡ c) → Passage m id a u
+      to_last u (inl h) = all.to u h
+      to_last u (inr is) = subst (Passage m id a) (sym is) (follow_on a b c all.whole last)
 
-      on_last : (u : shown) → passes u ⊎ (u ≡ c) → Way m id u c
-      on_last u (inl h) = way_then u b c (ways.on u h) last
-      on_last u (inr is) = stay (sym is)
+      on_last : (u : shown) → passes u ⊎ (u ≡ c) → Passage m id u c
+      on_last u (inl h) = follow_on u b c (all.on u h) last
+      on_last u (inr is) = nothing u _ (sym is)
 
   module _ (a b : shown) (left written0 written1 : Option (List ℕ)) (count : ℕ) (lines : List (List ℕ)) (rest : List ℕ) where
-    ends_ways : (s : Status) (h : EndsWith (PairLink m id) (PairShort m id) a left written0 written1 count lines rest b s) → Ways m id a b (EndComesBy (PairLink m id) (PairShort m id) a left written0 written1 count lines rest b s h)
-    ends_ways status.Finished h = story_ways a _ h.1.out b h.1.story
-    ends_ways status.BadWords h = absurd h
-    ends_ways status.TooLong h = story_ways a _ h.2.out b h.2.story
-    ends_ways status.ReadFault h = story_ways a _ h.1.out b h.1.story
-    ends_ways status.WriteFault h = last_ways a h.0.before b (ComesBy h.0.story) (story_ways a h.0.earlier h.0.out h.0.before h.0.story) (link_way h.0.before h.0.line _ b h.0.linked)
-    ends_ways status.DiskFault h = absurd h
-    ends_ways status.NoMemory (inl h) = last_ways a h.0.before b (ComesBy h.0.story) (story_ways a h.0.earlier h.0.out h.0.before h.0.story) (short_way h.0.before h.0.line b h.0.ran_short)
-    ends_ways status.NoMemory (inr h) = story_ways a _ h.2.out b h.2.story
-    ends_ways status.BadJournal h = absurd h
+    ends_passages : (s : Status) (h : EndsWith (PairLink m id) (PairShort m id) a left written0 written1 count lines rest b s) → Passages m id a b (EndComesBy (PairLink m id) (PairShort m id) a left written0 written1 count lines rest b s h)
+    ends_passages status.Finished h = story_passages a _ h.1.out b h.1.story
+    ends_passages status.BadWords h = absurd h
+    ends_passages status.TooLong h = story_passages a _ h.2.out b h.2.story
+    ends_passages status.ReadFault h = story_passages a _ h.1.out b h.1.story
+    ends_passages status.WriteFault h = last_passages a h.0.before b (ComesBy h.0.story) (story_passages a h.0.earlier h.0.out h.0.before h.0.story) (link_passage h.0.before h.0.line _ b h.0.linked)
+    ends_passages status.DiskFault h = absurd h
+    ends_passages status.NoMemory (inl h) = last_passages a h.0.before b (ComesBy h.0.story) (story_passages a h.0.earlier h.0.out h.0.before h.0.story) (short_passage h.0.before h.0.line b h.0.ran_short)
+    ends_passages status.NoMemory (inr h) = story_passages a _ h.2.out b h.2.story
+    ends_passages status.BadJournal h = absurd h
 
-pub scripts_are_ways : {F : Type 0} → ScriptsAreWays F
-scripts_are_ways m id a b left0 left1 written0 written1 count s run =
-    let ways = ends_ways m id a b left1 written0 written1 count run.lines run.rest s run.ends in
+pub scripts_are_passages : {F : Type 0} → ScriptsArePassages F
+scripts_are_passages m id a b left0 left1 written0 written1 count s run =
+    let all = ends_passages m id a b left1 written0 written1 count run.lines run.rest s run.ends in
     record {
-      whole = leads_on m id a b ways.whole;
-      to = λ u h. leads_on m id a u (ways.to u h);
-      on = λ u h. leads_on m id u b (ways.on u h);
+      whole = leads_on m id a b all.whole;
+      to = λ u h. leads_on m id a u (all.to u h);
+      on = λ u h. leads_on m id u b (all.on u h);
     }

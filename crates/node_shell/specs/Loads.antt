@@ -1,4 +1,4 @@
--- A made load of payments, over states of any kind: its starts and drains, one after another, and what is told of it.
+-- Commands that go over several steps, over states of any kind. A made load of payments: its starts and drains, one after another, and what is told of it; and work side by side.
 use Rattle.std.specs.Prelude.{◌≡◌, ◌⊎◌, ℕ, zero, suc, ◌+◌, ◌-◌, ◌<◌, ◌≤◌, ◌==◌, Bool, true, false, List, [], ◌∷◌, ◌++◌, length, map, Option, Some, None, Result, Ok, Err, codes, decimal, slice_index_or, if◌then◌else◌}
 use Rattle.std.specs.List.{flat_map}
 use Rattle.std.specs.Option.{option_map_or}
@@ -14,14 +14,16 @@ use Rattle.network_core.specs.declared.steps.Step.{Step}
 use Rattle.network_core.specs.declared.steps.Step.TheVariants as step
 use Rattle.shell_report.specs.LedgerText.{totals_text}
 use Rattle.node_shell.specs.declared.replies.Reply.{Reply}
+use Rattle.node_shell.specs.declared.replies.Reply.TheVariants.{Worked}
 use Rattle.node_shell.specs.Replies.{reply_text, IsRefused}
 
--- a command that goes over several steps: `load` with a seed and a count of payments
+-- a command that goes over several steps: `load` with a seed and a count of payments; or `workers` with how many there are, how many turns each makes, and a seed
 pub data Course : Type 0 where
   load : ℕ → ℕ → Course
+  work : ℕ → ℕ → ℕ → Course
 
--- what a load asks of the states that it goes over
-pub record LoadStates (W : Type 0) : Type 1 where
+-- what such a command asks of the states that it goes over
+pub record CourseStates (W : Type 0) : Type 1 where
   -- the nodes that issue and pay, ascending
   pub payers : W → List ℕ
   -- whether all nodes are up
@@ -32,6 +34,8 @@ pub record LoadStates (W : Type 0) : Type 1 where
   pub has_ended : ℕ → ℕ → W → Bool
   -- the unconsumed states in the vaults of all nodes that are up
   pub held : W → List Held
+  -- workers made their turns side by side, and so many records were committed
+  pub works : ℕ → W → W → Type 0
 
 -- ---- its steps
 
@@ -84,21 +88,21 @@ started (outcome.Started flow ∷ rest) = Some flow
 started _ = None
 
 -- whether a payment of which these are the outcomes is paid: its flow has ended without failure, and the node that pays is up
-abbrev pub is_paid : {W : Type 0} → LoadStates W → ℕ → List Outcome → W → Bool
+abbrev pub is_paid : {W : Type 0} → CourseStates W → ℕ → List Outcome → W → Bool
 is_paid s node outcomes v = option_map_or (λ flow. s.has_ended node flow v) (started outcomes) false
 
 -- a payment is made, with a drain behind it, and it is paid or not
-abbrev pub IsMade : {W : Type 0} → LoadStates W → Deal → W → W → Bool → Type 0
+abbrev pub IsMade : {W : Type 0} → CourseStates W → Deal → W → W → Bool → Type 0
 IsMade s d w v paid = (outcomes : List Outcome) × s.follows (then_drain d.starts) outcomes true w v × (paid ≡ is_paid s d.node outcomes v)
 
 -- payments, each a start and a drain, one after another; and how many of them are paid, each as its drain leaves it
-pub data Pays {W : Type 0} (s : LoadStates W) : List Deal → ℕ → W → W → Type 0 where
+pub data Pays {W : Type 0} (s : CourseStates W) : List Deal → ℕ → W → W → Type 0 where
   none : {deals : List Deal} {paid : ℕ} {w v : W} → deals ≡ [] → paid ≡ 0 → v ≡ w → Pays s deals paid w v
   more : {deals all : List Deal} {paid sum : ℕ} {w u v : W} (d : Deal) (outcomes : List Outcome) → Pays s deals paid w u → s.follows (then_drain d.starts) outcomes true u v
       → all ≡ deals ++ d ∷ [] → sum ≡ paid + (if is_paid s d.node outcomes v then 1 else 0) → Pays s all sum w v
 
 -- a load: all issues and one drain, and then the payments
-pub record Loaded {W : Type 0} (s : LoadStates W) (issues : List Step) (deals : List Deal) (paid : ℕ) (w v : W) : Type 0 where
+pub record Loaded {W : Type 0} (s : CourseStates W) (issues : List Step) (deals : List Deal) (paid : ℕ) (w v : W) : Type 0 where
   pub outcomes : List Outcome
   pub funded : W
   pub issued : s.follows (then_drain issues) outcomes true w funded
@@ -107,16 +111,16 @@ pub record Loaded {W : Type 0} (s : LoadStates W) (issues : List Step) (deals : 
 -- ---- want of memory
 
 -- memory ran out before these steps, or in one of them; the ones before it stand
-abbrev pub Breaks : {W : Type 0} → LoadStates W → List Step → W → W → Type 0
+abbrev pub Breaks : {W : Type 0} → CourseStates W → List Step → W → W → Type 0
 Breaks s steps w v = (v ≡ w) ⊎ ((outcomes : List Outcome) × s.follows steps outcomes false w v)
 
 -- it ran out in the first of these payments; or behind the last one
-abbrev pub BreaksFirst : {W : Type 0} → LoadStates W → List Deal → W → W → Type 0
+abbrev pub BreaksFirst : {W : Type 0} → CourseStates W → List Deal → W → W → Type 0
 BreaksFirst s [] w v = v ≡ w
 BreaksFirst s (d ∷ ds) w v = Breaks s (then_drain d.starts) w v
 
 -- some payments were made, and then it ran out
-pub record PaysShort {W : Type 0} (s : LoadStates W) (deals : List Deal) (w v : W) : Type 0 where
+pub record PaysShort {W : Type 0} (s : CourseStates W) (deals : List Deal) (w v : W) : Type 0 where
   pub made : List Deal
   pub rest : List Deal
   pub all : deals ≡ made ++ rest
@@ -126,14 +130,14 @@ pub record PaysShort {W : Type 0} (s : LoadStates W) (deals : List Deal) (w v : 
   pub breaks : BreaksFirst s rest last v
 
 -- the issues were made, and some payments, and then it ran out
-pub record FundedShort {W : Type 0} (s : LoadStates W) (issues : List Step) (deals : List Deal) (w v : W) : Type 0 where
+pub record FundedShort {W : Type 0} (s : CourseStates W) (issues : List Step) (deals : List Deal) (w v : W) : Type 0 where
   pub outcomes : List Outcome
   pub funded : W
   pub issued : s.follows (then_drain issues) outcomes true w funded
   pub short : PaysShort s deals funded v
 
 -- it ran out in the issues, or behind them
-abbrev pub LoadedShort : {W : Type 0} → LoadStates W → List Step → List Deal → W → W → Type 0
+abbrev pub LoadedShort : {W : Type 0} → CourseStates W → List Step → List Deal → W → W → Type 0
 LoadedShort s issues deals w v = Breaks s (then_drain issues) w v ⊎ FundedShort s issues deals w v
 
 -- ---- what is told
@@ -144,20 +148,32 @@ load_text count paid held =
     codes "load " ++ decimal count ++ codes " paid " ++ decimal paid ++ codes " failed " ++ decimal (count - paid) ++ 10 ∷ totals_text held
 
 -- a load is refused: a node is down, or fewer than two nodes could pay
-abbrev pub RefusesLoad : {W : Type 0} → LoadStates W → W → Reply → Type 0
+abbrev pub RefusesLoad : {W : Type 0} → CourseStates W → W → Reply → Type 0
 RefusesLoad s w reply = ((s.are_up w ≡ false) × IsRefused refusal.NodeDown reply) ⊎ ((s.are_up w ≡ true) × (length (s.payers w) < 2) × IsRefused refusal.BadArgs reply)
 
 -- and else it is made
-abbrev pub TakesLoad : {W : Type 0} → LoadStates W → W → Type 0
+abbrev pub TakesLoad : {W : Type 0} → CourseStates W → W → Type 0
 TakesLoad s w = (s.are_up w ≡ true) × (2 ≤ length (s.payers w))
 
 -- what a load comes to: its reply, none at want of memory
-abbrev pub Loads : {W F : Type 0} → LoadStates W → Machine F → ℕ → ℕ → W → Option Reply → W → Type 0
+abbrev pub Loads : {W F : Type 0} → CourseStates W → Machine F → ℕ → ℕ → W → Option Reply → W → Type 0
 Loads s m seed count w (Some reply) v =
     (RefusesLoad s w reply × (v ≡ w))
     ⊎ (TakesLoad s w × ((paid : ℕ) × Loaded s (issues_by m (s.payers w)) (deals_of m (s.payers w) seed count) paid w v × (reply_text reply ≡ load_text count paid (s.held v))))
 Loads s m seed count w None v = (v ≡ w) ⊎ (TakesLoad s w × LoadedShort s (issues_by m (s.payers w)) (deals_of m (s.payers w) seed count) w v)
 
+-- ---- work side by side
+
+-- what workers come to: where a node is down they are refused, and else they make their turns, in whatever order; for want of memory none is made
+abbrev pub WorksOrNot : {W : Type 0} → CourseStates W → W → Option Reply → W → Type 0
+WorksOrNot s w (Some reply) v =
+    ((s.are_up w ≡ false) × IsRefused refusal.NodeDown reply × (v ≡ w))
+    ⊎ ((s.are_up w ≡ true) × ((commits : ℕ) × s.works commits w v × (reply ≡ Worked)))
+WorksOrNot s w None v = v ≡ w
+
+-- ---- each
+
 -- what a command comes to that goes over several steps
-abbrev pub GoesOver : {W F : Type 0} → LoadStates W → Machine F → Course → W → Option Reply → W → Type 0
+abbrev pub GoesOver : {W F : Type 0} → CourseStates W → Machine F → Course → W → Option Reply → W → Type 0
 GoesOver s m (load seed count) w reply v = Loads s m seed count w reply v
+GoesOver s m (work workers turns seed) w reply v = WorksOrNot s w reply v

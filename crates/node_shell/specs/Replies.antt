@@ -5,7 +5,7 @@ use Rattle.network_core.specs.declared.steps.Outcome.{Outcome}
 use Rattle.network_core.specs.declared.steps.Outcome.TheVariants as outcome
 use Rattle.network_core.specs.Refusals.{code_of, name_of}
 use Rattle.node_shell.specs.declared.replies.Reply.{Reply}
-use Rattle.node_shell.specs.declared.replies.Reply.TheVariants.{Silence, Quit, Told, Printed}
+use Rattle.node_shell.specs.declared.replies.Reply.TheVariants.{Silence, Quit, Told, Printed, Worked}
 
 -- what an outcome prints: one line, with its end
 abbrev pub outcome_text : Outcome → List ℕ
@@ -28,12 +28,13 @@ outcome_text (outcome.Drained true) = codes "drained full\n"
 outcome_text (outcome.Drained false) = codes "drained\n"
 outcome_text (outcome.Refused why) = codes "! " ++ decimal (code_of why) ++ codes " " ++ name_of why ++ 10 ∷ []
 
--- what a reply prints: nothing, the line of an outcome, or printed lines
+-- what a reply prints: nothing, the line of an outcome, printed lines, or that workers made their turns
 abbrev pub reply_text : Reply → List ℕ
 reply_text Silence = []
 reply_text Quit = []
 reply_text (Told o) = outcome_text o
 reply_text (Printed text) = string_bytes text
+reply_text Worked = codes "worked\n"
 
 -- whether a reply ends the script
 abbrev pub is_end : Reply → Bool
@@ -41,6 +42,7 @@ is_end Quit = true
 is_end Silence = false
 is_end (Told o) = false
 is_end (Printed text) = false
+is_end Worked = false
 
 -- the reply is a refusal
 abbrev pub IsRefused : Refusal → Reply → Type 0

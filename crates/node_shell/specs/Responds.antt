@@ -25,6 +25,7 @@ use Rattle.network_core.specs.declared.steps.Step.{Step}
 use Rattle.network_core.specs.Worlds.{NetSeen, KeepsWorld}
 use Rattle.network_core.specs.Answers.{Answered, answer_of}
 use Rattle.network_core.specs.Served.{NetFollows, ServesPairs, FollowPairs}
+use Rattle.flow_workers.specs.Ends.{WorkedOn}
 use Rattle.shell_words.specs.declared.commands.Command.{Command}
 use Rattle.shell_words.specs.declared.commands.Command.TheVariants as command
 use Rattle.shell_words.specs.declared.commands.TxName.{TxName}
@@ -32,7 +33,7 @@ use Rattle.shell_words.specs.Script.{has_no_answer, is_readable, words_of, comma
 use Rattle.node_shell.specs.declared.replies.Reply.{Reply}
 use Rattle.node_shell.specs.declared.replies.Reply.TheVariants.{Silence, Quit, Told}
 use Rattle.node_shell.specs.Replies.{reply_text, IsRefused}
-use Rattle.node_shell.specs.Loads.{LoadStates, all_but, GoesOver}
+use Rattle.node_shell.specs.Loads.{CourseStates, all_but, GoesOver}
 use Rattle.node_shell.specs.Serve.{Doing, asking, making, going, place_of, flow_of, named_in, started_by, doing_of, recorded_by, recorded_in, ended_by, RepliesTo, Leaves}
 
 -- ---- answers that change nothing
@@ -125,8 +126,9 @@ IsShown m net (command.Cut node calls kind) words reply = ⊥
 IsShown m net (command.Boot node) words reply = ⊥
 IsShown m net command.Drain words reply = ⊥
 IsShown m net (command.Load seed count) words reply = ⊥
+IsShown m net (command.Workers workers turns seed) words reply = ⊥
 
--- ---- the states that a load goes over, of networks
+-- ---- the states that such a command goes over, of networks
 
 -- whether a flow of the node at a place has ended without failure, where the node is up
 abbrev pub ended_seen : {F : Type 0} → Reads F → ℕ → ℕ → NetSeen → Bool
@@ -140,14 +142,15 @@ held_by frame_at me bodies = let s = state_of frame_at bodies in vault_of me (un
 abbrev pub held_of : {F : Type 0} → Reads F → NodeSeen → List Held
 held_of frame_at n = option_map_or (held_by frame_at n.identity.party) n.journal []
 
--- networks; what steps make of one they make also of each coherent world that it shows
-abbrev pub net_states : {F : Type 0} → Meaning F → LoadStates NetSeen
+-- networks; what steps make of one they make also of each coherent world that it shows, and so does work side by side
+abbrev pub net_states : {F : Type 0} → Meaning F → CourseStates NetSeen
 net_states m = record {
   payers = λ net. all_but (notary_seen net) (length net.nodes);
   are_up = λ net. list_all (λ (n : NodeSeen). is_some n.journal) net.nodes;
   follows = λ steps outcomes all old new. NetFollows m steps outcomes all old new × FollowPairs m steps outcomes all old new;
   has_ended = ended_seen m.frame_at;
   held = λ net. flat_map (held_of m.frame_at) net.nodes;
+  works = λ commits old new. WorkedOn m old new commits false;
 }
 
 -- ---- lines

@@ -20,7 +20,8 @@ use Rattle.network_core.specs.Worlds.{World, NodeWorld, NetSeen, MaySpell, Shows
 use Rattle.node_core.specs.Seen.{NodeSeen}
 use Rattle.node_core.specs.Disks.{roomless, attached_as}
 use Rattle.network_core.specs.Begins.{member, nodes_over, net_over, Begun, BootsUpTo}
-use Rattle.network_core.specs.Acknowledged.{Reaches, Acknowledged, StandsOnce}
+use Rattle.network_core.specs.Acknowledged.{Acknowledged, StandsOnce}
+use Rattle.work_law.specs.Passages.{Attains}
 use Rattle.network_core.specs.Drains.{with_world}
 use Rattle.node_shell.specs.Pairs.{first_disks, own_name}
 use Rattle.node_shell.specs.declared.statuses.Status.{Status}
@@ -88,10 +89,10 @@ pub record Plays {F : Type 0} (e : Environment F) (w : World) (old new : List Di
   pub script : ScriptRun (Link e) (RunsShort e) start left0 left1 written0 written1 count last status
   pub rests : Rests e new (all_down last)
   pub openable : AreOpenable (all_down last)
-  pub reaches : Reaches e start last
-  pub coherent : (u : World) → Reaches e start u → Coherent e u
-  pub on_the_way : (lines : List (List ℕ)) (out : List ℕ) (u : World) → Story (Link e) start lines out u → Reaches e start u
-  pub acknowledged : (u v : World) → Reaches e start u → Reaches e u v → (lists : List (List (List ℕ))) → Choice v lists → (p : ℕ) (cause : Cause) → Acknowledged e u p cause → StandsOnce (p, cause) (merged (map (causes_of e.frame_at) lists))
+  pub attains : Attains e start last
+  pub coherent : (u : World) → Attains e start u → Coherent e u
+  pub on_the_way : (lines : List (List ℕ)) (out : List ℕ) (u : World) → Story (Link e) start lines out u → Attains e start u
+  pub acknowledged : (u v : World) → Attains e start u → Attains e u v → (lists : List (List (List ℕ))) → Choice v lists → (p : ℕ) (cause : Cause) → Acknowledged e u p cause → StandsOnce (p, cause) (merged (map (causes_of e.frame_at) lists))
 
 -- the line for a node's first opening that found no sound journal of its own
 abbrev pub journal_line : ℕ → BootFault → List ℕ
@@ -314,7 +315,7 @@ pub record RunsAnyhow {F : Type 0} (m : Meaning F) (nodes : ℕ) (notary : Party
 
 -- ---- over disks that show a coherent world
 
--- the networks of the script went together with these worlds, line by line: so the script is one way (`scripts_are_ways`)
+-- the networks of the script went together with these worlds, line by line: so the script is one passage (`scripts_are_passages`)
 pub record GoTogether {F : Type 0} (m : Meaning F) (nodes : ℕ) (notary : Party) (start last : World) (old new : List DiskSeen) (left0 left1 written0 written1 : Option (List ℕ)) (count : ℕ) (status : Status) : Type 0 where
   pub went : GoesOn m nodes notary old new left0 left1 written0 written1 count status
   pub shows : Shows (environment m (member nodes notary 0)) went.begun start
@@ -324,14 +325,14 @@ pub record GoTogether {F : Type 0} (m : Meaning F) (nodes : ℕ) (notary : Party
   pub script : ScriptRun (PairLink m (member nodes notary 0)) (PairShort m (member nodes notary 0)) (with_world went.begun start shows coherent) left0 left1 written0 written1 count (with_world went.last last shows_last coherent_last) status
 
 -- the nodes opened and the script was played, and at every moment of it the networks went together with the worlds
-pub record PlaysOneWay {F : Type 0} (m : Meaning F) (nodes : ℕ) (notary : Party) (w : World) (old new : List DiskSeen) (left0 left1 written0 written1 : Option (List ℕ)) (count : ℕ) (status : Status) : Type 0 where
+pub record PlaysTogether {F : Type 0} (m : Meaning F) (nodes : ℕ) (notary : Party) (w : World) (old new : List DiskSeen) (left0 left1 written0 written1 : Option (List ℕ)) (count : ℕ) (status : Status) : Type 0 where
   pub plays : Plays (environment m (member nodes notary 0)) w old new left0 left1 written0 written1 count status
   pub together : GoTogether m nodes notary plays.start plays.last old new left0 left1 written0 written1 count status
 
 -- the nodes opened and the script was played, or one did not open
 abbrev pub PlaysOrRefuses : {F : Type 0} → Meaning F → ℕ → Party → World → List DiskSeen → List DiskSeen → Option (List ℕ) → Option (List ℕ) → Option (List ℕ) → Option (List ℕ) → ℕ → Status → Type 0
 PlaysOrRefuses m nodes notary w old new left0 left1 written0 written1 count s =
-    PlaysOneWay m nodes notary w old new left0 left1 written0 written1 count s
+    PlaysTogether m nodes notary w old new left0 left1 written0 written1 count s
     ⊎ Refuses (environment m (member nodes notary 0)) w old new left0 left1 written0 written1 count s
 
 -- a run over disks that show this world while their nodes are down: the nodes opened and the script was played, or one did not open

@@ -21,8 +21,9 @@ use Rattle.network_core.specs.declared.refusal.Refusal.TheVariants as refusal
 use Rattle.network_core.specs.declared.steps.Outcome.{Outcome}
 use Rattle.network_core.specs.declared.steps.Step.{Step}
 use Rattle.network_core.specs.declared.steps.Step.TheVariants as step
-use Rattle.network_core.specs.Worlds.{World, NodeWorld}
+use Rattle.network_core.specs.Worlds.{World, NodeWorld, Coherent}
 use Rattle.network_core.specs.Served.{Serve, Follows}
+use Rattle.work_law.specs.Works.{WorldWorks}
 use Rattle.shell_words.specs.declared.commands.Command.{Command}
 use Rattle.shell_words.specs.declared.commands.Command.TheVariants as command
 use Rattle.shell_words.specs.declared.commands.TxName.{TxName}
@@ -31,7 +32,7 @@ use Rattle.shell_words.specs.Script.{has_no_answer, is_readable, words_of, comma
 use Rattle.node_shell.specs.declared.replies.Reply.{Reply}
 use Rattle.node_shell.specs.declared.replies.Reply.TheVariants.{Silence, Quit, Told}
 use Rattle.node_shell.specs.Replies.{reply_text, IsRefused}
-use Rattle.node_shell.specs.Loads.{Course, load, LoadStates, all_but, GoesOver}
+use Rattle.node_shell.specs.Loads.{Course, load, work, CourseStates, all_but, GoesOver}
 
 -- ---- what words ask for
 
@@ -110,6 +111,7 @@ doing_of m recorded command.Book words = asking
 doing_of m recorded (command.TxLine node name) words = asking
 doing_of m recorded command.History words = asking
 doing_of m recorded (command.Load seed count) words = going (load seed count)
+doing_of m recorded (command.Workers workers turns seed) words = going (work workers turns seed)
 doing_of m recorded command.Quit words = asking
 doing_of m recorded command.Unknown words = asking
 
@@ -125,7 +127,7 @@ recorded_up frame_at x = if x.up then recorded_by frame_at x.journal else []
 abbrev pub recorded_in : {F : Type 0} → Environment F → World → ℕ → List (Hash32 × SignedTx)
 recorded_in e w p = option_map_or (recorded_up e.frame_at) (slice_get w.nodes p) []
 
--- ---- the states that a load goes over, of worlds
+-- ---- the states that such a command goes over, of worlds
 
 -- whether a flow has ended without failure
 abbrev pub is_ended : {F : Type 0} → Option (FlowState F) → Bool
@@ -151,14 +153,15 @@ abbrev pub held_from : {F : Type 0} → Reads F → ℕ → List NodeWorld → L
 held_from frame_at p [] = []
 held_from frame_at p (x ∷ xs) = (if x.up then vault_in p (state_of frame_at x.journal) else []) ++ held_from frame_at (suc p) xs
 
--- worlds
-abbrev pub world_states : {F : Type 0} → Environment F → LoadStates World
+-- worlds; work side by side leads from one to a coherent one
+abbrev pub world_states : {F : Type 0} → Environment F → CourseStates World
 world_states e = record {
   payers = λ w. all_but e.notary.0 (length w.nodes);
   are_up = λ w. list_all (λ (x : NodeWorld). x.up) w.nodes;
   follows = Follows e;
   has_ended = ended_in e;
   held = λ w. held_from e.frame_at 0 w.nodes;
+  works = λ commits w v. WorldWorks commits w v × Coherent e v;
 }
 
 -- ---- answers that change nothing
@@ -225,6 +228,7 @@ Answers e w (command.Cut node calls kind) words reply = ⊥
 Answers e w (command.Boot node) words reply = ⊥
 Answers e w command.Drain words reply = ⊥
 Answers e w (command.Load seed count) words reply = ⊥
+Answers e w (command.Workers workers turns seed) words reply = ⊥
 
 -- ---- lines
 
@@ -298,4 +302,5 @@ is_quit_command command.Book = false
 is_quit_command (command.TxLine node name) = false
 is_quit_command command.History = false
 is_quit_command (command.Load seed count) = false
+is_quit_command (command.Workers workers turns seed) = false
 is_quit_command command.Unknown = false

@@ -1,6 +1,6 @@
--- Stories of networks together with the worlds that they show, and the way that a whole script goes.
+-- Stories of networks together with the worlds that they show, and what a whole script comes by.
 use Rattle.std.proofs.Common.{inl, inr}
-use Rattle.std.specs.Prelude.{◌≡◌, ◌⊎◌, ℕ, List, map, Option, Some, None}
+use Rattle.std.specs.Prelude.{◌≡◌, ◌⊎◌, ℕ, List, map, Option, Some, None, false}
 use Rattle.disk_journal.specs.Journal.{journal_of}
 use Rattle.net_base.specs.declared.causes.Cause.{Cause}
 use Rattle.net_base.specs.declared.names.Identity.{Identity}
@@ -13,14 +13,16 @@ use Rattle.network_core.specs.Acknowledged.{Acknowledged, StandsOnce}
 use Rattle.network_core.specs.Drains.{Pair, with_world}
 use Rattle.network_core.specs.Moments.{Instant, IsChoice, IsKept}
 use Rattle.network_core.specs.Served.{PairServes, PairFollows}
-use Rattle.network_core.specs.Ways.{Way, IsOn}
 use Rattle.network_core.specs.Worlds.{World, NetSeen, Shows, Coherent}
+use Rattle.work_law.specs.Works.{WorldWorks}
+use Rattle.work_law.specs.Passages.{Passage, IsPassed}
+use Rattle.flow_workers.specs.Ends.{WorkedOn}
 use Rattle.shell_words.specs.Script.{words_of, asked_by}
 use Rattle.node_shell.specs.declared.replies.Reply.{Reply}
 use Rattle.node_shell.specs.declared.replies.Reply.TheVariants.{Told}
 use Rattle.node_shell.specs.declared.statuses.Status.{Status}
 use Rattle.node_shell.specs.declared.statuses.Status.TheVariants as status
-use Rattle.node_shell.specs.Loads.{LoadStates, GoesOver}
+use Rattle.node_shell.specs.Loads.{CourseStates, GoesOver}
 use Rattle.node_shell.specs.Serve.{Doing, asking, making, going, doing_of, recorded_in, RepliesTo, Leaves, Link, RunsShort}
 use Rattle.node_shell.specs.Responds.{net_states, recorded_seen, NetLink, NetLeft, NetShort}
 use Rattle.node_shell.specs.Story.{Story, begins, goes_on, EndsWith, ScriptRun}
@@ -33,14 +35,15 @@ abbrev pub StepGoes : {F : Type 0} (m : Meaning F) (id : Identity)
 StepGoes m id s (Some reply) a b = (o : Outcome) × PairServes m id s (Some o) a b × (reply ≡ Told o)
 StepGoes m id s None a b = (b ≡ a) ⊎ PairServes m id s None a b
 
--- networks together with their worlds, as a load goes over them
-abbrev pub pair_states : {F : Type 0} (m : Meaning F) (id : Identity) → LoadStates (Pair (environment m id))
+-- networks together with their worlds, as such a command goes over them
+abbrev pub pair_states : {F : Type 0} (m : Meaning F) (id : Identity) → CourseStates (Pair (environment m id))
 pair_states m id = record {
   payers = λ a. (net_states m).payers a.net;
   are_up = λ a. (net_states m).are_up a.net;
   follows = PairFollows m id;
   has_ended = λ p f a. (net_states m).has_ended p f a.net;
   held = λ a. (net_states m).held a.net;
+  works = λ commits a b. WorkedOn m a.net b.net commits false × WorldWorks commits a.world b.world;
 }
 
 -- so of what a line does; where it only asks both stay as they are
@@ -105,25 +108,25 @@ EndComesBy link short start left written0 written1 count lines rest last status.
 
 -- ---- laws
 
--- from a network with its world there is a way to another one, and at every moment on it, whichever images power cuts leave of the disks, all is kept, and
--- what was acknowledged as it began stands once in the merged journals
+-- from a network with its world there is a passage to another one, and at every moment on its ways, whichever images power cuts leave of the disks, all is kept,
+-- and what was acknowledged as it began stands once in the merged journals
 pub record LeadsOn {F : Type 0} (m : Meaning F) (id : Identity) (a b : Pair (environment m id)) : Type 0 where
-  pub way : Way m id a b
-  pub kept : (s : Instant) → IsOn way s → IsKept (environment m id) a.net s
-  pub acknowledged : (s : Instant) → IsOn way s → (images : List (List ℕ)) → IsChoice s images → (p : ℕ) (cause : Cause)
+  pub passage : Passage m id a b
+  pub kept : (s : Instant) → IsPassed passage s → IsKept (environment m id) a.net s
+  pub acknowledged : (s : Instant) → IsPassed passage s → (images : List (List ℕ)) → IsChoice s images → (p : ℕ) (cause : Cause)
       → Acknowledged (environment m id) a.world p cause → StandsOnce (p, cause) (merged (map (causes_of m.frame_at) (map journal_of images)))
 
--- a way leads through the whole script, and to and on from all that it comes by
-pub record IsOneWay {F : Type 0} (m : Meaning F) (id : Identity) (a b : Pair (environment m id))
+-- a passage leads through the whole script, and one to and one on from all that it comes by
+pub record IsOnePassage {F : Type 0} (m : Meaning F) (id : Identity) (a b : Pair (environment m id))
     (passes : Pair (environment m id) → Type 0) : Type 0 where
   pub whole : LeadsOn m id a b
   pub to : (u : Pair (environment m id)) → passes u → LeadsOn m id a u
   pub on : (u : Pair (environment m id)) → passes u → LeadsOn m id u b
 
 -- so of each script
-abbrev pub ScriptsAreWays : (F : Type 0) → Type 0
-ScriptsAreWays F = (m : Meaning F) (id : Identity) (a b : Pair (environment m id)) (left0 left1 written0 written1 : Option (List ℕ)) (count : ℕ) (s : Status)
-    (run : ScriptRun (PairLink m id) (PairShort m id) a left0 left1 written0 written1 count b s) → IsOneWay m id a b (EndComesBy (PairLink m id) (PairShort m id) a left1 written0 written1 count run.lines run.rest b s run.ends)
+abbrev pub ScriptsArePassages : (F : Type 0) → Type 0
+ScriptsArePassages F = (m : Meaning F) (id : Identity) (a b : Pair (environment m id)) (left0 left1 written0 written1 : Option (List ℕ)) (count : ℕ) (s : Status)
+    (run : ScriptRun (PairLink m id) (PairShort m id) a left0 left1 written0 written1 count b s) → IsOnePassage m id a b (EndComesBy (PairLink m id) (PairShort m id) a left1 written0 written1 count run.lines run.rest b s run.ends)
 
 -- what a script comes to of networks together with worlds, it comes to of the worlds alone and of the networks alone
 pub record IsBoth {F : Type 0} (m : Meaning F) (id : Identity) (a b : Pair (environment m id))

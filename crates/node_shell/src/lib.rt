@@ -14,6 +14,7 @@ mod session;
 mod statuses;
 mod streams;
 mod top;
+mod working;
 
-pub use laws::{scripts_are_both, scripts_are_ways};
+pub use laws::{scripts_are_both, scripts_are_passages};
 pub use top::{Ended, run};

@@ -249,7 +249,7 @@ fn is_node_up<B: Bay, F: FlowSet>(node: &Node<B, F>) -> bool
 }
 
 /// Whether all nodes are up.
-fn are_up<B: Bay, F: FlowSet>(nodes: &[Node<B, F>]) -> bool
+pub(super) fn are_up<B: Bay, F: FlowSet>(nodes: &[Node<B, F>]) -> bool
     ensures { result ≡ list_all (λ (n : NodeSeen). is_some n.journal) nodes.now }
 {
     nodes.iter().all(|node| is_node_up(node))

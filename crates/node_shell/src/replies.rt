@@ -15,6 +15,8 @@ pub enum Reply {
     Told(Outcome),
     /// The lines of a query, each with its end.
     Printed(String),
+    /// Workers made their turns.
+    Worked,
 }
 
 impl Reply {
@@ -58,6 +60,7 @@ impl fmt::Display for Reply {
                 writeln!(f, "! {code} {name}")
             }
             Reply::Printed(text) => write!(f, "{text}"),
+            Reply::Worked => writeln!(f, "worked"),
         }
     }
 }

@@ -13,12 +13,14 @@ ghost use Rattle.node_shell.specs.Responds.{recorded_seen, AtSeen, PrintsFlows, 
 
 use super::loads::load;
 use super::replies::Reply;
+use super::working::work;
 use contract_verify::Judge;
 use flow_machine::{FlowSet, WordFault};
+use flow_workers::Plan;
 use net_base::{ByteList, CauseList, Moment};
 use network_core::{Net, Outcome, Refusal, Step};
 use node_core::Node;
-use outside::Bay;
+use outside::{Bay, Gate};
 use shell_report::{
     balance_text, book_text, copy_causes, flow_text, flows_text, history_text, tx_text_at,
     tx_text_of, vault_text,
@@ -27,6 +29,8 @@ use shell_words::{
     Command, TxName, command_of, has_mark, has_no_answer, is_readable, mark_of, words_of,
 };
 use std::alloc::{AllocError, Global};
+use std::sync::Wait;
+use std::thread::Threads;
 use tx_store::Store;
 
 /// The place of a node of this number; one that is too great is none's.
@@ -390,11 +394,19 @@ fn print_history<B: Bay, F: FlowSet>(alloc: Global, net: &Net<B, F>) -> Result<R
 }
 
 /// Does what the words of a line ask for.
-fn serve<B: Bay, F: FlowSet, J: Judge>(
+fn serve<
+    B: Bay + Send,
+    F: FlowSet + Send + Sync,
+    J: Judge + Sync,
+    R: Threads + Wait + Sync,
+    G: Gate + Sync,
+>(
+    rt: &R,
     alloc: Global,
     net: &mut Net<B, F>,
     words: &[String],
     contracts: &J,
+    gate: &G,
 ) -> Result<Reply, AllocError>
     ensures serves { let ws = map (λ s. string_bytes s) words.now in
         KeepsWorld (meaning F.machine F.reading (J.judges contracts.now)) net.old net.new
@@ -470,6 +482,18 @@ fn serve<B: Bay, F: FlowSet, J: Judge>(
         Command::TxLine { node, name } => print_tx(alloc, net, place_of(node), &name),
         Command::History => print_history(alloc, net),
         Command::Load { seed, count } => load(alloc, net, seed, count, contracts),
+        Command::Workers {
+            workers,
+            turns,
+            seed,
+        } => {
+            let plan = Plan {
+                workers,
+                turns,
+                seed,
+            };
+            work(rt, alloc, net, plan, contracts, gate)
+        }
         Command::Quit => Ok(Reply::Quit),
         Command::Unknown => Ok(refused(Refusal::Syntax)),
     }
@@ -481,11 +505,19 @@ fn serve<B: Bay, F: FlowSet, J: Judge>(
 ///
 /// `AllocError` for want of memory. Nothing has changed then, but that a drain keeps the turns, posts and deliveries that it made, a
 /// load its starts and drains, and that a node which was to be booted has its power back.
-pub fn reply_to<B: Bay, F: FlowSet, J: Judge>(
+pub fn reply_to<
+    B: Bay + Send,
+    F: FlowSet + Send + Sync,
+    J: Judge + Sync,
+    R: Threads + Wait + Sync,
+    G: Gate + Sync,
+>(
+    rt: &R,
     alloc: Global,
     net: &mut Net<B, F>,
     line: &[u8],
     contracts: &J,
+    gate: &G,
 ) -> Result<Reply, AllocError>
     ensures replies { KeepsWorld (meaning F.machine F.reading (J.judges contracts.now)) net.old
         net.new (λ e w v. LineComes e w line.now result v) }
@@ -501,5 +533,5 @@ pub fn reply_to<B: Bay, F: FlowSet, J: Judge>(
         return Ok(refused(Refusal::Syntax));
     }
     let words = words_of(alloc, line)?;
-    serve(alloc, net, words.as_slice(), contracts)
+    serve(rt, alloc, net, words.as_slice(), contracts, gate)
 }

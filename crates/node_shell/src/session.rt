@@ -16,9 +16,11 @@ use super::streams::{next_byte, write_all};
 use contract_verify::Judge;
 use flow_machine::FlowSet;
 use network_core::Net;
-use outside::{Bay, Failed, Sink, Source};
+use outside::{Bay, Failed, Gate, Sink, Source};
 use shell_words::without_cr;
 use std::alloc::Global;
+use std::sync::Wait;
+use std::thread::Threads;
 
 /// The most bytes of a script.
 const MOST_BYTES: u64 = 16777216;
@@ -38,12 +40,21 @@ pub struct End {
 }
 
 /// Answers a line, and says whether it asked to quit.
-fn answer<B: Bay, F: FlowSet, K: Sink, J: Judge>(
+fn answer<
+    B: Bay + Send,
+    F: FlowSet + Send + Sync,
+    K: Sink,
+    J: Judge + Sync,
+    R: Threads + Wait + Sync,
+    G: Gate + Sync,
+>(
+    rt: &R,
     alloc: Global,
     net: &mut Net<B, F>,
     sink: &mut K,
     line: &[u8],
     contracts: &J,
+    gate: &G,
 ) -> Result<bool, Stop>
     ensures comes { AnswerComes (NetLink (meaning F.machine F.reading (J.judges contracts.now)))
         (NetShort (meaning F.machine F.reading (J.judges contracts.now))) net.old line.now
@@ -53,7 +64,7 @@ fn answer<B: Bay, F: FlowSet, K: Sink, J: Judge>(
     ensures cause { IsErrOf result Stop.Write → Rose (K.faults sink.old) (K.faults sink.new) }
     ensures later { K.faults sink.old ≤ K.faults sink.new }
 {
-    let Ok(reply) = reply_to(alloc, net, line, contracts) else {
+    let Ok(reply) = reply_to(rt, alloc, net, line, contracts, gate) else {
         return Err(Stop::Memory);
     };
     let Ok(text) = reply.to_string(alloc) else {
@@ -75,12 +86,21 @@ fn status_of(stop: Stop) -> Status
 }
 
 /// Answers the line that the input ends with, where there is one.
-fn answer_last<B: Bay, F: FlowSet, K: Sink, J: Judge>(
+fn answer_last<
+    B: Bay + Send,
+    F: FlowSet + Send + Sync,
+    K: Sink,
+    J: Judge + Sync,
+    R: Threads + Wait + Sync,
+    G: Gate + Sync,
+>(
+    rt: &R,
     alloc: Global,
     net: &mut Net<B, F>,
     sink: &mut K,
     line: &[u8],
     contracts: &J,
+    gate: &G,
 ) -> Status
     ensures ended { (start : NetSeen) (left0 left1 written0 : Option (List ℕ)) (count : ℕ)
         → count ≤ 16777216 → IsAtEnd left1
@@ -97,19 +117,28 @@ fn answer_last<B: Bay, F: FlowSet, K: Sink, J: Judge>(
     if line.is_empty() {
         return Status::Finished;
     }
-    match answer(alloc, net, sink, line, contracts) {
+    match answer(rt, alloc, net, sink, line, contracts, gate) {
         Ok(_) => Status::Finished,
         Err(stop) => status_of(stop),
     }
 }
 
 /// Answers a line that came to its end with the byte before; an `Err` ends the script.
-fn answer_line<B: Bay, F: FlowSet, K: Sink, J: Judge>(
+fn answer_line<
+    B: Bay + Send,
+    F: FlowSet + Send + Sync,
+    K: Sink,
+    J: Judge + Sync,
+    R: Threads + Wait + Sync,
+    G: Gate + Sync,
+>(
+    rt: &R,
     alloc: Global,
     net: &mut Net<B, F>,
     sink: &mut K,
     line: &[u8],
     contracts: &J,
+    gate: &G,
 ) -> Result<(), Status>
     ensures ok { OnOk result ((start : NetSeen) (left0 left1 left2 written0 : Option (List ℕ))
         (count : ℕ) → count < 16777216 → Consumes left1 left2 (10 ∷ [])
@@ -131,7 +160,7 @@ fn answer_line<B: Bay, F: FlowSet, K: Sink, J: Judge>(
         → Rose (K.faults sink.old) (K.faults sink.new) }
     ensures later { K.faults sink.old ≤ K.faults sink.new }
 {
-    match answer(alloc, net, sink, without_cr(line), contracts) {
+    match answer(rt, alloc, net, sink, without_cr(line), contracts, gate) {
         Ok(false) => Ok(()),
         Ok(true) => Err(Status::Finished),
         Err(stop) => Err(status_of(stop)),
@@ -139,7 +168,16 @@ fn answer_line<B: Bay, F: FlowSet, K: Sink, J: Judge>(
 }
 
 /// Takes the next byte, and answers the line that it ends; an `Err` ends the script.
-fn take_byte<B: Bay, F: FlowSet, S: Source, K: Sink, J: Judge>(
+fn take_byte<
+    B: Bay + Send,
+    F: FlowSet + Send + Sync,
+    S: Source,
+    K: Sink,
+    J: Judge + Sync,
+    R: Threads + Wait + Sync,
+    G: Gate + Sync,
+>(
+    rt: &R,
     alloc: Global,
     net: &mut Net<B, F>,
     line: &mut Vec<u8>,
@@ -147,6 +185,7 @@ fn take_byte<B: Bay, F: FlowSet, S: Source, K: Sink, J: Judge>(
     sink: &mut K,
     count: u64,
     contracts: &J,
+    gate: &G,
 ) -> Result<(), End>
     requires within { count ≤ 16777216 }
     ensures ok { OnOk result ((start : NetSeen) (left0 written0 : Option (List ℕ))
@@ -175,7 +214,7 @@ fn take_byte<B: Bay, F: FlowSet, S: Source, K: Sink, J: Judge>(
     let byte = match next_byte(source) {
         Ok(Some(byte)) => byte,
         Ok(None) => {
-            let status = answer_last(alloc, net, sink, line.as_slice(), contracts);
+            let status = answer_last(rt, alloc, net, sink, line.as_slice(), contracts, gate);
             return Err(End {
                 status,
                 bytes_read: count,
@@ -204,7 +243,7 @@ fn take_byte<B: Bay, F: FlowSet, S: Source, K: Sink, J: Judge>(
         }
         return Ok(());
     }
-    if let Err(status) = answer_line(alloc, net, sink, line.as_slice(), contracts) {
+    if let Err(status) = answer_line(rt, alloc, net, sink, line.as_slice(), contracts, gate) {
         return Err(End { status, bytes_read });
     }
     line.clear();
@@ -212,12 +251,22 @@ fn take_byte<B: Bay, F: FlowSet, S: Source, K: Sink, J: Judge>(
 }
 
 /// Answers the lines of a source, until it ends, a line asks to quit, or something fails.
-pub fn session<B: Bay, F: FlowSet, S: Source, K: Sink, J: Judge>(
+pub fn session<
+    B: Bay + Send,
+    F: FlowSet + Send + Sync,
+    S: Source,
+    K: Sink,
+    J: Judge + Sync,
+    R: Threads + Wait + Sync,
+    G: Gate + Sync,
+>(
+    rt: &R,
     alloc: Global,
     net: &mut Net<B, F>,
     source: &mut S,
     sink: &mut K,
     contracts: &J,
+    gate: &G,
 ) -> End
     ensures count { length net.new.nodes ≡ length net.old.nodes }
     ensures went { ScriptRun (NetLink (meaning F.machine F.reading (J.judges contracts.now)))
@@ -246,7 +295,9 @@ pub fn session<B: Bay, F: FlowSet, S: Source, K: Sink, J: Judge>(
 {
     let mut line = Vec::new(alloc);
     'bytes: for count in 0..MOST_BYTES + 1 {
-        if let Err(end) = take_byte(alloc, net, &mut line, source, sink, count, contracts) {
+        if let Err(end) = take_byte(
+            rt, alloc, net, &mut line, source, sink, count, contracts, gate,
+        ) {
             return end;
         }
     }

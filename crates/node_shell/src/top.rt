@@ -14,9 +14,11 @@ use contract_verify::Judge;
 use flow_machine::FlowSet;
 use net_base::Party;
 use network_core::Net;
-use outside::{Bay, Sink, Source};
+use outside::{Bay, Gate, Sink, Source};
 use shell_words::{NetworkWords, WordsFault, program_words};
 use std::alloc::Global;
+use std::sync::Wait;
+use std::thread::Threads;
 
 /// What a run leaves.
 #[derive(Drop)]
@@ -32,13 +34,23 @@ pub struct Ended<B: Bay> {
 }
 
 /// Plays the script over the nodes on their first disks, and gives the disks back.
-fn play<S: Source, K: Sink, B: Bay, F: FlowSet, J: Judge>(
+fn play<
+    R: Threads + Wait + Sync,
+    S: Source,
+    K: Sink,
+    B: Bay + Send,
+    F: FlowSet + Send + Sync,
+    J: Judge + Sync,
+    G: Gate + Sync,
+>(
+    rt: &R,
     alloc: Global,
     source: &mut S,
     sink: &mut K,
     network: NetworkWords,
     own: Vec<B>,
     contracts: &J,
+    gate: &G,
 ) -> (Status, u64, Vec<B>)
     requires within { IsNetwork network }
     requires disks { length own.items ≡ network.nodes }
@@ -76,7 +88,7 @@ fn play<S: Source, K: Sink, B: Bay, F: FlowSet, J: Judge>(
     match Net::<B, F>::begin(alloc, network.nodes, Party(network.notary), own) {
         Ok(net) => {
             let mut net = net;
-            let end = session(alloc, &mut net, source, sink, contracts);
+            let end = session(rt, alloc, &mut net, source, sink, contracts, gate);
             (end.status, end.bytes_read, net.into_disks())
         }
         Err(refused) => {
@@ -87,13 +99,23 @@ fn play<S: Source, K: Sink, B: Bay, F: FlowSet, J: Judge>(
 }
 
 /// Runs a script over this network on disks that were made ready: opens the nodes, and plays.
-fn run_ready<S: Source, K: Sink, B: Bay, F: FlowSet, J: Judge>(
+fn run_ready<
+    R: Threads + Wait + Sync,
+    S: Source,
+    K: Sink,
+    B: Bay + Send,
+    F: FlowSet + Send + Sync,
+    J: Judge + Sync,
+    G: Gate + Sync,
+>(
+    rt: &R,
     alloc: Global,
     network: NetworkWords,
     source: &mut S,
     sink: &mut K,
     disks: Vec<B>,
     contracts: &J,
+    gate: &G,
 ) -> Ended<B>
     requires within { IsNetwork network }
     requires disks { length disks.items ≡ 32 }
@@ -114,21 +136,31 @@ fn run_ready<S: Source, K: Sink, B: Bay, F: FlowSet, J: Judge>(
         return end_with(Status::NoMemory, disks, 0);
     };
     take_first(&mut disks, &mut own, nodes);
-    let (status, bytes_read, own) = play::<S, K, B, F, J>(
-        alloc, source, sink, network, own, contracts,
+    let (status, bytes_read, own) = play::<R, S, K, B, F, J, G>(
+        rt, alloc, source, sink, network, own, contracts, gate,
     );
     put_back(&mut disks, own);
     end_with(status, disks, bytes_read)
 }
 
 /// Runs a script over this network in memory: makes the disks of its nodes ready, opens the nodes, and plays.
-fn run_in_memory<S: Source, K: Sink, B: Bay, F: FlowSet, J: Judge>(
+fn run_in_memory<
+    R: Threads + Wait + Sync,
+    S: Source,
+    K: Sink,
+    B: Bay + Send,
+    F: FlowSet + Send + Sync,
+    J: Judge + Sync,
+    G: Gate + Sync,
+>(
+    rt: &R,
     alloc: Global,
     network: NetworkWords,
     source: &mut S,
     sink: &mut K,
     disks: Vec<B>,
     contracts: &J,
+    gate: &G,
 ) -> Ended<B>
     requires within { IsNetwork network }
     requires disks { length disks.items ≡ 32 }
@@ -146,12 +178,23 @@ fn run_in_memory<S: Source, K: Sink, B: Bay, F: FlowSet, J: Judge>(
     let mut disks = disks;
     match attach_all(alloc, None, &mut disks, network.nodes as usize) {
         Err(status) => end_with(status, disks, 0),
-        Ok(()) => run_ready::<S, K, B, F, J>(alloc, network, source, sink, disks, contracts),
+        Ok(()) => run_ready::<R, S, K, B, F, J, G>(
+            rt, alloc, network, source, sink, disks, contracts, gate,
+        ),
     }
 }
 
 /// Runs a script over this network on the files of a folder: makes the disks of its nodes ready there, opens the nodes, and plays.
-fn run_at_path<S: Source, K: Sink, B: Bay, F: FlowSet, J: Judge>(
+fn run_at_path<
+    R: Threads + Wait + Sync,
+    S: Source,
+    K: Sink,
+    B: Bay + Send,
+    F: FlowSet + Send + Sync,
+    J: Judge + Sync,
+    G: Gate + Sync,
+>(
+    rt: &R,
     alloc: Global,
     dir: &str,
     network: NetworkWords,
@@ -159,6 +202,7 @@ fn run_at_path<S: Source, K: Sink, B: Bay, F: FlowSet, J: Judge>(
     sink: &mut K,
     disks: Vec<B>,
     contracts: &J,
+    gate: &G,
 ) -> Ended<B>
     requires within { IsNetwork network }
     requires disks { length disks.items ≡ 32 }
@@ -177,12 +221,23 @@ fn run_at_path<S: Source, K: Sink, B: Bay, F: FlowSet, J: Judge>(
     let mut disks = disks;
     match attach_all(alloc, Some(dir), &mut disks, network.nodes as usize) {
         Err(status) => end_with(status, disks, 0),
-        Ok(()) => run_ready::<S, K, B, F, J>(alloc, network, source, sink, disks, contracts),
+        Ok(()) => run_ready::<R, S, K, B, F, J, G>(
+            rt, alloc, network, source, sink, disks, contracts, gate,
+        ),
     }
 }
 
 /// The same where the folder's name is owned.
-fn run_in_folder<S: Source, K: Sink, B: Bay, F: FlowSet, J: Judge>(
+fn run_in_folder<
+    R: Threads + Wait + Sync,
+    S: Source,
+    K: Sink,
+    B: Bay + Send,
+    F: FlowSet + Send + Sync,
+    J: Judge + Sync,
+    G: Gate + Sync,
+>(
+    rt: &R,
     alloc: Global,
     dir: String,
     network: NetworkWords,
@@ -190,6 +245,7 @@ fn run_in_folder<S: Source, K: Sink, B: Bay, F: FlowSet, J: Judge>(
     sink: &mut K,
     disks: Vec<B>,
     contracts: &J,
+    gate: &G,
 ) -> Ended<B>
     requires within { IsNetwork network }
     requires disks { length disks.items ≡ 32 }
@@ -205,7 +261,17 @@ fn run_in_folder<S: Source, K: Sink, B: Bay, F: FlowSet, J: Judge>(
           status = result.status;
         }) network }
 {
-    run_at_path::<S, K, B, F, J>(alloc, dir.as_str(), network, source, sink, disks, contracts)
+    run_at_path::<R, S, K, B, F, J, G>(
+        rt,
+        alloc,
+        dir.as_str(),
+        network,
+        source,
+        sink,
+        disks,
+        contracts,
+        gate,
+    )
 }
 
 /// Runs a script over a network of 1 to 16 nodes, line by line, and writes the answers.
@@ -217,20 +283,33 @@ fn run_in_folder<S: Source, K: Sink, B: Bay, F: FlowSet, J: Judge>(
 /// of it is a command, which has one answer line or, a query or a load, several; a blank line, one that begins with `#` and `quit` have none. The
 /// frames that wait when it ends are not kept.
 ///
-/// Over disks that show a coherent world the script is one way of the network together with that world (`scripts_are_ways`). So at every
-/// moment of it, also within any call of a disk in the middle of a line, whichever image a power loss leaves of each disk, the journals are
-/// those of one run, and what was acknowledged before stands there once. At every such moment, and after every line, the laws of
-/// `ledger_laws` hold of these journals (`story_laws::ledgers_hold_in_scripts`): each state has at most one consumer in the notary's book,
-/// each tag by the notary is over an id that the book signed, the back-chain of each recorded transaction is whole, and no two recorded
-/// transactions of different ids have an input in common, where the digests of what was hashed to sign them do not collide. Of the
-/// openings before it this is not said.
-pub fn run<S: Source, K: Sink, B: Bay, F: FlowSet, J: Judge>(
+/// Over disks that show a coherent world the script is one passage of the network together with that world (`scripts_are_passages`). So at
+/// every moment of it but those within a line `workers`, also within any call of a disk in the middle of a line, whichever image a power
+/// loss leaves of each disk, the journals are those of one run, and what was acknowledged before stands there once. At every such moment,
+/// and after every line, the laws of `ledger_laws` hold of these journals (`story_laws::ledgers_hold_in_scripts`): each state has at most
+/// one consumer in the notary's book, each tag by the notary is over an id that the book signed, the back-chain of each recorded
+/// transaction is whole, and no two recorded transactions of different ids have an input in common, where the digests of what was hashed
+/// to sign them do not collide. Of the openings before it this is not said; and of a moment within `workers` only what each disk alone may
+/// leave (`work_law::histories_last`).
+///
+/// The gate hears of what workers do. For a line `workers` the call may wait for locks, for inboxes and for threads.
+pub fn run<
+    R: Threads + Wait + Sync,
+    S: Source,
+    K: Sink,
+    B: Bay + Send,
+    F: FlowSet + Send + Sync,
+    J: Judge + Sync,
+    G: Gate + Sync,
+>(
+    rt: &R,
     alloc: Global,
     words: &[String],
     source: &mut S,
     sink: &mut K,
     disks: Vec<B>,
     contracts: &J,
+    gate: &G,
 ) -> Ended<B>
     requires { length disks.items ≡ 32 }
     ensures run { IsRun (meaning F.machine F.reading (J.judges contracts.now)) B.seen (record {
@@ -248,11 +327,11 @@ pub fn run<S: Source, K: Sink, B: Bay, F: FlowSet, J: Judge>(
         Ok(asked) => {
             let network = asked.network;
             match asked.dir {
-                None => run_in_memory::<S, K, B, F, J>(
-                    alloc, network, source, sink, disks, contracts,
+                None => run_in_memory::<R, S, K, B, F, J, G>(
+                    rt, alloc, network, source, sink, disks, contracts, gate,
                 ),
-                Some(dir) => run_in_folder::<S, K, B, F, J>(
-                    alloc, dir, network, source, sink, disks, contracts,
+                Some(dir) => run_in_folder::<R, S, K, B, F, J, G>(
+                    rt, alloc, dir, network, source, sink, disks, contracts, gate,
                 ),
             }
         }

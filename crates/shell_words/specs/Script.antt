@@ -9,7 +9,7 @@ use Rattle.net_base.specs.Numbers.{number_of}
 use Rattle.shell_words.specs.declared.commands.Command.{Command}
 use Rattle.shell_words.specs.declared.commands.TxName.{TxName}
 use Rattle.shell_words.specs.declared.commands.TxName.TheVariants.{Id, Place}
-use Rattle.shell_words.specs.declared.commands.Command.TheVariants.{Clock, Start, Turn, Post, Deliver, Repeat, Lose, Cut, Boot, Drain, Flows, Flow, Vault, Balance, Book, TxLine, History, Load, Quit, Unknown}
+use Rattle.shell_words.specs.declared.commands.Command.TheVariants.{Clock, Start, Turn, Post, Deliver, Repeat, Lose, Cut, Boot, Drain, Flows, Flow, Vault, Balance, Book, TxLine, History, Load, Workers, Quit, Unknown}
 
 -- ---- lines
 
@@ -154,6 +154,17 @@ cut_of (Some node) None outcome = Unknown
 cut_of (Some node) (Some calls) None = Unknown
 cut_of (Some node) (Some calls) (Some outcome) = if nat_le outcome 3 then Cut node calls outcome else Unknown
 
+-- 1 to 16 workers, with 1 to 10,000 turns each
+abbrev pub plan_of : ℕ → ℕ → ℕ → Command
+plan_of workers turns seed = if ((nat_le 1 workers && nat_le workers 16) && nat_le 1 turns) && nat_le turns 10000 then Workers workers turns seed else Unknown
+
+-- `workers` with how many there are, how many turns each makes, and a seed
+abbrev pub workers_of : Option ℕ → Option ℕ → Option ℕ → Command
+workers_of None turns seed = Unknown
+workers_of (Some workers) None seed = Unknown
+workers_of (Some workers) (Some turns) None = Unknown
+workers_of (Some workers) (Some turns) (Some seed) = plan_of workers turns seed
+
 -- `boot` with a node
 abbrev pub boot_of : Option ℕ → Command
 boot_of None = Unknown
@@ -247,9 +258,12 @@ frame_words w n m =
 abbrev pub three_words : List ℕ → List ℕ → List ℕ → Command
 three_words w n m = if bytes_eq w (codes "turn") then picked_turn_of (number_of n) (number_of m) else if bytes_eq w (codes "flow") then flow_of (number_of n) (number_of m) else if bytes_eq w (codes "tx") then tx_of (number_of n) (tx_name m) else frame_words w n m
 
--- what four words ask for: `cut N CALLS OUTCOME` or `start N CLASS ARG`
+-- what four words ask for: `cut N CALLS OUTCOME`, `workers W T SEED` or `start N CLASS ARG`
 abbrev pub four_words : List ℕ → List ℕ → List ℕ → List ℕ → Command
-four_words w n m k = if bytes_eq w (codes "cut") then cut_of (number_of n) (number_of m) (number_of k) else many_words w n
+four_words w n m k =
+    if bytes_eq w (codes "cut") then cut_of (number_of n) (number_of m) (number_of k)
+    else if bytes_eq w (codes "workers") then workers_of (number_of n) (number_of m) (number_of k)
+    else many_words w n
 
 -- what words ask for, by their count
 abbrev pub command_of : List (List ℕ) → Command
@@ -289,6 +303,7 @@ asks_quit Book = false
 asks_quit (TxLine node name) = false
 asks_quit History = false
 asks_quit (Load seed count) = false
+asks_quit (Workers workers turns seed) = false
 asks_quit Quit = true
 asks_quit Unknown = false
 

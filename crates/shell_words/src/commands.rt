@@ -1,5 +1,5 @@
 ghost use Rattle.std.specs.Prelude.{◌≡◌, map, string_bytes, nat_le, if◌then◌else◌, Some, None};
-ghost use Rattle.shell_words.specs.Script.{asked, one_word, ledger_words, two_words, load_words, frame_words, three_words, four_words, many_words, command_of};
+ghost use Rattle.shell_words.specs.Script.{asked, one_word, ledger_words, two_words, load_words, frame_words, three_words, four_words, plan_of, many_words, command_of};
 
 use super::words::tx_name;
 use net_base::{Hash32, number};
@@ -52,6 +52,8 @@ pub enum Command {
     History,
     /// `load SEED COUNT`: payments between the nodes, drawn from the seed. The count is at most 1,000.
     Load { seed: u64, count: u64 },
+    /// `workers W T SEED`: W workers, 1 to 16, make T turns each, 1 to 10,000, side by side; what they do is drawn from the seed.
+    Workers { workers: u8, turns: u32, seed: u64 },
     /// `quit`.
     Quit,
     /// Any other words.
@@ -185,8 +187,26 @@ fn four_words(word: &str, node: &str, calls: &str, outcome: &str) -> Option<Comm
             calls,
             outcome,
         })
+    } else if word == "workers" {
+        let (workers, turns, seed) = (number(node)?, number(calls)?, number(outcome)?);
+        plan_of(workers, turns, seed)
     } else {
         many_words(word, node)
+    }
+}
+
+/// Workers, as many as may be, with as many turns.
+fn plan_of(workers: u64, turns: u64, seed: u64) -> Option<Command>
+    ensures { asked result ≡ plan_of workers turns seed }
+{
+    if 1 <= workers && workers <= 16 && 1 <= turns && turns <= 10_000 {
+        Some(Command::Workers {
+            workers: workers as u8,
+            turns: turns as u32,
+            seed,
+        })
+    } else {
+        None
     }
 }
 

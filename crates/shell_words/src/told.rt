@@ -39,6 +39,7 @@ const COMMANDS: &str =
   tx N ID             tells a transaction, by its id or by #K, the K-th recorded
   history             tells the transitions of the run
   load SEED COUNT     issues cash to each node but the notary, and makes COUNT payments, drawn from SEED
+  workers W T SEED    has W threads make T turns each at the nodes, drawn from SEED
   quit                ends the script
 A line that begins with # has no answer.
 

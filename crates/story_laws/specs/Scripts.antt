@@ -6,7 +6,7 @@ use Rattle.net_model.specs.Environment.{environment, party, Meaning}
 use Rattle.network_core.specs.Begins.{member}
 use Rattle.network_core.specs.Drains.{Pair}
 use Rattle.network_core.specs.Moments.{Instant, IsChoice}
-use Rattle.network_core.specs.Ways.{Way, IsOn}
+use Rattle.work_law.specs.Passages.{Passage, IsPassed}
 use Rattle.network_core.specs.Worlds.{Choice}
 use Rattle.shell_words.specs.Program.{IsNetwork}
 use Rattle.shell_words.specs.declared.program.NetworkWords.{NetworkWords}
@@ -15,10 +15,10 @@ use Rattle.node_shell.specs.Story.{ScriptRun}
 use Rattle.node_shell.specs.Together.{PairLink, PairShort, EndComesBy}
 use Rattle.ledger_laws.specs.Places.{Fact}
 
--- a fact of all journals holds at every moment of a way, whichever images power cuts leave of the disks, and of each world that is passed, whichever journals they leave of it
+-- a fact of all journals holds at every moment on a passage, whichever images power cuts leave of the disks, and of each world that is passed, whichever journals they leave of it
 pub record Throughout {F : Type 0} (m : Meaning F) (fact : Fact F) (id : Identity) (a b : Pair (environment m id)) (passes : Pair (environment m id) → Type 0) : Type 0 where
-  pub way : Way m id a b
-  pub moments : (s : Instant) (images : List (List ℕ)) → IsOn way s → IsChoice s images → fact (environment m id) (map journal_of images)
+  pub passage : Passage m id a b
+  pub moments : (s : Instant) (images : List (List ℕ)) → IsPassed passage s → IsChoice s images → fact (environment m id) (map journal_of images)
   pub worlds : (u : Pair (environment m id)) (lists : List (List (List ℕ))) → passes u → Choice u.world lists → fact (environment m id) lists
 
 -- the identity by which the network of these words is known

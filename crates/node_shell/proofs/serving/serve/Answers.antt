@@ -5,7 +5,7 @@ use Rattle.shell_words.specs.declared.commands.Command.TheVariants as command
 use Rattle.node_shell.specs.Serve.{place_of, flow_of, frame_of}
 use Rattle.node_shell.specs.Responds.{given}
 use Rattle.node_shell.proofs.Asked.{made, answered, asked_as, asked_responds, shown_responds}
-use Rattle.node_shell.proofs.Loaded.{load_comes}
+use Rattle.node_shell.proofs.Loaded.{load_comes, work_comes}
 use Rattle.node_shell.proofs.serving.serve.Goals as goal
 
 pub returns-in-Clock-clause-serves : goal.returns-in-Clock-clause-serves
@@ -277,3 +277,16 @@ returns-in-Load-clause-responds g c =
     let m = meaning g.F.FlowSet.machine g.F.Spelt.reading (g.J.Judge.judges c.args.contracts.now) in
     let ws = map (λ s. string_bytes s) c.args.words.now in
     asked_responds m c.args.net.now c.load.new.net (command.Load c.in-Load.seed c.in-Load.count) ws (given c.load.result) c.in-Load.ensures c.load.ensures.goes
+
+pub returns-in-Workers-clause-serves : goal.returns-in-Workers-clause-serves
+returns-in-Workers-clause-serves g c =
+    let m = meaning g.F.FlowSet.machine g.F.Spelt.reading (g.J.Judge.judges c.args.contracts.now) in
+    let ws = map (λ s. string_bytes s) c.args.words.now in
+    asked_as m c.args.net.now c.work.new.net (command.Workers c.in-Workers.workers c.in-Workers.turns c.in-Workers.seed) ws c.work.result c.in-Workers.ensures
+    (work_comes m c.args.net.now c.work.new.net c.in-Workers.workers c.in-Workers.turns c.in-Workers.seed ws c.work.result c.work.ensures.goes)
+
+pub returns-in-Workers-clause-responds : goal.returns-in-Workers-clause-responds
+returns-in-Workers-clause-responds g c =
+    let m = meaning g.F.FlowSet.machine g.F.Spelt.reading (g.J.Judge.judges c.args.contracts.now) in
+    let ws = map (λ s. string_bytes s) c.args.words.now in
+    asked_responds m c.args.net.now c.work.new.net (command.Workers c.in-Workers.workers c.in-Workers.turns c.in-Workers.seed) ws (given c.work.result) c.in-Workers.ensures c.work.ensures.goes
