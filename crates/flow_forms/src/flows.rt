@@ -244,7 +244,7 @@ impl<A: Flows, B: Flows> Flows for Sum<A, B> {
 }
 
 /// Tells a proof that the items of a list of bytes are bytes. It does nothing when it runs.
-fn known_bytes(bytes: &[u8])
+fn law_known_bytes(bytes: &[u8])
     ensures { IsBytes bytes.now }
 {
     let _length = bytes.len();
@@ -338,7 +338,7 @@ impl<P: Numbered, S: Machine<P>, W: Begins<P, S>> Flows for Frame<P, S, W> {
         args: &ByteList,
         here: &Place,
     ) -> Result<(Frame<P, S, W>, Act<Call>), MakeFault> {
-        known_bytes(args.as_slice());
+        law_known_bytes(args.as_slice());
         let fields = W::make(alloc, class, args, here)?;
         Ok(begin(alloc, fields, here)?)
     }

@@ -42,7 +42,7 @@ fn flow_for<F: FlowSet>(
     let Body::Init { class, .. } = init else {
         return Ok(None);
     };
-    now.known();
+    now.law_known();
     match F::initiated(alloc, *class, key, &place_of(identity, number, 0, now)) {
         Ok((top, waiting)) => {
             let state = first_state(alloc, number, *class, top, waiting)?;

@@ -75,7 +75,7 @@ fn push<F: FlowSet>(
         identity.now.party.0 cause.moment.0 at.now frame.now) step) }
     ensures cause { IfOk result (λ step. step.cause ≡ cause) }
 {
-    cause.moment.known();
+    cause.moment.law_known();
     let state = call(alloc, identity, cause.moment, at, frame)?;
     let session = unchanged(alloc, at.flow);
     Ok(step_of(alloc, cause, at.flow, state, session))
@@ -130,7 +130,7 @@ fn give_back<F: FlowSet>(
         identity.now.party.0 s cause.moment.0 at.now value.now at.now.stack.below) step) }
     ensures cause { IfOk result (λ step. step.cause ≡ cause) }
 {
-    cause.moment.known();
+    cause.moment.law_known();
     let state = hand_down(alloc, identity, cause.moment, at, value)?;
     if at.stack.depth() == 1 {
         let last = Body::End;

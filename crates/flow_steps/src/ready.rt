@@ -41,7 +41,7 @@ pub(crate) fn live_at<F: Drop>(flows: &Flows<F>, number: u32) -> Option<&Checkpo
 }
 
 /// Tells a proof that these are bytes. It does nothing when it runs.
-fn known_bytes(bytes: &[u8])
+fn law_known_bytes(bytes: &[u8])
     ensures { IsBytes bytes.now }
 {
     let _ = bytes;
@@ -94,8 +94,8 @@ pub fn begin<F: FlowSet>(
     let Ok(copy) = args.copy(alloc) else {
         return Err(MakeFault::Memory);
     };
-    known_bytes(args.as_slice());
-    now.known();
+    law_known_bytes(args.as_slice());
+    now.law_known();
     let (top, waiting) = F::make(alloc, class, args, &place_of(identity, number, 0, now))?;
     let state = match first_state(alloc, number, class, top, waiting) {
         Ok(state) => state,

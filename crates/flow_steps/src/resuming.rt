@@ -60,7 +60,7 @@ fn resumed<F: FlowSet>(
         (place (environment (unjudged F.machine F.reading) identity.now) identity.now.party.0
         at.now.flow at.now.step now.0)) }
 {
-    now.known();
+    now.law_known();
     let here = place_of(identity, at.flow, at.step, now);
     frame.resume(alloc, with, &here)
 }

@@ -92,7 +92,7 @@ fn go_on<F: FlowSet>(
         cause.moment.0 at.now (with, whole_part session ledger))) }
     ensures cause { IfOk result (λ step. step.cause ≡ cause) }
 {
-    cause.moment.known();
+    cause.moment.law_known();
     let state = resume(alloc, identity, cause.moment, at, &with);
     let_go(with);
     step_with(cause, at.flow, state, session, ledger)

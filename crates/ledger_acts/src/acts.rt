@@ -13,7 +13,7 @@ use crate::outcome::{LedgerOutcome, resumed};
 use flow_machine::Resumed;
 use ledger_tables::LedgerTables;
 use ledger_types::{Entry, Held, LedgerChange, NotaryAnswer, RefList, Request, Visible, WireTx};
-use net_base::{Boxed, Hash32, Identity, ListOf, Moment, Tag, Token, Unlimited, known_items};
+use net_base::{Boxed, Hash32, Identity, ListOf, Moment, Tag, Token, Unlimited, law_known_items};
 use notary_book::Decision;
 use signing::{KeyedDigest, Signer};
 use std::alloc::{AllocError, Global};
@@ -30,7 +30,7 @@ fn references(alloc: Global, coins: &[Held]) -> Result<RefList, AllocError>
     for coin in coins {
         list.push(coin.reference)?;
     }
-    known_items(list.as_slice());
+    law_known_items(list.as_slice());
     Ok(list)
 }
 
@@ -98,7 +98,7 @@ pub fn missing(
     ensures limits { IfOk result (IsOutcome flow) }
 {
     let list = ledger.store().missing(alloc, tx)?;
-    known_items(list.as_slice());
+    law_known_items(list.as_slice());
     Ok(resumed(alloc, flow, Resumed::Ids { list }))
 }
 
@@ -112,8 +112,8 @@ pub fn sign(alloc: Global, identity: &Identity, flow: u32, id: Hash32) -> Ledger
         return resumed(alloc, flow, Resumed::Refused { code: 46 });
     }
     let mark = KeyedDigest.mark(identity.party, &id);
-    id.known();
-    mark.known();
+    id.law_known();
+    mark.law_known();
     let tag = Tag {
         by: identity.party,
         of: id,

@@ -19,7 +19,7 @@ use notary_book::Book;
 use std::alloc::{AllocError, Global};
 use std::marker::Model;
 use tx_store::Store;
-use vault::{Vault, holds_each_once};
+use vault::{Vault, law_holds_each_once};
 
 /// The recorded transactions, the vault over them and the notary's book. At every moment the vault holds exactly what the
 /// recorded transactions leave its party, and each entry of the book is within its limits.
@@ -75,7 +75,7 @@ impl LedgerTables {
             (untagged self.now.store.list) self.now.vault.held }
         ensures once { has_repeat ref_eq (references_of self.now.vault.held) ≡ false }
     {
-        holds_each_once();
+        law_holds_each_once();
         &self.vault
     }
 

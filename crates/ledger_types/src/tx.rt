@@ -235,9 +235,9 @@ impl Spelt for Window {
 }
 
 impl Unlimited for Window {
-    fn known(&self) {
-        self.from.known();
-        self.until.known();
+    fn law_known(&self) {
+        self.from.law_known();
+        self.until.law_known();
     }
 }
 

@@ -28,7 +28,7 @@ pub use boxed::Boxed;
 pub use bytes16::{read_bytes16, write_bytes16};
 pub use causes::{Cause, CauseList, Event, NodeCauseList};
 pub use fault::{DecodeFault, PartFault};
-pub use known::{Unlimited, known_items};
+pub use known::{Unlimited, law_known_items};
 pub use list::{ByteList, ListOf, TryCopy};
 pub use names::{Identity, Key, StateRef, Tag, Token};
 pub use numbers::number;

@@ -37,7 +37,7 @@ impl<D: Disk, F: FlowSet> Up<D, F> {
         ensures { result ≡ is_some (awaited_in identity.now
             (state_of F.reading self.now.bodies) event.now) }
     {
-        self.tables.kept();
+        self.tables.law_kept();
         let flows = self.tables.flows();
         let ledger = self.tables.ledger();
         awaits_job(identity, ledger, flows, event)
@@ -64,7 +64,7 @@ impl<D: Disk, F: FlowSet> Up<D, F> {
         ensures { result ≡ free_there identity.now
             (state_of F.reading self.now.bodies) claims.now now.0 number }
     {
-        self.tables.kept();
+        self.tables.law_kept();
         if number < self.idle.below_at(now) {
             return None;
         }
@@ -111,7 +111,7 @@ impl<D: Disk, F: FlowSet> Up<D, F> {
             (environment (unjudged F.machine F.reading) identity.now) now.0
             (Some (flow_in e)) self.now.bodies ≡ Some e) }
     {
-        self.tables.kept();
+        self.tables.law_kept();
         let flows = self.tables.flows();
         match pick {
             Some(number) => self.free_event(identity, claims, now, number),
@@ -137,7 +137,7 @@ impl<D: Disk, F: FlowSet> Up<D, F> {
             (Some (flow_in p.event)) self.now.bodies ≡ Some p.event) }
         ensures idle { IfSome result (λ p. AreIdle (state_of F.reading self.now.bodies) p.idle) }
     {
-        self.tables.kept();
+        self.tables.law_kept();
         if claims.is_empty() {
             return self.pick(now, pick);
         }
@@ -166,7 +166,7 @@ impl<D: Disk, F: FlowSet> Up<D, F> {
         ensures moves { IfOk result (λ job. IfSome job (λ j. event.now ≡ Move j.flow)) }
         ensures limits { IfOk result (λ job. IfSome job IsJob) }
     {
-        self.tables.kept();
+        self.tables.law_kept();
         let _ = now;
         let flows = self.tables.flows();
         let ledger = self.tables.ledger();
@@ -211,7 +211,7 @@ impl<D: Disk, F: FlowSet> Up<D, F> {
         ensures refused { IfErr result (NotAwaited identity.now
             (state_of F.reading self.now.bodies) job.now) }
     {
-        self.tables.kept();
+        self.tables.law_kept();
         if at.step != job.step {
             return Err(SettleFault::Stale {
                 have: Some(at.step),
@@ -272,7 +272,7 @@ impl<D: Disk, F: FlowSet> Up<D, F> {
             identity.now.party.0 cause.moment.0 F.within
             (state_of F.reading self.now.bodies) None step) }
     {
-        self.tables.kept();
+        self.tables.law_kept();
         let flows = self.tables.flows();
         let sessions = self.tables.sessions();
         let ledger = self.tables.ledger();
@@ -334,7 +334,7 @@ impl<D: Disk, F: FlowSet> Up<D, F> {
             identity.now) identity.now.party.0 cause.moment.0 F.within
             (state_of F.reading self.now.bodies) None step) }
     {
-        self.tables.kept();
+        self.tables.law_kept();
         let _ = contracts;
         let flows = self.tables.flows();
         settle(alloc, identity, flows, cause, done)

@@ -118,7 +118,7 @@ impl<D: Disk, F: FlowSet> Up<D, F> {
             → Tied identity.now self.new.journal self.new.bodies }
         ensures by { (state_of F.reading self.new.bodies).moment ≤ now.0 }
     {
-        self.known_next(identity, &item);
+        self.law_known_next(identity, &item);
         if self.is_full(item.stamp) {
             drop(item);
             return Err(TakeFault::Full);

@@ -138,7 +138,7 @@ impl<D: Disk, F: Spelt + Drop> Up<D, F> {
         ensures further { IfOk result (λ said.
             GoesFurther identity.now (state_of F.reading self.now.bodies).sessions said) }
     {
-        self.tables.kept();
+        self.tables.law_kept();
         judge(alloc, identity, self.tables.sessions(), bytes)
     }
 
@@ -162,7 +162,7 @@ impl<D: Disk, F: Spelt + Drop> Up<D, F> {
             (unacked self.now.journal.of.party
             (state_of F.reading self.now.bodies).sessions self.now.acked) }
     {
-        self.tables.kept();
+        self.tables.law_kept();
         frames_to_send(alloc, self.tables.party(), self.tables.sessions())
     }
 
@@ -211,7 +211,7 @@ impl<D: Disk, F: FlowSet> Up<D, F> {
             ≡ picked_at (environment (unjudged F.machine F.reading) id) now.0 pick self.now.bodies }
         ensures idle { IfSome result (λ p. AreIdle (state_of F.reading self.now.bodies) p.idle) }
     {
-        self.tables.kept();
+        self.tables.law_kept();
         let flows = self.tables.flows();
         let sessions = self.tables.sessions();
         let event = pick_event(flows, sessions, now, pick, self.idle.below_at(now))?;
@@ -253,7 +253,7 @@ impl<D: Disk, F: FlowSet> Up<D, F> {
             identity.now) identity.now.party.0 cause.moment.0 F.within
             (state_of F.reading self.now.bodies) None step) }
     {
-        self.tables.kept();
+        self.tables.law_kept();
         let flows = self.tables.flows();
         let sessions = self.tables.sessions();
         let ledger = self.tables.ledger();
@@ -345,7 +345,7 @@ impl<D: Disk, F: FlowSet> Up<D, F> {
     }
 
     /// Tells a proof that an item which comes next has another number behind its own. It does nothing when it runs.
-    pub fn known_next(&self, identity: &Identity, item: &Item)
+    pub fn law_known_next(&self, identity: &Identity, item: &Item)
         requires { IsNextItem identity.now
             (state_of F.reading self.now.bodies).sessions item.now.peer item.now.key
             item.now.direction item.now.number item.now.stamp item.now.body }
@@ -353,7 +353,7 @@ impl<D: Disk, F: FlowSet> Up<D, F> {
     {
         let _ = identity;
         let _ = item;
-        self.tables.kept();
+        self.tables.law_kept();
     }
 
     /// The step by which an item that comes next is accepted. The only error is want of memory.
@@ -418,8 +418,8 @@ impl<D: Disk, F: FlowSet> Up<D, F> {
             now.0 step.cause.event item self.old result self.new }
         ensures by { (state_of F.reading self.new.bodies).moment ≤ now.0 }
     {
-        self.tables.kept();
-        now.known();
+        self.tables.law_kept();
+        now.law_known();
         let idle = self.idle.after(&step.cause.event);
         match log(alloc, &mut self.journal, &mut self.tables, &step) {
             Ok(body) => {

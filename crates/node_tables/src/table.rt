@@ -381,7 +381,7 @@ impl<F: Spelt + Drop> NodeTables<F> {
     }
 
     /// Tells a proof what the tables keep. It does nothing when it runs.
-    pub fn kept(&self)
+    pub fn law_kept(&self)
         ensures few { length self.now.bodies ≤ 65536 }
         ensures numbered { AreNumbered 0 (state_of F.reading self.now.bodies).flows }
         ensures sound { IsSound self.now.party.0 (state_of F.reading self.now.bodies) }

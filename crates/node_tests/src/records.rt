@@ -45,7 +45,7 @@ fn the_ledger_is_that_of_the_records(rt: HostRuntime) -> Result<(), Fail> {
         assert!(rt; false);
         return Ok(());
     };
-    tables.kept();
+    tables.law_kept();
     let ledger = tables.ledger();
     let counts = (ledger.store().count(), ledger.book().entries().len());
     let states = states(rt.alloc(), ledger);

@@ -137,7 +137,7 @@ impl Store {
         ensures limits { IfOk result IsResolved }
         ensures lengths { IfOk result (HasEach tx.now) }
     {
-        self.keeps_limits();
+        self.law_keeps_limits();
         Ok(Resolved {
             inputs: self.states(alloc, tx.inputs.as_slice())?,
             references: self.states(alloc, tx.references.as_slice())?,
@@ -249,7 +249,7 @@ impl Store {
 
     /// The law of the store, which takes no work: its transactions were recorded in order, and all ids that lead back
     /// along the back-chain of a stored transaction are stored.
-    pub fn keeps_back_chains(&self)
+    pub fn law_keeps_back_chains(&self)
         ensures in_order { is_in_order self.now.list ≡ true }
         ensures back_chains { (id : Id) (ids : List Id)
             → leads_back self.now.list (stored_of self.now.list id) ids ≡ true
@@ -260,7 +260,7 @@ impl Store {
 
     /// The law that each transaction of the store is within its limits, with its tags, so that it can be spelt. It takes no
     /// work.
-    pub fn keeps_limits(&self)
+    pub fn law_keeps_limits(&self)
         ensures { AreWithin self.now.list }
     {
         let _ = &self.map;

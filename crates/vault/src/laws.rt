@@ -10,7 +10,7 @@ ghost use Rattle.ledger_types.specs.Vaults.{Lock};
 ghost use Rattle.vault.specs.Holdings.{references_of, IsVault};
 
 /// A vault over recorded transactions holds no state twice.
-pub fn holds_each_once()
+pub fn law_holds_each_once()
     ensures { (me : Party) (recorded : List (Hash32 × Tx)) (locks : List Lock) (held : List Held)
         → IsVault me recorded locks held → has_repeat ref_eq (references_of held) ≡ false }
 {}

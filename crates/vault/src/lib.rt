@@ -8,5 +8,5 @@ mod states;
 mod vault;
 
 pub use fault::ReserveFault;
-pub use laws::holds_each_once;
+pub use laws::law_holds_each_once;
 pub use vault::Vault;

@@ -24,7 +24,7 @@ use std::marker::Model;
 
 /// The unconsumed states that are relevant to a party, in order of recording and then of place, each with the flow that has it
 /// soft-locked, and each within its limits. What was consumed is not kept: the list is of unconsumed states alone.
-// Each call but `new`, `make_room` and `keeps_limits` goes through the states; `reserve` until it has found 64 coins.
+// Each call but `new`, `make_room` and `law_keeps_limits` goes through the states; `reserve` until it has found 64 coins.
 #[derive(Drop)]
 pub struct Vault {
     party: Party,
@@ -92,7 +92,7 @@ impl Vault {
             → may_note recorded id.now tx.now ≡ true
             → IsVault self.old.party (recorded ++ (id.now, tx.now) ∷ []) locks self.new.held }
     {
-        id.known();
+        id.law_known();
         remove_consumed(&mut self.states, tx.inputs.as_slice());
         add_relevant(&mut self.states, self.party, id, tx.outputs.as_slice());
     }
@@ -156,7 +156,7 @@ impl Vault {
         ensures limits { IfOk result (ListWithin 64 IsHeld) }
         ensures fault { IfErr result (Refuses token.now amount self.now.held) }
     {
-        self.keeps_limits();
+        self.law_keeps_limits();
         self.first_worth(alloc, token, amount)
     }
 
@@ -208,7 +208,7 @@ impl Vault {
     }
 
     /// The law that each state of the vault is within its limits and relevant to the party. It takes no work.
-    pub fn keeps_limits(&self)
+    pub fn law_keeps_limits(&self)
         ensures limits { AllByRecursion IsHeld self.now.held }
         ensures relevant { list_all (is_own self.now.party) self.now.held ≡ true }
     {

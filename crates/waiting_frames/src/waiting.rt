@@ -115,7 +115,7 @@ impl Waiting {
     }
 
     /// The law of waiting frames, which takes no work: no two of them are equal.
-    pub fn holds_each_once(&self)
+    pub fn law_holds_each_once(&self)
         ensures { waits_once self.now.frames ≡ true }
     {
         let _ = &self.frames;

@@ -119,7 +119,7 @@ fn turn_one(waiting: &mut Waiting)
     ensures frames { waiting.new.frames ≡ turned waiting.old.frames }
     ensures room { waiting.old.room ≤ waiting.new.room + 1 }
 {
-    waiting.holds_each_once();
+    waiting.law_holds_each_once();
     if let Some(frame) = waiting.remove(0) {
         waiting.join(frame);
     }

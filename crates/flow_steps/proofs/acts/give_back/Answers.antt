@@ -16,14 +16,14 @@ returns-clause-becomes g c = λ s same.
     let id = c.args.identity.now in
     let deep : 0 < length at.stack.below = grind (arith, c.if-depth-eq1.false, c.depth.ensures.count) in
     rw c.step_of.ensures (returned_becomes (environment (unjudged g.F.FlowSet.machine g.F.Spelt.reading) id) id.party.0 c.args.cause.moment.0 g.F.Spelt.within at c.args.cause s c.in_ok-state.state c.unchanged-session.result c.args.value.now c.in_ok-state.ensures c.unchanged-session.ensures
-    (returned_limits g.F.FlowSet.machine g.F.Spelt.reading g.F.Spelt.within g.met.F.FlowSet.keeps_limits id c.requires.identity c.args.cause.moment c.known.ensures at c.requires.limits c.requires.step c.args.value.now c.requires.value)
+    (returned_limits g.F.FlowSet.machine g.F.Spelt.reading g.F.Spelt.within g.met.F.FlowSet.keeps_limits id c.requires.identity c.args.cause.moment c.law_known.ensures at c.requires.limits c.requires.step c.args.value.now c.requires.value)
     deep)
 
 pub end-step-requires-clause-limits : goal.end-step-requires-clause-limits
 end-step-requires-clause-limits g c =
     let at = c.args.at.now in
     let id = c.args.identity.now in (
-      subst (IsFlow g.F.Spelt.within) (sym c.in_ok-state.ensures) (returned_limits g.F.FlowSet.machine g.F.Spelt.reading g.F.Spelt.within g.met.F.FlowSet.keeps_limits id c.requires.identity c.args.cause.moment c.known.ensures at c.requires.limits c.requires.step c.args.value.now c.requires.value),
+      subst (IsFlow g.F.Spelt.within) (sym c.in_ok-state.ensures) (returned_limits g.F.FlowSet.machine g.F.Spelt.reading g.F.Spelt.within g.met.F.FlowSet.keeps_limits id c.requires.identity c.args.cause.moment c.law_known.ensures at c.requires.limits c.requires.step c.args.value.now c.requires.value),
       subst (IsNumbered at.flow) (sym c.in_ok-state.ensures) (returned_numbered (environment (unjudged g.F.FlowSet.machine g.F.Spelt.reading) id) id.party.0 c.args.cause.moment.0 at c.args.value.now at.stack.below),
     )
 

@@ -14,8 +14,8 @@ returns g c = λ s same.
     let id = c.args.identity.now in
     let here = c.place_of.result in
     let made : m.made c.args.class c.args.args.now here ≡ Ok (c.in_ok-top.top, c.in_ok-top.waiting) = c.in_ok-top.ensures in
-    let limits = subst (λ at. IsPlace at) (sym c.place_of.ensures) (place_limits id c.args.number 0 c.args.now c.requires c.ranges.number.fits (omega arith) c.known.ensures) in
-    let within : AreWithin g.F.Spelt.within (c.in_ok-top.top, c.in_ok-top.waiting) = g.met.F.FlowSet.keeps_limits.made c.args.class c.args.args.now here (c.in_ok-top.top, c.in_ok-top.waiting) (rw c.as_slice.ensures at c.known_bytes.ensures) limits made in
+    let limits = subst (λ at. IsPlace at) (sym c.place_of.ensures) (place_limits id c.args.number 0 c.args.now c.requires c.ranges.number.fits (omega arith) c.law_known.ensures) in
+    let within : AreWithin g.F.Spelt.within (c.in_ok-top.top, c.in_ok-top.waiting) = g.met.F.FlowSet.keeps_limits.made c.args.class c.args.args.now here (c.in_ok-top.top, c.in_ok-top.waiting) (rw c.as_slice.ensures at c.law_known_bytes.ensures) limits made in
     let short : length c.args.args.now ≤ 65535 = of_ok _ (m.made c.args.class c.args.args.now here) _ made (g.met.F.FlowSet.args_are_short.made c.args.class c.args.args.now here) in
     let at_place = rw c.place_of.ensures at made in
     rw (c.step_of.ensures, c.in-Ok.ensures, c.in-Ok-first_state.ensures) (

@@ -18,7 +18,7 @@ returns-clause-becomes g c =
     IfOk-weaker c.step_with.result (λ step. step ≡ changed_by c.args.cause at.flow new c.args.session c.args.ledger) (Becomes g.F.Spelt.within (goes_on w id.party.0 now at (c.args.with, whole_part c.args.session c.args.ledger)))
     (λ step is. subst (Becomes g.F.Spelt.within (goes_on w id.party.0 now at (c.args.with, whole_part c.args.session c.args.ledger))) (sym is)
     (gone_becomes w id.party.0 now g.F.Spelt.within at c.args.cause new c.args.with c.args.session c.args.ledger refl
-    (gone_limits g.F.FlowSet.machine g.F.Spelt.reading g.F.Spelt.within g.met.F.FlowSet.keeps_limits id c.requires.identity c.args.cause.moment c.known.ensures at c.requires.limits c.requires.step at.stack.top at.stack.below c.args.with stack.0 stack.1.0 stack.1.1 c.requires.with)
+    (gone_limits g.F.FlowSet.machine g.F.Spelt.reading g.F.Spelt.within g.met.F.FlowSet.keeps_limits id c.requires.identity c.args.cause.moment c.law_known.ensures at c.requires.limits c.requires.step at.stack.top at.stack.below c.args.with stack.0 stack.1.0 stack.1.1 c.requires.with)
     c.requires.session c.requires.short c.requires.ledger))
     (c.step_with.ensures new c.resume-state.ensures)
 

@@ -21,16 +21,16 @@ advance-requires-clause-kept g c =
     let id = c.args.identity.now in
     let s = state_of g.F.Spelt.reading c.self.inside.tables.bodies in
     let tied : Tied id c.self.inside.journal c.self.inside.tables.bodies = rw (← c.self.view_is) at c.requires.tied in
-    let sound : IsSound id.party.0 s = rw (c.self.invariant.0, tied.of) at c.kept.ensures.sound in
-    rw c.sessions-sessions.ensures.list (kept_of id.party s sound c.kept.ensures.keys c.kept.ensures.owned c.kept.ensures.arrived)
+    let sound : IsSound id.party.0 s = rw (c.self.invariant.0, tied.of) at c.law_kept.ensures.sound in
+    rw c.sessions-sessions.ensures.list (kept_of id.party s sound c.law_kept.ensures.keys c.law_kept.ensures.owned c.law_kept.ensures.arrived)
 
 pub advance-requires-clause-steps : goal.advance-requires-clause-steps
 advance-requires-clause-steps g c =
-    rw c.flows-flows.ensures (all_below (λ flow. steps_of flow) (length c.self.inside.tables.bodies) (state_of g.F.Spelt.reading c.self.inside.tables.bodies).flows c.kept.ensures.few c.kept.ensures.steps)
+    rw c.flows-flows.ensures (all_below (λ flow. steps_of flow) (length c.self.inside.tables.bodies) (state_of g.F.Spelt.reading c.self.inside.tables.bodies).flows c.law_kept.ensures.few c.law_kept.ensures.steps)
 
 pub settle-requires-clause-steps : goal.settle-requires-clause-steps
 settle-requires-clause-steps g c =
-    rw c.flows-flows.ensures (all_below (λ flow. steps_of flow) (length c.self.inside.tables.bodies) (state_of g.F.Spelt.reading c.self.inside.tables.bodies).flows c.kept.ensures.few c.kept.ensures.steps)
+    rw c.flows-flows.ensures (all_below (λ flow. steps_of flow) (length c.self.inside.tables.bodies) (state_of g.F.Spelt.reading c.self.inside.tables.bodies).flows c.law_kept.ensures.few c.law_kept.ensures.steps)
 
 pub settle-requires-clause-moves : goal.settle-requires-clause-moves
 settle-requires-clause-moves g c =
@@ -40,7 +40,7 @@ settle-requires-clause-moves g c =
     let list = c.ledger-ledger.result.now.store.list in
     let p : (pick : Option ℕ) × (picked s.sessions c.args.cause.moment.0 pick s.flows ≡ Some e) = rw (← c.self.view_is) at c.requires.picked in
     let job : job_of id list s.flows e ≡ Some c.in-Ok-Some.job = ap (λ l. job_of id list l e) (sym c.flows-flows.ensures) ∙ sym c.in-Ok-Some.ensures.job ∙ c.in-Ok-Some.field-0-is in
-    job_moves id list s.sessions c.args.cause.moment.0 p.0 s.flows e c.in-Ok-Some.job c.kept.ensures.numbered p.1 job ∙ ap (λ (j : Job). event.Move j.flow) (sym c.run.ensures.job)
+    job_moves id list s.sessions c.args.cause.moment.0 p.0 s.flows e c.in-Ok-Some.job c.law_kept.ensures.numbered p.1 job ∙ ap (λ (j : Job). event.Move j.flow) (sym c.run.ensures.job)
 
 pub settle-requires-clause-waits : goal.settle-requires-clause-waits
 settle-requires-clause-waits g c = (c.ledger-ledger.result.now.store.list, sym c.in-Ok-Some.ensures.job ∙ c.in-Ok-Some.field-0-is ∙ ap (λ (j : Job). Some j) (sym c.run.ensures.job))

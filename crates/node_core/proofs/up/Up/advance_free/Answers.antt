@@ -18,12 +18,12 @@ advance-requires-clause-kept g c =
     let id = c.args.identity.now in
     let s = state_of g.F.Spelt.reading c.self.inside.tables.bodies in
     let tied : Tied id c.self.inside.journal c.self.inside.tables.bodies = rw (← c.self.view_is) at c.requires.tied in
-    let sound : IsSound id.party.0 s = rw (c.self.invariant.0, tied.of) at c.kept.ensures.sound in
-    rw c.sessions-sessions.ensures.list (kept_of id.party s sound c.kept.ensures.keys c.kept.ensures.owned c.kept.ensures.arrived)
+    let sound : IsSound id.party.0 s = rw (c.self.invariant.0, tied.of) at c.law_kept.ensures.sound in
+    rw c.sessions-sessions.ensures.list (kept_of id.party s sound c.law_kept.ensures.keys c.law_kept.ensures.owned c.law_kept.ensures.arrived)
 
 pub advance-requires-clause-steps : goal.advance-requires-clause-steps
 advance-requires-clause-steps g c =
-    rw c.flows-flows.ensures (all_below (λ flow. steps_of flow) (length c.self.inside.tables.bodies) (state_of g.F.Spelt.reading c.self.inside.tables.bodies).flows c.kept.ensures.few c.kept.ensures.steps)
+    rw c.flows-flows.ensures (all_below (λ flow. steps_of flow) (length c.self.inside.tables.bodies) (state_of g.F.Spelt.reading c.self.inside.tables.bodies).flows c.law_kept.ensures.few c.law_kept.ensures.steps)
 
 pub advance-requires-clause-job : goal.advance-requires-clause-job
 advance-requires-clause-job g c =

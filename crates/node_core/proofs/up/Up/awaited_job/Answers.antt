@@ -21,4 +21,4 @@ returns-clause-moves g c =
     let s = state_of g.F.Spelt.reading c.self.inside.tables.bodies in
     let list = c.ledger-ledger.result.now.store.list in
     let p : (pick : Option ℕ) × (picked s.sessions c.args.now.0 pick s.flows ≡ Some e) = rw (← c.self.view_is) at c.requires in
-    IfOk-weaker c.take_job.result _ _ (λ job is. moves_there id s c.args.now.0 p.0 e job c.kept.ensures.numbered p.1 (is ∙ ap (λ l. job_of id list l e) c.flows-flows.ensures ∙ ap (λ l. job_of id l s.flows e) c.ledger-ledger.ensures.store)) c.take_job.ensures.job
+    IfOk-weaker c.take_job.result _ _ (λ job is. moves_there id s c.args.now.0 p.0 e job c.law_kept.ensures.numbered p.1 (is ∙ ap (λ l. job_of id list l e) c.flows-flows.ensures ∙ ap (λ l. job_of id l s.flows e) c.ledger-ledger.ensures.store)) c.take_job.ensures.job

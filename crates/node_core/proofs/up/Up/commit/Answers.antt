@@ -28,7 +28,7 @@ add-requires-clause-fits g c =
     let by : (state_of f bodies).moment ≤ c.args.now.0 = rw (← c.self.view_is) at c.requires.by in
     let r : (judge : Judgement) × (item : Option Sent) × MayCommit (environment (meaning g.F.FlowSet.machine f judge) id) id c.args.now.0 g.F.Spelt.within bodies item c.args.step = rw (← c.self.view_is) at c.requires.ready in
     let w = environment (meaning g.F.FlowSet.machine f r.0) id in
-    let sound : IsSound id.party.0 (state_of f bodies) = rw (c.self.invariant.0, tied.of) at c.kept.ensures.sound in
+    let sound : IsSound id.party.0 (state_of f bodies) = rw (c.self.invariant.0, tied.of) at c.law_kept.ensures.sound in
     rw (c.log.ensures.bodies, c.log.ensures.nodes, c.log.ensures.notary, c.log.ensures.party, c.self.invariant.0, c.self.invariant.1, c.self.invariant.3, tied.of) (step_fits w id c.args.now.0 g.F.Spelt.within bodies r.1 c.args.step r.2 by sound)
 
 pub invariant_of-self : goal.invariant_of-self
@@ -40,7 +40,7 @@ invariant_of-self g c =
     let by : (state_of f bodies).moment ≤ c.args.now.0 = rw (← c.self.view_is) at c.requires.by in
     let r : (judge : Judgement) × (item : Option Sent) × MayCommit (environment (meaning g.F.FlowSet.machine f judge) id) id c.args.now.0 g.F.Spelt.within bodies item c.args.step = rw (← c.self.view_is) at c.requires.ready in
     let w = environment (meaning g.F.FlowSet.machine f r.0) id in
-    let sound : IsSound id.party.0 (state_of f bodies) = rw (c.self.invariant.0, tied.of) at c.kept.ensures.sound in
+    let sound : IsSound id.party.0 (state_of f bodies) = rw (c.self.invariant.0, tied.of) at c.law_kept.ensures.sound in
     let idle = committed_idle w id c.args.now.0 g.F.Spelt.within bodies r.1 c.args.step r.2 by c.self.inside.journal c.log.new.journal c.add.new.self.bodies c.self.inside.tables.acked c.add.new.self.acked tied.of sound c.self.inside.idle.at.0 c.self.inside.idle.below c.self.invariant.2 c.in-Ok.body c.in-Ok.ensures.logs (rw c.log.ensures.bodies at c.add.ensures.bodies) in (
       c.add.ensures.party ∙ c.log.ensures.party ∙ c.self.invariant.0 ∙ ap (λ (i : Identity). i.party) (sym c.log.ensures.of),
       c.add.ensures.nodes ∙ c.log.ensures.nodes ∙ c.self.invariant.1 ∙ ap (λ (i : Identity). i.nodes) (sym c.log.ensures.of),

@@ -15,5 +15,5 @@ returns-then-is_empty-clause-event g c = λ judge.
 pub returns-then-is_empty-clause-own : goal.returns-then-is_empty-clause-own
 returns-then-is_empty-clause-own g c =
     let s = state_of g.F.Spelt.reading c.args.self.now.bodies in
-    let numbered = subst (λ (u : UpSeen). AreNumbered 0 (state_of g.F.Spelt.reading u.bodies).flows) c.self.view_is c.kept.ensures.numbered in
+    let numbered = subst (λ (u : UpSeen). AreNumbered 0 (state_of g.F.Spelt.reading u.bodies).flows) c.self.view_is c.law_kept.ensures.numbered in
     own_picked s.sessions c.args.now.0 c.args.pick s.flows c.pick.result numbered (c.pick.ensures.event c.args.identity.now)

@@ -11,7 +11,7 @@ use Rattle.node_core.proofs.up.Up.settled.Goals as goal
 
 pub settle-requires-clause-steps : goal.settle-requires-clause-steps
 settle-requires-clause-steps g c =
-    rw c.flows-flows.ensures (all_below (λ flow. steps_of flow) (length c.self.inside.tables.bodies) (state_of g.F.Spelt.reading c.self.inside.tables.bodies).flows c.kept.ensures.few c.kept.ensures.steps)
+    rw c.flows-flows.ensures (all_below (λ flow. steps_of flow) (length c.self.inside.tables.bodies) (state_of g.F.Spelt.reading c.self.inside.tables.bodies).flows c.law_kept.ensures.few c.law_kept.ensures.steps)
 
 pub settle-requires-clause-waits : goal.settle-requires-clause-waits
 settle-requires-clause-waits g c =

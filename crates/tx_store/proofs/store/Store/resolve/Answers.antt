@@ -27,7 +27,7 @@ pub returns-clause-limits : goal.returns-clause-limits
 returns-clause-limits c =
     let store = c.args.self.now.list in
     let tx = c.args.tx.now in
-    let within = c.keeps_limits.ensures in (
+    let within = c.law_keeps_limits.ensures in (
       states_within store tx.inputs c.in_ok-states.field-0 within (ap (states_of store) (sym c.as_slice.ensures) ∙ c.in_ok-states.ensures.had),
       states_within store tx.references c.in_ok-states-2.field-0 within (ap (states_of store) (sym c.as_slice-2.ensures) ∙ c.in_ok-states-2.ensures.had),
     )

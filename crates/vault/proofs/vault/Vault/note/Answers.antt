@@ -30,4 +30,4 @@ invariant_of-self c =
     c.remove_consumed.ensures.items ∙ (λ i. filter (λ h. not (has_ref h.reference (c.as_slice.ensures i))) items) in
     let new : c.add_relevant.new.states.items ≡ held_after me id tx items =
     c.add_relevant.ensures.items ∙ (λ i. left i ++ filter (λ h. is_relevant me h.state.body) (outputs_from [] id 0 (c.as_slice-2.ensures i))) in
-    subst (AreHeld me) (sym new) (note_held me id tx items c.known.ensures c.requires.limits c.self.invariant)
+    subst (AreHeld me) (sym new) (note_held me id tx items c.law_known.ensures c.requires.limits c.self.invariant)

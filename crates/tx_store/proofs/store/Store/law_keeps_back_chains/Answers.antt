@@ -4,7 +4,7 @@ use Rattle.ledger_types.specs.declared.tx.SignedTx.{SignedTx}
 use Rattle.ledger_types.specs.Stores.{stored_of}
 use Rattle.tx_store.specs.Stored.{is_in_order}
 use Rattle.tx_store.proofs.Ordered.{back_chain_stored}
-use Rattle.tx_store.proofs.store.Store.keeps_back_chains.Goals as goal
+use Rattle.tx_store.proofs.store.Store.law_keeps_back_chains.Goals as goal
 
 pub returns-clause-in_order : goal.returns-clause-in_order
 returns-clause-in_order c =
