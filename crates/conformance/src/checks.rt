@@ -3,7 +3,7 @@ ghost use Rattle.std.specs.Prelude.{◌≡◌, ◌≢◌, ◌↔◌, IsTrue, IsS
 use outside::MemSink;
 use std::alloc::{AllocError, Global};
 
-/// What a run came to: the status with which it ended, and what it answered.
+/// How a run ended: the status with which it ended, and what it answered.
 #[derive(Drop)]
 pub struct Played {
     pub status: u8,

@@ -14,8 +14,8 @@ use std::thread::Threads;
 /// How many bytes of answers a run may write. One that writes more ends with the status of a failed write.
 const ROOM: usize = 4_194_304;
 
-/// Where cases are played: the disks of the case that is under way, the calls that are to fail in its next run, and what its last run
-/// came to.
+/// Where cases are played: the disks of the case that is under way, the calls that are to fail in its next run, and how its last run
+/// ended.
 #[derive(Drop)]
 pub struct Stage<'a> {
     name: &'a str,
@@ -162,7 +162,7 @@ impl<'a> Stage<'a> {
         Ok(())
     }
 
-    /// Compares what the last run came to with the status and the answers that are wanted.
+    /// Compares how the last run ended with the status and the answers that are wanted.
     fn compare(&self, alloc: Global, status: &str, wanted: &str) -> Result<Option<String>> {
         let played = self.played.as_ref().context("nothing was played")?;
         let status = status.parse::<u8>()?;

@@ -15,7 +15,7 @@ pub record DeskSeen : Type 0 where
   pub seen : List Seen
   pub commits : ℕ
 
--- the node at a place went on from what it came as, by calls that are answered as their clauses say; what it took and sent is what its passes pulled and posted, and it committed so many records
+-- the node at a place went on from what it came as, by calls that are answered as their clauses say; what it took and sent is what its passes pulled and posted, and it committed this many records
 pub record Worked {F : Type 0} (m : Meaning F) (now : ℕ) (came : List NodeSeen) (p : ℕ) (node : NodeSeen) (seen : List Seen) (commits : ℕ) : Type 0 where
   pub from : NodeSeen
   pub came_at : slice_get came p ≡ Some from

@@ -8,7 +8,7 @@ use Rattle.network_core.specs.Parts.{IsNet}
 use Rattle.work_law.specs.Lasting.{Lasts}
 use Rattle.work_law.specs.Works.{Works, LeadsOn, added}
 
--- each node went on, over any disk, and they committed so many records together
+-- each node went on, over any disk, and they committed this many records together
 pub record NodesLast (commits : ℕ) (old new : List NodeSeen) : Type 0 where
   pub count : length new ≡ length old
   pub counts : List ℕ

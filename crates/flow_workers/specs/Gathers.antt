@@ -6,7 +6,7 @@ use Rattle.net_model.specs.Environment.{Meaning}
 use Rattle.node_core.specs.Seen.{NodeSeen}
 use Rattle.work_law.specs.Works.{Log, Source, DidEach, added}
 
--- the nodes that have come out of their locks so far, and the passes of all inboxes that were joined, with so many shares each
+-- the nodes that have come out of their locks so far, and the passes of all inboxes that were joined, with this many shares each
 pub record Gathered {F : Type 0} (m : Meaning F) (now : ℕ) (came : List NodeSeen) (waited : List (List Frame)) (nodes : List NodeSeen) (own : List Seen) (parts commits : ℕ) : Type 0 where
   pub logs : List Log
   pub logged : length logs ≡ length nodes

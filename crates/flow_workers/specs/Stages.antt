@@ -5,7 +5,7 @@ use Rattle.wire_rows.specs.Rows.{AreRows}
 use Rattle.wire_rows.specs.Ends.{IsRoom}
 use Rattle.flow_workers.specs.declared.stage.Stage.{Stage}
 
--- there is all that so many nodes need
+-- there is all that this many nodes need
 pub record IsStage (count : ℕ) (s : Stage) : Type 0 where
   pub inboxes : length s.inboxes.items ≡ count
   pub own : map (λ p. p.of) s.own.items ≡ s.inboxes.items

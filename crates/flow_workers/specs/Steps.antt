@@ -7,7 +7,7 @@ use Rattle.node_core.specs.declared.faults.TurnFault.{TurnFault}
 use Rattle.flow_workers.specs.declared.counts.Turn.{Turn}
 use Rattle.flow_workers.specs.declared.counts.Turn.TheVariants as turn
 
--- what a turn that is answered so came to: nothing, a record, or a job that is to be run
+-- how a turn that is answered so ended: nothing, a record, or a job that is to be run
 abbrev pub turn_of : Result SharedTurn TurnFault → Turn
 turn_of (Ok shared.Idle) = turn.Still
 turn_of (Ok (shared.Moved flow)) = turn.Committed
@@ -24,7 +24,7 @@ abbrev pub HandsOut : Turn → Type 0
 HandsOut (turn.Waits job) = IsJob job
 HandsOut _ = ⊤
 
--- how many records it came to
+-- how many records it committed
 abbrev pub committed : Turn → ℕ
 committed turn.Still = 0
 committed turn.Committed = 1

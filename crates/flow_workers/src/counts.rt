@@ -11,7 +11,7 @@ use net_base::Boxed;
 use node_core::{SettleFault, SharedTurn, TakeFault, Taken, TurnFault};
 use session_frames::Outgoing;
 
-/// What a turn at a node came to.
+/// How a turn at a node ended.
 #[derive(Drop)]
 pub enum Turn {
     /// No record was committed.
@@ -33,7 +33,7 @@ pub fn turn_count(answer: &Result<SharedTurn, TurnFault>) -> u64
     }
 }
 
-/// What a turn that is answered so came to.
+/// How a turn that is answered so ended.
 pub fn turn_of(answer: Result<SharedTurn, TurnFault>) -> Turn
     requires { IsOut answer }
     ensures is { result ≡ turn_of answer }

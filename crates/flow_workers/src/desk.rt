@@ -93,7 +93,7 @@ impl<J: Call, D: Disk, F: FlowSet> Desk<J, D, F> {
         }
     }
 
-    /// Lets a flow go on, and says what that came to. The job of a flow that waits for one is handed out, and is to be settled.
+    /// Lets a flow go on, and says how that ended. The job of a flow that waits for one is handed out, and is to be settled.
     pub fn turn<C: Judge>(&mut self, alloc: Global, board: &Board<J, C>) -> Turn
         ensures job { HandsOut result }
         ensures commits { self.new.commits ≡ self.old.commits + committed result }

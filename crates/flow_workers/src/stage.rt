@@ -33,7 +33,7 @@ pub struct Stage {
     pub lists: Vec<Vec<ByteList>>,
 }
 
-/// So many lists without items, each with room for all that an inbox may hold. The only error is want of memory.
+/// This many lists without items, each with room for all that an inbox may hold. The only error is want of memory.
 fn rooms_for(alloc: Global, count: usize) -> Result<Vec<Vec<ByteList>>, AllocError>
     ensures count { IfOk result (λ r. length r.items ≡ count) }
     ensures rooms { IfOk result (λ r. AllByRecursion IsRoom r.items) }

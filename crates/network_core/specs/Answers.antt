@@ -204,7 +204,7 @@ abbrev pub count_fresh : List Outgoing → List (List (List ℕ)) → ℕ
 count_fresh [] waiting = 0
 count_fresh (o ∷ os) waiting = fresh_at o.bytes (slice_get waiting o.to.0) + count_fresh os (mailed_once o waiting)
 
--- what a post of a node came to
+-- how a post of a node ended
 abbrev pub Posting : {F : Type 0} → Reads F → NodeSeen → NetSeen → Option Outcome → NetSeen → Type 0
 Posting frame_at n old None new = IsSome n.journal × (new ≡ old)
 Posting frame_at n old (Some (outcome.Posted count)) new =
@@ -239,7 +239,7 @@ pub record Handed {F : Type 0} (m : Meaning F) (repeated : Bool) (place at : ℕ
   pub waiting : new.waiting ≡ mailed (take_sent answer) (parted (waits_on repeated o) place at frames old.waiting)
   pub now : new.now ≡ old.now
 
--- what handing the frame at a place of a node came to
+-- how handing over the frame at a place of a node ended
 abbrev pub Handing : {F : Type 0} → Meaning F → Bool → ℕ → ℕ → NodeSeen → List (List ℕ) → NetSeen → Option Outcome → NetSeen → Type 0
 Handing m repeated place at n frames old o new =
     ((n.journal ≡ None) × (o ≡ Some (outcome.Refused refusal.NodeDown)) × (new ≡ old))
@@ -278,7 +278,7 @@ NetPost frame_at place old o new = PostServes frame_at place old (answer_of o) n
 abbrev pub NetHand : {F : Type 0} → Meaning F → ℕ → NetSeen → Option Outcome → NetSeen → Type 0
 NetHand m place old o new = HandServes m false place 0 old (answer_of o) new
 
--- so many frames wait at a place
+-- this many frames wait at a place
 abbrev pub AreWaiting : NetSeen → ℕ → ℕ → Type 0
 AreWaiting net place n = (frames : List (List ℕ)) × (slice_get net.waiting place ≡ Some frames) × (length frames ≡ n)
 

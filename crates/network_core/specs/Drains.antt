@@ -64,13 +64,13 @@ pub record Quiet {F : Type 0} (e : Environment F) (v : World) : Type 0 where
   pub idle : (p : ℕ) (x : NodeWorld) → slice_get v.nodes p ≡ Some x → x.up ≡ true → picked_at e v.now None x.journal ≡ None
   pub arrived : (p : ℕ) (x : NodeWorld) → slice_get v.nodes p ≡ Some x → x.up ≡ true → HasArrived e v x
 
--- what a drain makes of a world, by its outcome: where it came to an end the network is quiet
+-- what a drain makes of a world, by its outcome: where it ended by itself the network is quiet
 abbrev pub WorldDrains : {F : Type 0} → Environment F → World → Option Outcome → World → Type 0
 WorldDrains e w o v = DrainsTo (world_steps e) w o v × (o ≡ Some (outcome.Drained false) → Quiet e v)
 
 -- ---- how many rounds there can be
 
--- a drain of this world has at most so many rounds in which a record was committed; where it was stopped, so many with the records of the last one
+-- a drain of this world has at most this many rounds in which a record was committed; where it was stopped, this many with the records of the last one
 pub record RoundsAtMost {F : Type 0} (e : Environment F) (w : World) (most : ℕ) : Type 0 where
   pub rounds : (r : ℕ) (u : World) → Rounds (world_steps e) r w u → r ≤ most
   pub drained : (v : World) (drain : IsDrained (world_steps e) w v) → drain.0 ≤ most
@@ -135,7 +135,7 @@ pub record Drives {F : Type 0} (m : Meaning F) (old new : NetSeen) (goal : Drain
   pub left : room new ≤ room old
   pub count : length new.nodes ≡ length old.nodes
 
--- what a drain of a network came to, by its outcome, over any disks and of its worlds
+-- the outcome of a drain of a network, over any disks and of its worlds
 pub record Drains {F : Type 0} (m : Meaning F) (old : NetSeen) (o : Option Outcome) (new : NetSeen) : Type 0 where
   pub pairs : KeepsPair m old new (λ id a b. PairDrains m id o a b)
   pub world : KeepsWorld m old new (λ e w v. WorldDrains e w o v)

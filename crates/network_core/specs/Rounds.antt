@@ -26,7 +26,7 @@ DrainGoal = (W : Type 0) → DrainSteps W → W → W → Type 0
 
 -- ---- the turns at a place
 
--- so many turns at a place, one after another, each of which let a flow go on
+-- this many turns at a place, one after another, each of which let a flow go on
 abbrev pub Moves : {W : Type 0} → DrainSteps W → ℕ → ℕ → W → W → Type 0
 Moves {W} s p zero w v = v ≡ w
 Moves {W} s p (suc n) w v = (u : W) × (f : ℕ) × Moves s p n w u × s.turn p u (Some (outcome.Moved f)) v
@@ -35,7 +35,7 @@ Moves {W} s p (suc n) w v = (u : W) × (f : ℕ) × Moves s p n w u × s.turn p 
 abbrev pub IsLastTurn : Outcome → Type 0
 IsLastTurn o = (o ≡ outcome.Idle) ⊎ ((o ≡ outcome.Fault) ⊎ (o ≡ outcome.Refused refusal.NodeDown))
 
--- the turns at a place: so many that let a flow go on, and the one that ends them
+-- the turns at a place: this many that let a flow go on, and the one that ends them
 abbrev pub TurnsAt : {W : Type 0} → DrainSteps W → ℕ → ℕ → W → W → Type 0
 TurnsAt {W} s p n w v = (u : W) × (o : Outcome) × Moves s p n w u × s.turn p u (Some o) v × IsLastTurn o
 
@@ -63,7 +63,7 @@ committed _ = 0
 abbrev pub IsTaken : Outcome → Type 0
 IsTaken o = (why : Refusal) → o ≡ outcome.Refused why → ⊥
 
--- so many deliveries of the first waiting frame at a place, each of which took it away, and how many of them committed a record
+-- this many deliveries of the first waiting frame at a place, each of which took it away, and how many of them committed a record
 abbrev pub Hands : {W : Type 0} → DrainSteps W → ℕ → ℕ → ℕ → W → W → Type 0
 Hands {W} s p zero n w v = (n ≡ 0) × (v ≡ w)
 Hands {W} s p (suc d) n w v = (u : W) × (k : ℕ) × (o : Outcome) × Hands s p d k w u × s.hand p u (Some o) v × IsTaken o × (n ≡ k + committed o)
@@ -80,7 +80,7 @@ DeliversAt {W} s p n w v = (d : ℕ) × (u : W) × Hands s p d n w u × s.ends p
 abbrev pub HandStops : {W : Type 0} → DrainSteps W → ℕ → Option Outcome → W → W → Type 0
 HandStops {W} s p o w v = (d : ℕ) × (n : ℕ) × (u : W) × Hands s p d n w u × s.hand p u o v
 
--- a round: the turns at each node, in the order of places, then the posts of each, then the deliveries at each; so many of them committed a record
+-- a round: the turns at each node, in the order of places, then the posts of each, then the deliveries at each; this many of them committed a record
 abbrev pub Round : {W : Type 0} → DrainSteps W → ℕ → W → W → Type 0
 Round {W} s n w v =
     (u : W) × (t : W) × (k : ℕ) × (j : ℕ) × InOrder (TurnsAt s) (s.count w) k w u × InOrder (PostsAt s) (s.count w) 0 u t × InOrder (DeliversAt s) (s.count w) j t v × (n ≡ k + j)
@@ -97,14 +97,14 @@ PostsStop {W} s o w v = (p : ℕ) × (u : W) × (p < s.count w) × InOrder (Post
 abbrev pub HandsStop : {W : Type 0} → DrainSteps W → Option Outcome → W → W → Type 0
 HandsStop {W} s o w v = (p : ℕ) × (n : ℕ) × (u : W) × (p < s.count w) × InOrder (DeliversAt s) p n w u × HandStops s p o u v
 
--- the front of a round, up to what came to this outcome: a full journal, or none at want of memory
+-- the front of a round, up to what had this outcome: a full journal, or none at want of memory
 abbrev pub RoundStops : {W : Type 0} → DrainSteps W → Option Outcome → W → W → Type 0
 RoundStops {W} s o w v =
     TurnsStop s o w v
     ⊎ (((u : W) × (k : ℕ) × InOrder (TurnsAt s) (s.count w) k w u × PostsStop s o u v)
     ⊎ ((u : W) × (t : W) × (k : ℕ) × InOrder (TurnsAt s) (s.count w) k w u × InOrder (PostsAt s) (s.count w) 0 u t × HandsStop s o t v))
 
--- so many rounds, one after another, in each of which a record was committed
+-- this many rounds, one after another, in each of which a record was committed
 abbrev pub Rounds : {W : Type 0} → DrainSteps W → ℕ → W → W → Type 0
 Rounds {W} s zero w v = v ≡ w
 Rounds {W} s (suc r) w v = (u : W) × (n : ℕ) × Rounds s r w u × Round s (suc n) u v
@@ -115,11 +115,11 @@ Rounds {W} s (suc r) w v = (u : W) × (n : ℕ) × Rounds s r w u × Round s (su
 abbrev pub IsDrained : {W : Type 0} → DrainSteps W → W → W → Type 0
 IsDrained {W} s w v = (r : ℕ) × (u : W) × Rounds s r w u × Round s 0 u v
 
--- rounds in each of which a record was committed, and then the front of one, up to what came to this outcome
+-- rounds in each of which a record was committed, and then the front of one, up to what had this outcome
 abbrev pub DrainStops : {W : Type 0} → DrainSteps W → Option Outcome → W → W → Type 0
 DrainStops {W} s o w v = (r : ℕ) × (u : W) × Rounds s r w u × RoundStops s o u v
 
--- what a drain comes to, by its outcome: with true its last turn or delivery met a full journal, with false it came to an end; none where memory ran out at its last one
+-- the end of a drain, by its outcome: with true its last turn or delivery met a full journal, with false it ended by itself; none where memory ran out at its last one
 abbrev pub DrainsTo : {W : Type 0} → DrainSteps W → W → Option Outcome → W → Type 0
 DrainsTo s w None v = DrainStops s None w v
 DrainsTo s w (Some (outcome.Drained true)) v = DrainStops s (Some (outcome.Refused refusal.Full)) w v
@@ -154,32 +154,32 @@ RunsTo {W} s w o v = (u : W) × (p : ℕ) × Runs s w u × DoesAt s p u o v
 
 -- ---- what the loops of a drain come to
 
--- what was made, by the answer: so many that are not 0, none, or what was stopped by a full journal or for want of memory
+-- what was made, by the answer: a count above 0, none, or what was stopped by a full journal or for want of memory
 abbrev pub Turns : {W E : Type 0} → Result Turning E → (ℕ → W → W → Type 0) → (Option Outcome → W → W → Type 0) → W → W → Type 0
 Turns (Ok turning.Moved) made stops w v = (n : ℕ) × made (suc n) w v
 Turns (Ok turning.Quiet) made stops w v = made 0 w v
 Turns (Ok turning.Full) made stops w v = stops (Some (outcome.Refused refusal.Full)) w v
 Turns (Err fault) made stops w v = stops None w v
 
--- what a turn came to, by its outcome
+-- the end of a turn, by its outcome
 abbrev pub turned : Outcome → Turning
 turned (outcome.Moved f) = turning.Moved
 turned (outcome.Refused refusal.Full) = turning.Full
 turned _ = turning.Quiet
 
--- what the posts of a round came to: each was made, or memory ran out
+-- how the posts of a round ended: each was made, or memory ran out
 abbrev pub Posts : {W E : Type 0} → DrainSteps W → W → Result (Unit {0}) E → W → Type 0
 Posts {W} s w (Ok u) v = InOrder (PostsAt s) (s.count w) 0 w v
 Posts {W} s w (Err fault) v = PostsStop s None w v
 
--- what a delivery came to, by its outcome
+-- the end of a delivery, by its outcome
 abbrev pub heard : Outcome → Hearing
 heard (outcome.Took upto) = heard_as.Took
 heard (outcome.Refused refusal.Full) = heard_as.Full
 heard (outcome.Refused _) = heard_as.Over
 heard _ = heard_as.Noted
 
--- what turns and then deliveries came to
+-- how turns and then deliveries ended
 abbrev pub joined : Turning → Turning → Turning
 joined turns turning.Quiet = turns
 joined turns turning.Moved = turning.Moved

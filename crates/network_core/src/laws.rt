@@ -18,7 +18,7 @@ pub fn new_disks_are_coherent<F>()
     ensures { NewDisksAreCoherent F }
 {}
 
-/// The law that a drain makes turns, posts and deliveries and nothing else: where it came to an end none of them met a full journal or
+/// The law that a drain makes turns, posts and deliveries and nothing else: where it ended by itself none of them met a full journal or
 /// ran out of memory, and else the last one alone did.
 pub fn drains_by_turns<F>()
     ensures { DrainsByTurns F }

@@ -230,7 +230,7 @@ impl<D: Bay, F: FlowSet> Net<D, F> {
     }
 
     /// Makes these steps, with these contracts for what has to be judged, as long as memory lasts, and adds their outcomes to the list, which has room for them. True exactly where
-    /// each step has its outcome; else so many were made as the list has outcomes, and memory ran out in the next one. What is said of
+    /// each step has its outcome; else as many were made as the list has outcomes, and memory ran out in the next one. What is said of
     /// the worlds is also said of the networks with them, step by step.
     pub fn apply_all<J: Judge>(
         &mut self,

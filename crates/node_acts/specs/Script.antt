@@ -143,7 +143,7 @@ follows rest other = (record { 0 = 1 ∷ rest }, other)
 abbrev pub paid : ℕ → List ℕ → Act Script → Script × Act Script
 paid left rest a = if nat_le (7 * length rest + act_cost a) (7 * left) then follows rest a else fails 73
 
--- the act that was read in front of so many bytes, with the tags of the result
+-- the act that was read in front of this many bytes, with the tags of the result
 abbrev pub taken : ℕ → Resumed → Result (Act Script × List ℕ) ℕ → Script × Act Script
 taken left with (Err n) = fails 70
 taken left with (Ok read) = paid left read.1 (filled (resumed_tags with) read.0)

@@ -34,12 +34,12 @@ pub record CourseStates (W : Type 0) : Type 1 where
   pub has_ended : ℕ → ℕ → W → Bool
   -- the unconsumed states in the vaults of all nodes that are up
   pub held : W → List Held
-  -- workers made their turns side by side, and so many records were committed
+  -- workers made their turns side by side, and this many records were committed
   pub works : ℕ → W → W → Type 0
 
 -- ---- its steps
 
--- the first so many numbers but one, ascending
+-- this many numbers from 0 on without one of them, ascending
 abbrev pub all_but : ℕ → ℕ → List ℕ
 all_but one zero = []
 all_but one (suc n) = all_but one n ++ (if n == one then [] else n ∷ [])
@@ -72,7 +72,7 @@ deal_of m nodes p =
     let from = slice_index_or nodes p.from 0 in
     record { node = from; starts = pay_by m from (slice_index_or nodes p.to 0) p.amount }
 
--- so many payments, drawn from the seed for these nodes
+-- this many payments, drawn from the seed for these nodes
 abbrev pub deals_of : {F : Type 0} → Machine F → List ℕ → ℕ → ℕ → List Deal
 deals_of m nodes seed count = map (deal_of m nodes) (payments count (load_of seed (length nodes)))
 

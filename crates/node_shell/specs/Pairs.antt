@@ -8,7 +8,7 @@ every_other [] = []
 every_other (x ∷ []) = x ∷ []
 every_other (x ∷ y ∷ zs) = x ∷ every_other zs
 
--- the first disk of each of so many nodes
+-- the first disk of each of this many nodes
 abbrev pub first_disks : {X : Type 0} → ℕ → List X → List X
 first_disks nodes disks = take nodes (every_other disks)
 

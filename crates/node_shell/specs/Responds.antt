@@ -172,11 +172,11 @@ Responds m (making step) asked words old reply new = StepResponds m step old rep
 Responds m (going course) asked words old reply new = GoesOver (net_states m) m.machine course old reply new
 Responds m asking asked words old reply new = IfSome reply (IsShown m old asked words) × (new ≡ old)
 
--- what a command with its words came to
+-- how a command with its words ended
 abbrev pub CommandResponds : {F : Type 0} → Meaning F → Command → List (List ℕ) → NetSeen → Option Reply → NetSeen → Type 0
 CommandResponds m asked words old reply new = Responds m (doing_of m.machine (recorded_seen m.frame_at old) asked words) asked words old reply new
 
--- what a line came to
+-- how a line ended
 abbrev pub LineResponds : {F : Type 0} → Meaning F → List ℕ → NetSeen → Option Reply → NetSeen → Type 0
 LineResponds m line old reply new =
     MatchBool (has_no_answer line) ((reply ≡ Some Silence) × (new ≡ old))

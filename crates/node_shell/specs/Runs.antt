@@ -149,7 +149,7 @@ pub record AreNamed (folder : Option (List ℕ)) (place : ℕ) (old new : List D
   pub own : (p : ℕ) (e : DiskSeen) → p < place → slice_get new p ≡ Some e → e.attached ≡ Some (own_name folder p)
   pub rest : (p : ℕ) (d e : DiskSeen) → place ≤ p → slice_get old p ≡ Some d → slice_get new p ≡ Some e → e.attached ≡ d.attached
 
--- of the first disks, so many, those before some place are attached under their own names, and no others
+-- of the first disks, as many as there are nodes, those before some place are attached under their own names, and no others
 abbrev pub StopsNaming : Option (List ℕ) → ℕ → List DiskSeen → List DiskSeen → Type 0
 StopsNaming folder count old new = (place : ℕ) × (place < count) × AreNamed folder place old new
 
@@ -170,7 +170,7 @@ pub record Fails (old new : DiskSeen) : Type 0 where
   pub rose : Rose old.faults new.faults
   pub uneasy : old.calm ≡ true → ⊥
 
--- one of the first of these disks, so many, failed
+-- one of the first of these disks, as many as there are nodes, failed
 pub record OneFails (count : ℕ) (old new : List DiskSeen) : Type 0 where
   pub place : ℕ
   pub own : place < count
@@ -180,7 +180,7 @@ pub record OneFails (count : ℕ) (old new : List DiskSeen) : Type 0 where
   pub now : slice_get new place ≡ Some after
   pub fails : Fails before after
 
--- the count of faults of one of the first of these disks, so many, rose
+-- the count of faults of one of the first of these disks, as many as there are nodes, rose
 pub record OneRises (count : ℕ) (old new : List DiskSeen) : Type 0 where
   pub place : ℕ
   pub own : place < count

@@ -36,11 +36,11 @@ use Rattle.node_shell.specs.Loads.{Course, load, work, CourseStates, all_but, Go
 
 -- ---- what words ask for
 
--- a number of a node, where it is too great the greatest that names a node's place: no network has so many
+-- a number of a node, where it is too great the greatest that names a node's place: no network has that many
 abbrev pub place_of : ℕ → ℕ
 place_of n = min n 255
 
--- a number of a flow, where it is too great the greatest that names a flow: no journal holds so many
+-- a number of a flow, where it is too great the greatest that names a flow: no journal holds that many
 abbrev pub flow_of : ℕ → ℕ
 flow_of n = min n (2 ^ 32 - 1)
 
@@ -48,7 +48,7 @@ flow_of n = min n (2 ^ 32 - 1)
 abbrev pub frame_of : ℕ → ℕ
 frame_of n = min n (2 ^ 32 - 1)
 
--- a place of a recorded transaction, where it is too great the greatest that names one: no node records so many
+-- a place of a recorded transaction, where it is too great the greatest that names one: no node records that many
 abbrev pub record_of : ℕ → ℕ
 record_of k = min k (2 ^ 32 - 1)
 
@@ -266,17 +266,17 @@ Leaves e (going course) w v = GoesOver (world_states e) e.machine course w None 
 abbrev pub RunsShort : {F : Type 0} → Environment F → World → List ℕ → World → Type 0
 RunsShort e w line v = Leaves e (doing_of e.machine (recorded_in e w) (asked_by line) (words_of line)) w v ⊎ ((text : List ℕ) × Link e w line text v)
 
--- what a command came to: its reply, or want of memory
+-- how a command ended: its reply, or want of memory
 abbrev pub Comes : {F E : Type 0} → Environment F → World → Command → List (List ℕ) → Result Reply E → World → Type 0
 Comes e w asked words (Ok reply) v = Serves e w asked words reply v
 Comes e w asked words (Err fault) v = Leaves e (doing_of e.machine (recorded_in e w) asked words) w v
 
--- what a line came to: its reply, or want of memory
+-- how a line ended: its reply, or want of memory
 abbrev pub LineComes : {F E : Type 0} → Environment F → World → List ℕ → Result Reply E → World → Type 0
 LineComes e w line (Ok reply) v = RepliesTo e w line reply v
 LineComes e w line (Err fault) v = Leaves e (doing_of e.machine (recorded_in e w) (asked_by line) (words_of line)) w v
 
--- what a step came to: its outcome, told, or want of memory
+-- how a step ended: its outcome, told, or want of memory
 abbrev pub StepComes : {F E : Type 0} → Environment F → World → Step → Result Reply E → World → Type 0
 StepComes e w step (Ok reply) v = (o : Outcome) × Serve e step w (Some o) v × (reply ≡ Told o)
 StepComes e w step (Err fault) v = Serve e step w None v

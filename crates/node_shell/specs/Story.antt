@@ -109,7 +109,7 @@ abbrev pub status_of : Stop → Status
 status_of stop.Write = status.WriteFault
 status_of stop.Memory = status.NoMemory
 
--- what an answer came to: its text was written, or it was not, and why
+-- how an answer ended: its text was written, or it was not, and why
 abbrev pub AnswerComes : {W T : Type 0} → (W → List ℕ → List ℕ → W → Type 0) → (W → List ℕ → W → Type 0) → W → List ℕ → Option (List ℕ) → Option (List ℕ) → Result T Stop → W → Type 0
 AnswerComes link short w line written0 written1 (Ok _) v = (text : List ℕ) × link w line text v × Appends written0 written1 text
 AnswerComes link short w line written0 written1 (Err why) v = StopsAs link short w line v written0 written1 why

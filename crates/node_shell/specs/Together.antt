@@ -29,7 +29,7 @@ use Rattle.node_shell.specs.Story.{Story, begins, goes_on, EndsWith, ScriptRun}
 
 -- ---- a line
 
--- what a step came to, of a network and of the world that it shows at once: its outcome, which is told; or memory ran out before it or within it
+-- how a step ended, of a network and of the world that it shows at once: its outcome, which is told; or memory ran out before it or within it
 abbrev pub StepGoes : {F : Type 0} (m : Meaning F) (id : Identity)
     → Step → Option Reply → Pair (environment m id) → Pair (environment m id) → Type 0
 StepGoes m id s (Some reply) a b = (o : Outcome) × PairServes m id s (Some o) a b × (reply ≡ Told o)

@@ -3,7 +3,7 @@
 ghost use Rattle.std.specs.Prelude.{◌≡◌, ◌≤◌, ◌+◌, ◌*◌, [], length, vec_capacity};
 ghost use Rattle.node_shell.specs.Pairs.{woven};
 
-/// Takes the first disk of each of so many nodes out of the disks, in order. The list for them is empty, and has room.
+/// Takes the first disk of each of this many nodes out of the disks, in order. The list for them is empty, and has room.
 pub fn take_first<D: Drop>(disks: &mut Vec<D>, own: &mut Vec<D>, nodes: usize)
     requires few { 2 * nodes ≤ length disks.old.items }
     requires empty { own.old.items ≡ [] }

@@ -23,7 +23,7 @@ use outside::Bay;
 use shell_report::totals_text;
 use std::alloc::{AllocError, Global};
 
-/// The first so many places but one, ascending.
+/// This many places from 0 on without one of them, ascending.
 fn all_but(alloc: Global, one: u8, count: usize) -> Result<Vec<u8>, AllocError>
     requires { count ≤ 16 }
     ensures { IfOk result (λ places. places.items ≡ all_but one count) }
@@ -180,7 +180,7 @@ fn pay<B: Bay, F: FlowSet, J: Judge>(
     Ok(is_paid(net, from, outcomes.as_slice()))
 }
 
-/// Makes so many payments between these nodes, drawn from the seed; says how many of them are paid.
+/// Makes this many payments between these nodes, drawn from the seed; says how many of them are paid.
 fn pay_all<B: Bay, F: FlowSet, J: Judge>(
     alloc: Global,
     net: &mut Net<B, F>,
@@ -255,8 +255,8 @@ pub(super) fn are_up<B: Bay, F: FlowSet>(nodes: &[Node<B, F>]) -> bool
     nodes.iter().all(|node| is_node_up(node))
 }
 
-/// Makes a load: each node but the notary issues 1,000,000 to itself, and then come so many payments between them, drawn from the
-/// seed, each with a drain behind it. Tells how many are paid, and the totals of the tokens in all vaults.
+/// Makes a load: each node but the notary issues 1,000,000 to itself, and then come as many payments as asked for between them, drawn from
+/// the seed, each with a drain behind it. Tells how many are paid, and the totals of the tokens in all vaults.
 ///
 /// # Errors
 ///

@@ -99,7 +99,7 @@ pub fn refuse<K: Sink>(alloc: Global, sink: &mut K, node: u8, why: BootFault) ->
     }
 }
 
-/// Makes both disks of each of so many nodes ready, in order, in a folder or in memory.
+/// Makes both disks of each of this many nodes ready, in order, in a folder or in memory.
 pub fn attach_all<B: Bay>(
     alloc: Global,
     dir: Option<&str>,

@@ -33,28 +33,28 @@ use std::sync::Wait;
 use std::thread::Threads;
 use tx_store::Store;
 
-/// The place of a node of this number; one that is too great is none's.
+/// The place of a node of this number. A number that is too great names none.
 fn place_of(node: u64) -> u8
     ensures { result ≡ place_of node }
 {
     node.min(255) as u8
 }
 
-/// The number of a flow; one that is too great is none's.
+/// The number of a flow. A number that is too great names none.
 fn flow_of(flow: u64) -> u32
     ensures { result ≡ flow_of flow }
 {
     flow.min(u32::MAX as u64) as u32
 }
 
-/// The place of a waiting frame; one that is too great is none's.
+/// The place of a waiting frame. A number that is too great names none.
 fn frame_of(place: u64) -> u32
     ensures { result ≡ frame_of place }
 {
     place.min(u32::MAX as u64) as u32
 }
 
-/// The place of a recorded transaction; one that is too great is none's.
+/// The place of a recorded transaction. A number that is too great names none.
 fn record_of(place: u64) -> u32
     ensures { result ≡ record_of place }
 {

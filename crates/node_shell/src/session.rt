@@ -123,7 +123,7 @@ fn answer_last<
     }
 }
 
-/// Answers a line that came to its end with the byte before; an `Err` ends the script.
+/// Answers a line that ended with the byte before; an `Err` ends the script.
 fn answer_line<
     B: Bay + Send,
     F: FlowSet + Send + Sync,

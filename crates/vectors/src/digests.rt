@@ -26,13 +26,13 @@ fn leaves(alloc: Global, values: &[&str]) -> Result<Vec<[u8; 32]>> {
     )
 }
 
-/// `root COUNT`: the root of so many leaves.
+/// `root COUNT`: the root of this many leaves.
 pub fn root_of(alloc: Global, values: &[&str]) -> Result<String> {
     let mut leaves = leaves(alloc, values)?;
     Ok(hex::encode(alloc, root(leaves.as_mut_slice()))?)
 }
 
-/// `group COUNT`: the value of a group of so many leaves.
+/// `group COUNT`: the value of a group of this many leaves.
 pub fn group_of(alloc: Global, values: &[&str]) -> Result<String> {
     let mut leaves = leaves(alloc, values)?;
     Ok(hex::encode(alloc, group(leaves.as_mut_slice()))?)

@@ -57,7 +57,7 @@ take_commits (Err why) = 0
 
 -- ---- a history
 
--- a node went from one form to another by turns, by jobs settled, by taking these frames and by sending these frames, each call answered as its clause says; so many records were committed
+-- a node went from one form to another by turns, by jobs settled, by taking these frames and by sending these frames, each call answered as its clause says; this many records were committed
 pub data Went {F : Type 0} (m : Meaning F) (now : ℕ) (from : NodeSeen) : NodeSeen → List (List ℕ) → List Outgoing → ℕ → Type 0 where
   here : {n : NodeSeen} → n ≡ from → Went m now from n [] [] 0
   by_turn : {n k : NodeSeen} {took : List (List ℕ)} {sent : List Outgoing} {count : ℕ} (claims : List ℕ) (answer : Result SharedTurn TurnFault) → Went m now from n took sent count → Turns m now claims n answer k

@@ -10,7 +10,7 @@ use Rattle.node_core.specs.Seen.{NodeSeen}
 use Rattle.work_law.specs.Calls.{Went}
 use Rattle.work_law.specs.Works.{Grows}
 
--- the journal goes on from the other one by so many records
+-- the journal goes on from the other one by this many records
 pub record GoesOnBy (count : ℕ) (old new : List (List ℕ)) : Type 0 where
   pub more : List (List ℕ)
   pub front : new ≡ old ++ more
@@ -35,7 +35,7 @@ pub record ImagesGo (count : ℕ) (bodies : List (List ℕ)) (old new : NodeSeen
   -- at every moment since
   pub images : IfTold old.disk new.disk (λ d e. EachImage d e (SpellsBetween bodies last))
 
--- a node went on, over any disk, and committed so many records
+-- a node went on, over any disk, and committed this many records
 pub record Lasts (count : ℕ) (old new : NodeSeen) : Type 0 where
   pub identity : new.identity ≡ old.identity
   pub down : old.journal ≡ None → (new ≡ old) × (count ≡ 0)

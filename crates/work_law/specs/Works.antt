@@ -53,7 +53,7 @@ fell false up = 0
 fell true true = 0
 fell true false = 1
 
--- the journal goes on from the other one by so many records, and by so many more at most
+-- the journal goes on from the other one by this many records, and by this many more at most
 pub record Grows (count most : ℕ) (old l : List (List ℕ)) : Type 0 where
   pub more : List (List ℕ)
   pub front : l ≡ old ++ more
@@ -70,12 +70,12 @@ pub record Stays (x z : NodeWorld) : Type 0 where
   pub file : z.file ≡ x.file
   pub openable : x.openable ≡ true → z.openable ≡ true
 
--- a node that committed so many records: each journal that its images may spell goes on by them from one that they might spell before, and where it went down by one more at most
+-- a node that committed this many records: each journal that its images may spell goes on by them from one that they might spell before, and where it went down by one more at most
 pub record NodeWorks (count : ℕ) (x z : NodeWorld) : Type 0 where
   pub lists : (l : List (List ℕ)) → MaySpell z l → (old : List (List ℕ)) × MaySpell x old × Grows count (fell x.up z.up) old l
   pub stays : Stays x z
 
--- all nodes of a world, which committed so many records together
+-- all nodes of a world, which committed this many records together
 pub record WorldWorks (commits : ℕ) (w v : World) : Type 0 where
   pub now : v.now ≡ w.now
   pub nodes : length v.nodes ≡ length w.nodes
