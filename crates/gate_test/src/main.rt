@@ -1,5 +1,5 @@
 //! Shows that workers work side by side: of two workers at one node, one is held up before it judges a transaction, outside the node's
-//! lock, until the other one has committed there twice. Prints `1 passed, 0 failed`, or before it what failed.
+//! lock, until two commits there were told. Prints `1 passed, 0 failed`, or before it what failed.
 #![tactic(auto)]
 
 ghost use Rattle.std.specs.Prelude.{◌≡◌, length};

@@ -9,8 +9,8 @@ use flow_machine::FlowSet;
 /// its id, the first transaction signed before that has the state among its inputs.
 ///
 /// As the laws below it holds of every coherent world, whichever journals power cuts leave of it, and at every moment of a way, also within
-/// a call of a disk, whichever images power cuts leave of the disks. What a network does is ways (`network_core::calls_are_ways`), and so is a
-/// script (`node_shell::scripts_are_ways`).
+/// a call of a disk, whichever images power cuts leave of the disks. What a network does is ways (`network_core::calls_are_ways`), and a
+/// script is a passage (`node_shell::scripts_are_passages`): ways, with work side by side between them.
 pub fn each_state_has_one_consumer<F>()
     ensures worlds { (m : Meaning F) → InWorlds m (Made HasOneConsumerEach) }
     ensures moments { (m : Meaning F) → OnWays m (Made HasOneConsumerEach) }
