@@ -40,7 +40,7 @@ module _ {F : Type 0} (e : Environment F) (start : World) where
 
   course_on : (c : Course) (reply : Option Reply) (w v : World) → GoesOver (world_states e) e.machine c w reply v → On w v
   course_on = course_goes (world_states e) On (λ w v is before. unmoved w v before is) (λ w u v one two before. two (one before)) follows_on
-      (λ commits w v works before. by_work commits before works.0 works.1 (here refl)) e.machine
+      (λ commits w v works before. by_work commits before works.0 works.2 (here refl)) e.machine
 
   makes_attains : (w v : World) (d : Doing) (asked : Command) (words : List (List ℕ)) (reply : Reply) → Attains e start w → Makes e w d asked words reply v → Attains e start v
   makes_attains w v (making s) asked words reply before (o, serve, told) = one_more w v s (Some o) before serve

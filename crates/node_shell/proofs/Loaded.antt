@@ -19,11 +19,12 @@ use Rattle.network_core.specs.Drains.{Pair, with_world}
 use Rattle.network_core.specs.Served.{NetFollows, PairFollows, FollowPairs}
 use Rattle.network_core.specs.Worlds.{World, NodeWorld, NetSeen, Shows, ShowsJournal, KeepsWorld}
 use Rattle.network_core.proofs.KeepingCalls.{pairs_are_both}
+use Rattle.flow_workers.specs.Ends.{WorkedOn, KeepsTails}
 use Rattle.shell_words.specs.declared.commands.Command.TheVariants as command
 use Rattle.node_shell.specs.declared.replies.Reply.{Reply}
 use Rattle.node_shell.specs.LedgerPrint.{vault_in}
 use Rattle.node_shell.specs.Loads.{Course, load, work, Deal, Pays, none, more, Loaded, Breaks, BreaksFirst, PaysShort, LoadedShort, Loads, WorksOrNot, GoesOver, all_but, is_paid, then_drain, issues_by, deals_of}
-use Rattle.node_shell.specs.Serve.{Comes, ended_by, ended_up, ended_in, held_from, world_states}
+use Rattle.node_shell.specs.Serve.{Comes, ended_by, ended_up, ended_in, held_from, waiting_in, world_states}
 use Rattle.node_shell.specs.Responds.{given, ended_seen, held_by, held_of, net_states, notary_seen}
 use Rattle.node_shell.specs.Together.{InPair, pair_states}
 use Rattle.node_shell.proofs.Loading.{paid_same, course_map}
@@ -117,6 +118,11 @@ module _ {F : Type 0} (e : Environment F) (net : NetSeen) (w : World) (shows : S
           let notary = ap (λ (o : Option NodeSeen). option_map_or (λ m. m.identity.notary.0) o 0) first ∙ ap (λ (i : Identity). i.notary.0) (stands e net w shows 0 n first).2.identity_is in
           ap (λ k. all_but k (length net.nodes)) (sym notary)
 
+-- work side by side keeps what waits at each node of the worlds that it leads between, as it does of the networks
+tails_shown : {F : Type 0} (m : Meaning F) (e : Environment F) (old new : NetSeen) (w v : World) (commits : ℕ) → Shows e old w → Shows e new v → WorkedOn m old new commits false → KeepsTails (waiting_in w) (waiting_in v)
+tails_shown m e old new w v commits before after works =
+    subst (λ (l : List (List (List ℕ))). KeepsTails l (waiting_in v)) (sym before.waiting) (subst (λ (l : List (List (List ℕ))). KeepsTails old.waiting l) (sym after.waiting) works.tails)
+
 -- ---- both together
 
 module _ {F : Type 0} (m : Meaning F) (id : Identity) where
@@ -186,7 +192,7 @@ module _ {F : Type 0} (m : Meaning F) (id : Identity) where
   course_in (work workers turns seed) (Some reply) a k (inr (up, (commits, works, told))) =
       let v = works.leads id a.world a.shows a.coherent in
       let shows = subst (λ (n : ℕ). Shows env (record { nodes = k.nodes; waiting = k.waiting; now = n }) v.0) (sym works.now) v.1 in
-      record { world = v.0; shows = shows; coherent = v.2; holds = inr (up, (commits, (works, v.3), told)) }
+      record { world = v.0; shows = shows; coherent = v.2; holds = inr (up, (commits, (works, v.3, tails_shown m env a.net k a.world v.0 commits a.shows shows works), told)) }
   course_in (work workers turns seed) None a k is = same_in (λ b. GoesOver (pair_states m id) m.machine (work workers turns seed) a None b) a k is refl
 
   -- so of the worlds alone
@@ -194,7 +200,7 @@ module _ {F : Type 0} (m : Meaning F) (id : Identity) where
   course_world c reply a b h =
       course_map (pair_states m id) (world_states env) (λ (z : Pair env). z.world) (λ p f z. ended_shown env z.net z.world z.shows p f)
       (λ steps outcomes all x y follows. (pairs_are_both m id x y).worlds steps outcomes all follows)
-      (λ commits x y works. (works.1, y.coherent))
+      (λ commits x y works. (works.1, works.2, y.coherent))
       m.machine (λ z. payers_shown env z.net z.world z.shows) (λ z. up_shown env z.net z.world z.shows) (λ z. held_shown env z.net z.world z.shows) c reply a b h
 
 -- such a command of a network comes to the same of each world that it shows

@@ -24,6 +24,7 @@ use Rattle.network_core.specs.declared.steps.Step.TheVariants as step
 use Rattle.network_core.specs.Worlds.{World, NodeWorld, Coherent}
 use Rattle.network_core.specs.Served.{Serve, Follows}
 use Rattle.work_law.specs.Works.{WorldWorks}
+use Rattle.flow_workers.specs.Ends.{KeepsTails}
 use Rattle.shell_words.specs.declared.commands.Command.{Command}
 use Rattle.shell_words.specs.declared.commands.Command.TheVariants as command
 use Rattle.shell_words.specs.declared.commands.TxName.{TxName}
@@ -153,7 +154,11 @@ abbrev pub held_from : {F : Type 0} → Reads F → ℕ → List NodeWorld → L
 held_from frame_at p [] = []
 held_from frame_at p (x ∷ xs) = (if x.up then vault_in p (state_of frame_at x.journal) else []) ++ held_from frame_at (suc p) xs
 
--- worlds; work side by side leads from one to a coherent one
+-- the frames that wait at each node of a world
+abbrev pub waiting_in : World → List (List (List ℕ))
+waiting_in w = map (λ (x : NodeWorld). x.waiting) w.nodes
+
+-- worlds; work side by side leads from one to a coherent one, where what waited at each node beyond the first 1,024 frames waits last
 abbrev pub world_states : {F : Type 0} → Environment F → CourseStates World
 world_states e = record {
   payers = λ w. all_but e.notary.0 (length w.nodes);
@@ -161,7 +166,7 @@ world_states e = record {
   follows = Follows e;
   has_ended = ended_in e;
   held = λ w. held_from e.frame_at 0 w.nodes;
-  works = λ commits w v. WorldWorks commits w v × Coherent e v;
+  works = λ commits w v. WorldWorks commits w v × KeepsTails (waiting_in w) (waiting_in v) × Coherent e v;
 }
 
 -- ---- answers that change nothing

@@ -16,14 +16,14 @@ use Rattle.network_core.specs.Served.{PairServes, PairFollows}
 use Rattle.network_core.specs.Worlds.{World, NetSeen, Shows, Coherent}
 use Rattle.work_law.specs.Works.{WorldWorks}
 use Rattle.work_law.specs.Passages.{Passage, IsPassed}
-use Rattle.flow_workers.specs.Ends.{WorkedOn}
+use Rattle.flow_workers.specs.Ends.{WorkedOn, KeepsTails}
 use Rattle.shell_words.specs.Script.{words_of, asked_by}
 use Rattle.node_shell.specs.declared.replies.Reply.{Reply}
 use Rattle.node_shell.specs.declared.replies.Reply.TheVariants.{Told}
 use Rattle.node_shell.specs.declared.statuses.Status.{Status}
 use Rattle.node_shell.specs.declared.statuses.Status.TheVariants as status
 use Rattle.node_shell.specs.Loads.{CourseStates, GoesOver}
-use Rattle.node_shell.specs.Serve.{Doing, asking, making, going, doing_of, recorded_in, RepliesTo, Leaves, Link, RunsShort}
+use Rattle.node_shell.specs.Serve.{Doing, asking, making, going, doing_of, recorded_in, waiting_in, RepliesTo, Leaves, Link, RunsShort}
 use Rattle.node_shell.specs.Responds.{net_states, recorded_seen, NetLink, NetLeft, NetShort}
 use Rattle.node_shell.specs.Story.{Story, begins, goes_on, EndsWith, ScriptRun}
 
@@ -35,7 +35,7 @@ abbrev pub StepGoes : {F : Type 0} (m : Meaning F) (id : Identity)
 StepGoes m id s (Some reply) a b = (o : Outcome) × PairServes m id s (Some o) a b × (reply ≡ Told o)
 StepGoes m id s None a b = (b ≡ a) ⊎ PairServes m id s None a b
 
--- networks together with their worlds, as such a command goes over them
+-- networks together with their worlds, as such a command goes over them; what waits in the worlds is kept as in the networks
 abbrev pub pair_states : {F : Type 0} (m : Meaning F) (id : Identity) → CourseStates (Pair (environment m id))
 pair_states m id = record {
   payers = λ a. (net_states m).payers a.net;
@@ -43,7 +43,7 @@ pair_states m id = record {
   follows = PairFollows m id;
   has_ended = λ p f a. (net_states m).has_ended p f a.net;
   held = λ a. (net_states m).held a.net;
-  works = λ commits a b. WorkedOn m a.net b.net commits false × WorldWorks commits a.world b.world;
+  works = λ commits a b. WorkedOn m a.net b.net commits false × WorldWorks commits a.world b.world × KeepsTails (waiting_in a.world) (waiting_in b.world);
 }
 
 -- so of what a line does; where it only asks both stay as they are

@@ -42,7 +42,7 @@ pub record Lasts (count : ℕ) (old new : NodeSeen) : Type 0 where
   pub journal : (bodies more : List (List ℕ)) → old.journal ≡ Some bodies → new.journal ≡ Some more → GoesOnBy count bodies more
   pub rose : (bodies : List (List ℕ)) → old.journal ≡ Some bodies → new.journal ≡ None → Rose old.disk.faults new.disk.faults
   pub later : old.disk.faults ≤ new.disk.faults
-  -- a calm disk gives no fault and stays calm
+  -- a calm disk stays calm, and its node up
   pub calm : old.disk.calm ≡ true → new.disk.calm ≡ true
   pub stays_up : (bodies : List (List ℕ)) → old.disk.calm ≡ true → old.journal ≡ Some bodies → new.journal ≡ None → ⊥
   pub file : new.disk.of_file ≡ old.disk.of_file
