@@ -54,8 +54,8 @@ pub fn make_rooms(waiting: &mut Vec<Waiting>) -> Result<(), AllocError>
 }
 
 /// Puts the frames of each list in the place of the first 1,024 that wait at its node: before those that stay, in order, each once, and none
-/// that stays. There is room for them, and for those that wait, so it takes no memory. The number of steps at a node is the square of how
-/// many stay.
+/// that stays. There is room for them, and for those that wait, so it takes no memory. Where n frames stay at a node, the number of steps
+/// there is of the order of n times the sum of n and 1,024.
 pub fn put_each(waiting: &mut Vec<Waiting>, lists: Vec<Vec<ByteList>>)
     requires each { length lists.items ≡ length waiting.old.items }
     requires few { AllByRecursion (λ v. length v.items ≤ 1024) lists.items }

@@ -101,9 +101,6 @@ moves_wider at took sa sb old new wider h = record {
   taken = h.taken;
 }
 
-pub moves_fewer : (at : ℕ) (took : List Frame) (sent : List Outgoing) (old new : List Seen) → Moves at took sent old new → Moves at [] sent old new
-moves_fewer at took sent old new h = record { count = h.count; shares = h.shares; pulled = h.pulled; posted = h.posted; taken = λ t be x has. absurd has }
-
 -- ---- posts and pulls
 
 -- a post, as the inbox answers it
@@ -169,24 +166,11 @@ got (y ∷ xs) (suc n) x below is = got xs n x (omega (arith, below)) is
 pub pass_at : (passes : List InboxPass) (inboxes : List TableId) (n : ℕ) (x : InboxPass) → map (λ (p : InboxPass). p.of) passes ≡ inboxes → n < length inboxes → x ≡ get_or passes n x → slice_get passes n ≡ Some x
 pass_at passes inboxes n x of below is = got passes n x (omega (arith, below, ap (λ (l : List TableId). length l) of, length-map passes (λ (p : InboxPass). p.of))) is
 
--- a pull, as the inbox answers it
-pub pulled_none : (r : Option Frame) (at : ℕ) (passes : List InboxPass) (pass new : InboxPass) → slice_get passes at ≡ Some pass → IfNone r (new.seen ≡ pass.seen)
-    → IfNone r (Moves at [] [] (map (λ (p : InboxPass). p.seen) passes) (map (λ (p : InboxPass). p.seen) (slice_set passes at new)))
-pulled_none None at passes pass new there h = moved_in at at [] [] passes pass new there (goes_refused at [] pass.seen new.seen h) (λ r be x none. absurd none)
-pulled_none (Some x) at passes pass new there h = tt
-
 -- the pass of the place has the frame then
 has_now : (at : ℕ) (passes : List InboxPass) (pass new : InboxPass) (x : Frame) → slice_get passes at ≡ Some pass → IsIn x new.seen.pulled → (r : Seen) → slice_get (slice_set (map (λ (p : InboxPass). p.seen) passes) at new.seen) at ≡ Some r → IsIn x r.pulled
 has_now at passes pass new x there had r be =
     let now = get_there (map (λ (p : InboxPass). p.seen) passes) at pass.seen new.seen (get_map (λ (p : InboxPass). p.seen) passes at pass there) in
     subst (λ (z : Seen). IsIn x z.pulled) (some_eq (sym now ∙ be)) had
-
-pub pulled_some : (r : Option Frame) (at : ℕ) (passes : List InboxPass) (pass new : InboxPass) → slice_get passes at ≡ Some pass → IfSome r (λ x. new.seen ≡ pulled_one pass.seen x)
-    → IfSome r (λ x. Moves at (x ∷ []) [] (map (λ (p : InboxPass). p.seen) passes) (map (λ (p : InboxPass). p.seen) (slice_set passes at new)))
-pulled_some None at passes pass new there h = tt
-pulled_some (Some x) at passes pass new there h =
-    let goes = goes_pulled at x pass.seen new.seen h in
-    moved_in at at (x ∷ []) [] passes pass new there goes.0 (λ r be y one. ⊎_elim (λ same. subst (λ (z : Frame). IsIn z r.pulled) (sym same) (has_now at passes pass new x there goes.1 r be)) (λ none. absurd none) one)
 
 pub pulled_has : (r : Option Frame) (at : ℕ) (passes : List InboxPass) (pass new : InboxPass) → slice_get passes at ≡ Some pass → IfSome r (λ x. new.seen ≡ pulled_one pass.seen x)
     → IfSome r (λ x. (s : Seen) → slice_get (map (λ (p : InboxPass). p.seen) (slice_set passes at new)) at ≡ Some s → IsIn x s.pulled)
@@ -210,16 +194,3 @@ pulled_whole at passes pass new there from s be = subst FromOrigins (some_eq (sy
     now : slice_get (map (λ (p : InboxPass). p.seen) (slice_set passes at new)) at ≡ Some new.seen
     now = get_map (λ (p : InboxPass). p.seen) (slice_set passes at new) at new (get_there passes at pass new there)
 
--- fewer are said to be taken
-pub moves_less : (at : ℕ) (took more : List Frame) (sent : List Outgoing) (old new : List Seen) → Moves at (took ++ more) sent old new → Moves at took sent old new
-moves_less at took more sent old new h = record { count = h.count; shares = h.shares; pulled = h.pulled; posted = h.posted; taken = λ t be x has. h.taken t be x (in_left x took more has) }
-
-pub moves_on : (at : ℕ) (took : List Frame) (old mid new : List Seen) → Moves at took [] old mid → Moves at [] [] mid new → Moves at took [] old new
-moves_on at took old mid new h k = moves_less at took [] [] old new (moves_then at took [] [] [] old mid new h k)
-
-pub moves_pushed : (at : ℕ) (left pushed : List Frame) (frame : Frame) (old mid new : List Seen) → pushed ≡ left ++ frame ∷ [] → Moves at left [] old mid → Moves at (frame ∷ []) [] mid new → Moves at pushed [] old new
-moves_pushed at left pushed frame old mid new is h k = subst (λ (l : List Frame). Moves at l [] old new) (sym is) (moves_then at left (frame ∷ []) [] [] old mid new h k)
-
--- the passes of other inboxes stay
-pub others_stay : (passes : List InboxPass) (at : ℕ) (new : InboxPass) (q : ℕ) → (q ≡ at → ⊥) → slice_get (map (λ (p : InboxPass). p.seen) (slice_set passes at new)) q ≡ slice_get (map (λ (p : InboxPass). p.seen) passes) q
-others_stay passes at new q other = ap (λ (l : List Seen). slice_get l q) (map_set (λ (p : InboxPass). p.seen) passes at new) ∙ get_other (map (λ (p : InboxPass). p.seen) passes) at new.seen q other

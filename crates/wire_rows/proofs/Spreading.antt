@@ -1,12 +1,12 @@
 -- One share more is given away.
-use Rattle.std.proofs.Common.{◌≡◌, ℕ, ◌+◌, ◌<◌, List, [], ◌∷◌, map, ◌++◌, slice_get, Some, Vec, Global, sym, ap, subst, arith}
+use Rattle.std.proofs.Common.{◌≡◌, ℕ, ◌+◌, ◌-◌, ◌<◌, List, [], ◌∷◌, map, ◌++◌, slice_get, Some, Vec, Global, sym, ap, ◌∙◌, subst, arith}
 use Rattle.std.specs.List.{AllByRecursion}
-use Rattle.net_base.proofs.Lists.{of_map, get_map, all_from_get, all_get, all_push}
+use Rattle.net_base.proofs.Lists.{of_map, get_map, all_from_get, all_get, all_push, map_both, map_twice}
 use Rattle.wire_queue.specs.declared.rule.Seen.{Seen}
 use Rattle.wire_queue.specs.declared.inbox.InboxPass.{InboxPass}
-use Rattle.wire_queue.specs.Wire.{Frame, IsIn, fewer, fresh}
+use Rattle.wire_queue.specs.Wire.{Frame, IsIn, seen, fewer, fresh}
 use Rattle.atomic_table.specs.Seated.{TableId}
-use Rattle.wire_rows.specs.Rows.{AreRows, Spread}
+use Rattle.wire_rows.specs.Rows.{AreRows, Spread, given_of}
 
 -- what stands behind is what stood before, with a share less
 came : (old kept : List InboxPass) → map (λ (p : InboxPass). p.seen) kept ≡ map (λ (p : InboxPass). fewer p.seen) old → (q : ℕ) (s : Seen) → slice_get (map (λ (p : InboxPass). p.seen) kept) q ≡ Some s → (p : InboxPass) × (slice_get old q ≡ Some p) × (fewer p.seen ≡ s)
@@ -37,3 +37,12 @@ all_pushed P xs ys x is all here = subst (λ (l : List _). AllByRecursion P l) (
 pub rows_are : (ids : List TableId) (rows : List (Vec InboxPass Global)) → AreRows ids rows → AllByRecursion (λ (row : Vec InboxPass Global). (map (λ (p : InboxPass). p.of) row.items ≡ ids) × AllByRecursion (λ (p : InboxPass). p.seen ≡ fresh) row.items) rows
 unfolding AreRows
 rows_are ids rows h = h
+
+-- what is left of the passes
+fewer_given : (k : ℕ) (s : Seen) → fewer (given_of k s) ≡ given_of (k + 1) s
+fewer_given k s = let is : s.shares - k - 1 ≡ s.shares - (k + 1) = omega arith in ap (λ (n : ℕ). seen n s.origins s.copies s.pulled) is
+
+pub given_step : (first old kept : List InboxPass) (k : ℕ) → map (λ (p : InboxPass). p.seen) old ≡ map (λ (p : InboxPass). given_of k p.seen) first → map (λ (p : InboxPass). p.seen) kept ≡ map (λ (p : InboxPass). fewer p.seen) old
+    → map (λ (p : InboxPass). p.seen) kept ≡ map (λ (p : InboxPass). given_of (k + 1) p.seen) first
+given_step first old kept k is next =
+    next ∙ sym (map_both fewer (λ (p : InboxPass). p.seen) old) ∙ ap (map fewer) is ∙ map_twice fewer (λ (p : InboxPass). given_of k p.seen) (λ (p : InboxPass). given_of (k + 1) p.seen) first (λ p. fewer_given k p.seen)

@@ -1,11 +1,15 @@
 -- Passes of all inboxes, one of each, as a call begins.
-use Rattle.std.specs.Prelude.{◌≡◌, ℕ, ◌+◌, List, map, slice_get, Some, Vec}
+use Rattle.std.specs.Prelude.{◌≡◌, ℕ, ◌+◌, ◌-◌, List, map, slice_get, Some, Vec}
 use Rattle.std.specs.Global.{Global}
 use Rattle.std.specs.List.{AllByRecursion}
 use Rattle.atomic_table.specs.Seated.{TableId}
 use Rattle.wire_queue.specs.declared.inbox.InboxPass.{InboxPass}
 use Rattle.wire_queue.specs.declared.rule.Seen.{Seen}
-use Rattle.wire_queue.specs.Wire.{Frame, IsIn, fresh}
+use Rattle.wire_queue.specs.Wire.{Frame, IsIn, seen, fresh}
+
+-- so many shares of the pass were given away
+abbrev pub given_of : ℕ → Seen → Seen
+given_of n s = seen (s.shares - n) s.origins s.copies s.pulled
 
 -- so many shares were given away, and each origin waited at the inbox's place
 pub record Spread (waited : List (List Frame)) (given : ℕ) (own : List Seen) : Type 0 where

@@ -1,11 +1,11 @@
 //! Inboxes that are drained.
 
-ghost use Rattle.std.specs.Prelude.{◌≡◌, ◌≤◌, ℕ, [], length, map, slice_get, Some, vec_capacity};
+ghost use Rattle.std.specs.Prelude.{◌≡◌, ◌<◌, ◌≤◌, ℕ, [], length, map, slice_get, Some, vec_capacity};
 ghost use Rattle.std.specs.List.{AllByRecursion};
 ghost use Rattle.wire_queue.specs.declared.rule.Seen.{Seen};
-ghost use Rattle.wire_queue.specs.Wire.{FromOrigins};
+ghost use Rattle.wire_queue.specs.Wire.{FromOrigins, Settled};
 ghost use Rattle.wire_rows.specs.Ends.{Drained, IsRoom};
-ghost use Rattle.wire_rows.specs.Moves.{Moves};
+ghost use Rattle.wire_rows.specs.Moves.{Moves, changed, pulled_all};
 
 use super::moving::pull_from;
 use net_base::ByteList;
@@ -15,7 +15,8 @@ use wire_queue::{Inbox, InboxPass};
 /// How many frames an inbox holds at most.
 const MOST: usize = 1024;
 
-/// Pulls what is left in the inbox of a place, in order. The list for it is empty, and has room for all that an inbox may hold.
+/// Pulls what is left in the inbox of a place, in order, 1,024 frames at most, and gives just what it pulled. The list for it is empty, and
+/// has room for all that an inbox may hold.
 fn drain_one<R: Wait>(
     rt: &R,
     inboxes: &[Inbox],
@@ -26,13 +27,12 @@ fn drain_one<R: Wait>(
     requires of { map (λ p. p.of) own.old.items ≡ inboxes.now }
     requires room { IsRoom room }
     ensures of { map (λ p. p.of) own.new.items ≡ inboxes.now }
-    ensures moves { Moves at result.items [] (map (λ p. p.seen) own.old.items)
-        (map (λ p. p.seen) own.new.items) }
+    ensures pulled { map (λ p. p.seen) own.new.items
+        ≡ changed (map (λ p. p.seen) own.old.items) at (λ s. pulled_all s result.items) }
+    ensures emptied { length result.items < 1024 → (s : Seen)
+        → slice_get (map (λ p. p.seen) own.new.items) at ≡ Some s → Settled s [] }
     ensures whole { (s : Seen) → slice_get (map (λ p. p.seen) own.new.items) at ≡ Some s
         → FromOrigins s }
-    ensures others { (q : ℕ) → (q ≡ at → ⊥)
-        → slice_get (map (λ p. p.seen) own.new.items) q
-        ≡ slice_get (map (λ p. p.seen) own.old.items) q }
     ensures few { length result.items ≤ 1024 }
 {
     let mut left = room;
@@ -45,8 +45,8 @@ fn drain_one<R: Wait>(
     left
 }
 
-/// Pulls what is left in each inbox, in order, without memory. There is an empty list for each, with room for all that an inbox may hold,
-/// and the list for these lists is empty and has room.
+/// Pulls what is left in each inbox, in order, 1,024 frames at most, and gives just what it pulled, without memory. There is an empty list
+/// for each, with room for all that an inbox may hold, and the list for these lists is empty and has room.
 pub fn drain_all<R: Wait>(
     rt: &R,
     inboxes: &[Inbox],
@@ -65,7 +65,7 @@ pub fn drain_all<R: Wait>(
     ensures moves { (at : ℕ) → Moves at [] [] (map (λ p. p.seen) own.old.items)
         (map (λ p. p.seen) own.new.items) }
     ensures left { Drained (length inboxes.now) (map (λ v. v.items) result.items)
-        (map (λ p. p.seen) own.new.items) }
+        (map (λ p. p.seen) own.old.items) (map (λ p. p.seen) own.new.items) }
 {
     let mut lists = room;
     'lists: for list in rooms {

@@ -3,7 +3,7 @@
 ghost use Rattle.std.specs.Prelude.{◌≡◌, ◌≤◌, ◌<◌, List, [], length, map, IfOk};
 ghost use Rattle.std.specs.List.{AllByRecursion};
 ghost use Rattle.wire_queue.specs.Wire.{Frame, seen, fewer, fresh};
-ghost use Rattle.wire_rows.specs.Rows.{AreRows, Spread};
+ghost use Rattle.wire_rows.specs.Rows.{AreRows, Spread, given_of};
 
 use std::alloc::{AllocError, Global};
 use std::sync::Wait;
@@ -71,6 +71,8 @@ pub fn rows_of(
     ensures of { IfOk result (λ r. map (λ p. p.of) r.0.items ≡ inboxes.now) }
     ensures count { IfOk result (λ r. length r.1.items ≡ count) }
     ensures rows { IfOk result (λ r. AreRows inboxes.now r.1.items) }
+    ensures kept { IfOk result (λ r. map (λ p. p.seen) r.0.items
+        ≡ map (λ p. given_of count p.seen) own.items) }
     ensures spread { IfOk result (λ r. (waited : List (List Frame))
         → Spread waited 0 (map (λ p. p.seen) own.items)
         → Spread waited count (map (λ p. p.seen) r.0.items)) }

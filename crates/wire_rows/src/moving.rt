@@ -1,10 +1,10 @@
 //! What a node does with its passes of all inboxes.
 
-ghost use Rattle.std.specs.Prelude.{◌≡◌, ℕ, [], ◌∷◌, map, slice_get, Some, IfSome, IfNone};
+ghost use Rattle.std.specs.Prelude.{◌≡◌, ℕ, [], ◌∷◌, map, take, slice_get, Some, IfSome, IfNone};
 ghost use Rattle.std.specs.Option.{option_to_list};
 ghost use Rattle.wire_queue.specs.declared.rule.Seen.{Seen};
-ghost use Rattle.wire_queue.specs.Wire.{IsIn, FromOrigins};
-ghost use Rattle.wire_rows.specs.Moves.{Moves};
+ghost use Rattle.wire_queue.specs.Wire.{IsIn, pulled_one, FromOrigins, Settled};
+ghost use Rattle.wire_rows.specs.Moves.{Moves, PostedAll, PostedAt, changed};
 
 use net_base::ByteList;
 use session_frames::{Outgoing, OutgoingList};
@@ -15,6 +15,8 @@ use wire_queue::{Inbox, InboxPass};
 fn post_to<R: Wait>(rt: &R, inboxes: &[Inbox], passes: &mut Vec<InboxPass>, out: Outgoing)
     requires { map (λ p. p.of) passes.old.items ≡ inboxes.now }
     ensures of { map (λ p. p.of) passes.new.items ≡ inboxes.now }
+    ensures posted { PostedAt out.to.0 out.bytes (map (λ p. p.seen) passes.old.items)
+        (map (λ p. p.seen) passes.new.items) }
     ensures moves { (at : ℕ) → Moves at [] (out ∷ []) (map (λ p. p.seen) passes.old.items)
         (map (λ p. p.seen) passes.new.items) }
 {
@@ -26,7 +28,9 @@ fn post_to<R: Wait>(rt: &R, inboxes: &[Inbox], passes: &mut Vec<InboxPass>, out:
     inboxes[to].post(rt, pass, out.bytes);
 }
 
-/// Posts the first `most` of these frames, each to the inbox of its addressee. One is lost where that is full, or there is none.
+/// Posts the first `most` of these frames, in order, each once to the inbox of its addressee, and no others. One is lost where that is
+/// full, or there is none. Any number will do: with 0 none is posted, and with more than there are, all. How many are posted is bounded by
+/// `most` alone.
 pub fn post_first<R: Wait>(
     rt: &R,
     inboxes: &[Inbox],
@@ -36,6 +40,8 @@ pub fn post_first<R: Wait>(
 )
     requires { map (λ p. p.of) passes.old.items ≡ inboxes.now }
     ensures of { map (λ p. p.of) passes.new.items ≡ inboxes.now }
+    ensures posted { PostedAll (take most frames) (map (λ p. p.seen) passes.old.items)
+        (map (λ p. p.seen) passes.new.items) }
     ensures moves { (at : ℕ) → Moves at [] frames (map (λ p. p.seen) passes.old.items)
         (map (λ p. p.seen) passes.new.items) }
 {
@@ -46,7 +52,7 @@ pub fn post_first<R: Wait>(
     }
 }
 
-/// Posts a frame, if there is one, to the inbox of its addressee. It is lost where that is full, or there is none.
+/// Posts a frame, if there is one, once to the inbox of its addressee. It is lost where that is full, or there is none.
 pub fn post_ack<R: Wait>(
     rt: &R,
     inboxes: &[Inbox],
@@ -55,6 +61,8 @@ pub fn post_ack<R: Wait>(
 )
     requires { map (λ p. p.of) passes.old.items ≡ inboxes.now }
     ensures of { map (λ p. p.of) passes.new.items ≡ inboxes.now }
+    ensures posted { PostedAll (option_to_list ack) (map (λ p. p.seen) passes.old.items)
+        (map (λ p. p.seen) passes.new.items) }
     ensures moves { (at : ℕ) → Moves at [] (option_to_list ack) (map (λ p. p.seen) passes.old.items)
         (map (λ p. p.seen) passes.new.items) }
 {
@@ -63,7 +71,8 @@ pub fn post_ack<R: Wait>(
     }
 }
 
-/// Pulls a frame from the inbox of a place. `None` comes only where that was empty at a step of this call, or there is none.
+/// Pulls the front frame from the inbox of a place, and no other. `None` comes only where that was empty at a step of this call, or there
+/// is none; then nothing was pulled. With every share, what was pulled is just what was posted then.
 pub fn pull_from<R: Wait>(
     rt: &R,
     inboxes: &[Inbox],
@@ -72,18 +81,16 @@ pub fn pull_from<R: Wait>(
 ) -> Option<ByteList>
     requires { map (λ p. p.of) passes.old.items ≡ inboxes.now }
     ensures of { map (λ p. p.of) passes.new.items ≡ inboxes.now }
-    ensures none { IfNone result (Moves at [] [] (map (λ p. p.seen) passes.old.items)
-        (map (λ p. p.seen) passes.new.items)) }
-    ensures pulled { IfSome result (λ x.
-        Moves at (x ∷ []) [] (map (λ p. p.seen) passes.old.items)
-        (map (λ p. p.seen) passes.new.items)) }
+    ensures none { IfNone result (map (λ p. p.seen) passes.new.items
+        ≡ map (λ p. p.seen) passes.old.items) }
+    ensures empty { IfNone result ((s : Seen)
+        → slice_get (map (λ p. p.seen) passes.new.items) at ≡ Some s → Settled s []) }
+    ensures pulled { IfSome result (λ x. map (λ p. p.seen) passes.new.items
+        ≡ changed (map (λ p. p.seen) passes.old.items) at (λ s. pulled_one s x)) }
     ensures has { IfSome result (λ x. (s : Seen)
         → slice_get (map (λ p. p.seen) passes.new.items) at ≡ Some s → IsIn x s.pulled) }
     ensures whole { (s : Seen) → slice_get (map (λ p. p.seen) passes.new.items) at ≡ Some s
         → FromOrigins s }
-    ensures others { (q : ℕ) → (q ≡ at → ⊥)
-        → slice_get (map (λ p. p.seen) passes.new.items) q
-        ≡ slice_get (map (λ p. p.seen) passes.old.items) q }
 {
     if at >= inboxes.len() {
         return None;
@@ -92,7 +99,7 @@ pub fn pull_from<R: Wait>(
     inboxes[at].pull(rt, pass)
 }
 
-/// Posts a frame that was pulled from the inbox of a place to that inbox again. It is lost where that is full.
+/// Posts a frame that was pulled from the inbox of a place once to that inbox again. It is lost where that is full.
 pub fn post_back<R: Wait>(
     rt: &R,
     inboxes: &[Inbox],
@@ -104,6 +111,8 @@ pub fn post_back<R: Wait>(
     requires had { (s : Seen) → slice_get (map (λ p. p.seen) passes.old.items) at ≡ Some s
         → IsIn frame s.pulled }
     ensures of { map (λ p. p.of) passes.new.items ≡ inboxes.now }
+    ensures posted { PostedAt at frame (map (λ p. p.seen) passes.old.items)
+        (map (λ p. p.seen) passes.new.items) }
     ensures moves { Moves at [] [] (map (λ p. p.seen) passes.old.items)
         (map (λ p. p.seen) passes.new.items) }
 {

@@ -3,6 +3,7 @@ use Rattle.std.specs.List.{AllByRecursion}
 use Rattle.wire_rows.specs.Ends.{IsRoom}
 use Rattle.wire_rows.proofs.Moved.{moves_then, shift}
 use Rattle.wire_rows.proofs.Drains.{drained_push, moves_any}
+use Rattle.wire_rows.proofs.Steps.{moves_pulled}
 use Rattle.wire_rows.proofs.Spreading.{all_pushed}
 use Rattle.wire_rows.proofs.draining.drain_all.Goals as goal
 
@@ -22,6 +23,6 @@ lists-preserved g c =
       count = omega (arith, len, inv.count, length-append c.lists.yielded (c.in-Some.list ∷ []));
       few = all_pushed _ c.lists.lists.items c.push.new.self.items c.drain_one-left.result pushed inv.few c.drain_one-left.ensures.few;
       room = omega (arith, inv.room, c.push.ensures.capacity);
-      moves = λ place. moves_then place [] [] [] [] _ _ _ (inv.moves place) (moves_any c.len.result place _ [] _ _ c.drain_one-left.ensures.moves);
-      left = drained_push c.len.result c.lists.lists.items c.push.new.self.items c.drain_one-left.result _ _ pushed at inv.left c.drain_one-left.ensures.moves c.drain_one-left.ensures.whole c.drain_one-left.ensures.others;
+      moves = λ place. moves_then place [] [] [] [] _ _ _ (inv.moves place) (moves_any c.len.result place _ [] _ _ (moves_pulled c.len.result _ _ _ c.drain_one-left.ensures.pulled));
+      left = drained_push c.len.result c.lists.lists.items c.push.new.self.items c.drain_one-left.result _ _ _ pushed at inv.left c.drain_one-left.ensures.pulled c.drain_one-left.ensures.emptied c.drain_one-left.ensures.whole;
     }

@@ -15,5 +15,5 @@ invariant-lists g l = record {
   few : AllByRecursion (λ v. length v.items ≤ 1024) l.lists.items;
   room : length l.fn.inboxes ≤ vec_capacity l.lists;
   moves : (at : ℕ) → Moves at [] [] (map (λ p. p.seen) l.fn.own.items) (map (λ p. p.seen) l.own.items);
-  left : Drained (length l.lists.items) (map (λ v. v.items) l.lists.items) (map (λ p. p.seen) l.own.items);
+  left : Drained (length l.lists.items) (map (λ v. v.items) l.lists.items) (map (λ p. p.seen) l.fn.own.items) (map (λ p. p.seen) l.own.items);
 }

@@ -1,7 +1,7 @@
 use Rattle.std.proofs.Common.{◌≡◌, ◌≤◌, ◌<◌, ℕ, [], length, map, slice_get, Some, vec_capacity}
 use Rattle.wire_queue.specs.declared.rule.Seen.{Seen}
 use Rattle.wire_queue.specs.Wire.{FromOrigins}
-use Rattle.wire_rows.specs.Moves.{Moves}
+use Rattle.wire_rows.specs.Moves.{changed, pulled_all}
 use Rattle.wire_rows.proofs.draining.drain_one.Given as goal
 
 abbrev pub invariant-pulls : goal.invariant-pulls
@@ -10,7 +10,6 @@ invariant-pulls g l = record {
   below : l.counter ≤ 1024;
   count : length l.left.items ≡ l.counter;
   room : 1024 ≤ vec_capacity l.left;
-  moves : Moves l.fn.at l.left.items [] (map (λ p. p.seen) l.fn.own.items) (map (λ p. p.seen) l.own.items);
+  pulled : map (λ p. p.seen) l.own.items ≡ changed (map (λ p. p.seen) l.fn.own.items) l.fn.at (λ s. pulled_all s l.left.items);
   whole : 0 < l.counter → (s : Seen) → slice_get (map (λ p. p.seen) l.own.items) l.fn.at ≡ Some s → FromOrigins s;
-  others : (q : ℕ) → (q ≡ l.fn.at → ⊥) → slice_get (map (λ p. p.seen) l.own.items) q ≡ slice_get (map (λ p. p.seen) l.fn.own.items) q;
 }

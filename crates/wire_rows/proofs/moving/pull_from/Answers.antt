@@ -1,5 +1,6 @@
 use Rattle.std.proofs.Common.{◌<◌, length, ◌∙◌, arith}
-use Rattle.wire_rows.proofs.Moved.{same_inboxes, pass_at, pulled_none, pulled_some, pulled_has, pulled_whole, others_stay}
+use Rattle.wire_rows.proofs.Moved.{same_inboxes, pass_at, pulled_has, pulled_whole}
+use Rattle.wire_rows.proofs.Steps.{pull_none, pull_empty, pull_some}
 use Rattle.wire_rows.proofs.moving.pull_from.Goals as goal
 
 pub returns-clause-of : goal.returns-clause-of
@@ -12,13 +13,13 @@ pub returns-clause-none : goal.returns-clause-none
 returns-clause-none g c =
     let below : c.args.at < length c.args.inboxes.now = omega (arith, c.if-at-inboxes.false) in
     let there = pass_at c.args.passes.now.items c.args.inboxes.now c.args.at c.index_mut-pass.result.now c.requires below c.index_mut-pass.ensures.value in
-    pulled_none c.pull.result c.args.at c.args.passes.now.items c.index_mut-pass.result.now c.pull.new.pass there c.pull.ensures.same
+    pull_none c.pull.result c.args.at c.args.passes.now.items c.index_mut-pass.result.now c.pull.new.pass there c.pull.ensures.same
 
 pub returns-clause-pulled : goal.returns-clause-pulled
 returns-clause-pulled g c =
     let below : c.args.at < length c.args.inboxes.now = omega (arith, c.if-at-inboxes.false) in
     let there = pass_at c.args.passes.now.items c.args.inboxes.now c.args.at c.index_mut-pass.result.now c.requires below c.index_mut-pass.ensures.value in
-    pulled_some c.pull.result c.args.at c.args.passes.now.items c.index_mut-pass.result.now c.pull.new.pass there c.pull.ensures.pulled
+    pull_some c.pull.result c.args.at c.args.passes.now.items c.index_mut-pass.result.now c.pull.new.pass there c.pull.ensures.pulled
 
 pub returns-clause-has : goal.returns-clause-has
 returns-clause-has g c =
@@ -32,5 +33,8 @@ returns-clause-whole g c =
     let there = pass_at c.args.passes.now.items c.args.inboxes.now c.args.at c.index_mut-pass.result.now c.requires below c.index_mut-pass.ensures.value in
     pulled_whole c.args.at c.args.passes.now.items c.index_mut-pass.result.now c.pull.new.pass there c.pull.ensures.origins
 
-pub returns-clause-others : goal.returns-clause-others
-returns-clause-others g c q other = others_stay c.args.passes.now.items c.args.at c.pull.new.pass q other
+pub returns-clause-empty : goal.returns-clause-empty
+returns-clause-empty g c =
+    let below : c.args.at < length c.args.inboxes.now = omega (arith, c.if-at-inboxes.false) in
+    let there = pass_at c.args.passes.now.items c.args.inboxes.now c.args.at c.index_mut-pass.result.now c.requires below c.index_mut-pass.ensures.value in
+    pull_empty c.pull.result c.args.at c.args.passes.now.items c.index_mut-pass.result.now c.pull.new.pass there c.pull.ensures.empty
