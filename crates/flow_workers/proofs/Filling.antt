@@ -1,13 +1,13 @@
 -- How the work begins.
-use Rattle.std.proofs.Common.{inl, inr, ◌≡◌, ℕ, zero, suc, ◌+◌, List, [], ◌∷◌, ◌++◌, length, map, take, slice_get, Option, Some, option_to_list, refl, sym, ap, subst, ◌∙◌, arith, length-append}
+use Rattle.std.proofs.Common.{inl, inr, ◌≡◌, ℕ, zero, suc, ◌+◌, ◌-◌, List, [], ◌∷◌, ◌++◌, length, map, take, slice_get, Option, Some, option_to_list, refl, sym, ap, subst, ◌∙◌, arith, length-append}
 use Rattle.std.specs.List.{AllByRecursion}
 use Rattle.std.proofs.lemmas.List.{length-map}
-use Rattle.net_base.proofs.Lists.{all_front, all_from_get, of_map, get_map}
+use Rattle.net_base.proofs.Lists.{all_front, all_from_get, of_map, get_map, map_both}
 use Rattle.waiting_frames.specs.Waiting.{WaitingSeen}
 use Rattle.wire_queue.specs.declared.rule.Seen.{Seen}
 use Rattle.wire_queue.specs.declared.inbox.InboxPass.{InboxPass}
 use Rattle.wire_queue.specs.Wire.{Frame, IsIn, seen}
-use Rattle.wire_rows.specs.Rows.{Spread}
+use Rattle.wire_rows.specs.Rows.{Spread, given_of}
 
 -- ---- the locks
 
@@ -85,3 +85,20 @@ set_spread own kept heads mid old count is heads_are same all spread =
     let first = first_spread own heads mid is heads_are in
     let here = subst (λ (l : List (List Frame)). Spread l 0 (map (λ (p : InboxPass). p.seen) own)) same first in
     subst (λ (n : ℕ). Spread (map (λ (w : WaitingSeen). w.frames) old) n (map (λ (p : InboxPass). p.seen) kept)) all (spread (map (λ (w : WaitingSeen). w.frames) old) here)
+
+-- the passes begin with the first frames that wait, less the shares that were given away
+pub set_heads : (own kept : List InboxPass) (heads : List (List Frame)) (mid old : List WaitingSeen) (count : ℕ) → map (λ (p : InboxPass). p.seen) own ≡ map first_of heads → heads ≡ map head_of mid → map (λ (w : WaitingSeen). w.frames) mid ≡ map (λ (w : WaitingSeen). w.frames) old → count ≡ length old
+    → map (λ (p : InboxPass). p.seen) kept ≡ map (λ (p : InboxPass). given_of count p.seen) own → map (λ (p : InboxPass). p.seen) kept ≡ map (λ (w : WaitingSeen). seen (32 - length old) (take 1024 w.frames) [] []) old
+set_heads own kept heads mid old count is heads_are same all kept_is =
+    kept_is
+    ∙ sym (map_both (given_of count) (λ (p : InboxPass). p.seen) own)
+    ∙ ap (map (given_of count)) (is ∙ ap (map first_of) heads_are)
+    ∙ ap (map (given_of count)) (map_both first_of head_of mid)
+    ∙ map_both (given_of count) (λ (w : WaitingSeen). first_of (head_of w)) mid
+    ∙ ap (λ (n : ℕ). map (λ (w : WaitingSeen). seen (32 - n) (take 1024 w.frames) [] []) mid) all
+    ∙ sym (map_both (part (length old)) (λ (w : WaitingSeen). w.frames) mid)
+    ∙ ap (map (part (length old))) same
+    ∙ map_both (part (length old)) (λ (w : WaitingSeen). w.frames) old
+  where
+    part : ℕ → List Frame → Seen
+    part n frames = seen (32 - n) (take 1024 frames) [] []

@@ -13,6 +13,7 @@ use Rattle.wire_queue.proofs.Wires.{in_append, in_left, in_right, in_origins}
 use Rattle.node_core.specs.Seen.{NodeSeen}
 use Rattle.wire_rows.specs.Moves.{Moves}
 use Rattle.wire_rows.specs.Ends.{Joined, Drained}
+use Rattle.wire_rows.proofs.Drains.{left_in}
 use Rattle.flow_workers.specs.Desks.{Worked}
 use Rattle.work_law.specs.Calls.{Went}
 use Rattle.flow_workers.specs.Gathers.{Gathered, Gathers}
@@ -149,7 +150,7 @@ module _ {F : Type 0} (m : Meaning F) (now : ℕ) (came : List NodeSeen) where
 
   -- all is put together: the nodes are out, and the inboxes were drained by passes with all shares
   pub works_all : (waited : List (List Frame)) (own mid new : List Seen) (nodes : List NodeSeen) (lists : List (List Frame)) (k commits : ℕ) → Spread waited k own → k ≤ 16 → length nodes ≡ k → length came ≡ k → length waited ≡ k → length lists ≡ k → length new ≡ k
-      → Gathers m now came own nodes mid commits → Moves 0 [] [] mid new → Drained k lists new → Works m now came waited nodes lists commits
+      → Gathers m now came own nodes mid commits → Moves 0 [] [] mid new → Drained k lists mid new → Works m now came waited nodes lists commits
   unfolding Gathers
   works_all waited own mid new nodes lists k commits spread few nodes_k came_k waited_k lists_k new_k gathers moves drained =
       let g = gathers waited (32 - k) (begun waited own k spread) in
@@ -158,7 +159,7 @@ module _ {F : Type 0} (m : Meaning F) (now : ℕ) (came : List NodeSeen) where
       let last_g = gathered_moves m now came waited nodes mid new 32 commits 0 [] g32 moves in
       works m now came waited nodes new lists commits last_g (nodes_k ∙ sym came_k) (new_k ∙ sym came_k) (lists_k ∙ sym waited_k)
       (λ q s at. drained.whole q s (omega (arith, less new q s at, new_k)) at)
-      (λ q s frames at be x there. inl (drained.left q frames s be at x there))
+      (λ q s frames at be x there. inl (left_in k lists mid new drained q frames s be at x there))
       (lists_k ∙ sym new_k)
     where
       less : (xs : List Seen) (i : ℕ) (x : Seen) → slice_get xs i ≡ Some x → i < length xs
@@ -172,8 +173,8 @@ works_here m k a b came nodes waited after waiting commits same_meaning same_now
     subst (λ (l : List NodeSeen). Works k b l waited after waiting commits) same_nodes
     (subst (λ (t : ℕ). Works k t came waited after waiting commits) same_now (subst (λ (z : Meaning _). Works z a came waited after waiting commits) same_meaning w))
 
-pub drained_count : (n k : ℕ) (lists : List (List Frame)) (own : List Seen) → n ≡ k → Drained n lists own → Drained k lists own
-drained_count n k lists own is d = subst (λ (j : ℕ). Drained j lists own) is d
+pub drained_count : (n k : ℕ) (lists : List (List Frame)) (own new : List Seen) → n ≡ k → Drained n lists own new → Drained k lists own new
+drained_count n k lists own new is d = subst (λ (j : ℕ). Drained j lists own new) is d
 
 pub seen_length : (own : List InboxPass) (ids : List TableId) (k : ℕ) → map (λ (p : InboxPass). p.of) own ≡ ids → length ids ≡ k → length (map (λ (p : InboxPass). p.seen) own) ≡ k
 seen_length own ids k of is =

@@ -1,7 +1,8 @@
 //! What a call needs besides the nodes.
 
-ghost use Rattle.std.specs.Prelude.{◌≡◌, ◌≤◌, length, map, IfOk, OnOk};
+ghost use Rattle.std.specs.Prelude.{◌≡◌, ◌≤◌, ◌-◌, [], length, map, take, IfOk, OnOk};
 ghost use Rattle.std.specs.List.{AllByRecursion};
+ghost use Rattle.wire_queue.specs.Wire.{seen};
 ghost use Rattle.wire_rows.specs.Ends.{IsRoom};
 ghost use Rattle.wire_rows.specs.Rows.{Spread};
 ghost use Rattle.waiting_heads.specs.Heads.{HasRoom};
@@ -45,8 +46,8 @@ fn rooms_for(alloc: Global, count: usize) -> Result<Vec<Vec<ByteList>>, AllocErr
     Ok(rooms)
 }
 
-/// Inboxes of the first frames that wait at each node, which still wait there, and room for what will be left. The only error is want
-/// of memory.
+/// Inboxes of the first 1,024 frames that wait at each node, in order and no others, which still wait there; a row of passes for each
+/// node; and room for what will be left. The only error is want of memory.
 pub fn set_up<R: Wait>(
     rt: &R,
     alloc: Global,
@@ -57,6 +58,8 @@ pub fn set_up<R: Wait>(
         ≡ map (λ w. w.frames) waiting.old.items }
     ensures room { OnOk result (AllByRecursion HasRoom waiting.new.items) }
     ensures stage { IfOk result (λ s. IsStage (length waiting.old.items) s) }
+    ensures heads { IfOk result (λ s. map (λ p. p.seen) s.own.items ≡ map (λ w.
+        seen (32 - length waiting.old.items) (take 1024 w.frames) [] []) waiting.old.items) }
     ensures spread { IfOk result (λ s. Spread (map (λ w. w.frames) waiting.old.items)
         (length waiting.old.items) (map (λ p. p.seen) s.own.items)) }
 {

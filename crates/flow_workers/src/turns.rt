@@ -17,7 +17,8 @@ use std::thread;
 use std::thread::Threads;
 
 /// How many workers there are, how many turns each of them makes, and from which seed they draw what they do: the worker of number `j`,
-/// from 0, by the words of PCG32 (`Lcg64Xsh32`) from `seed + j`, the sum wrapping.
+/// from 0, by the words of PCG32 (`Lcg64Xsh32`) from `seed + j`, the sum wrapping. Any numbers; with 0 workers or 0 turns no turn is made.
+/// The shell hands 1 to 16 workers and 1 to 10,000 turns.
 #[derive(Clone, Copy, Debug)]
 pub struct Plan {
     pub workers: u8,

@@ -128,9 +128,13 @@ fn unworked<D: Disk, F: FlowSet>(nodes: Vec<Node<D, F>>, waiting: Vec<Waiting>) 
 /// its lock; jobs are run outside. The inboxes begin with the first 1,024 frames that wait at each node, and what is left in them stands
 /// before the others afterwards, in order, each frame once.
 ///
+/// The condition is that these are the parts of a network (`IsNet`), as `Net::into_parts` gives them: there are 16 nodes at most, each has a
+/// list of frames, and no cause of theirs is later than `now`.
+///
 /// Each worker makes its turns in a thread of its own; where none can be made for it, the call makes them itself. All threads have ended
-/// when the call returns. Where memory runs out before any turn was made, nothing has changed (`short`); later it may only keep calls of
-/// nodes from being made. The call may wait for locks.
+/// when the call returns. Where memory runs out before any turn was made, nothing has changed (`short`). Later, a call of a node for which
+/// there is no memory changes nothing; a frame that was pulled for it is lost, as on a line, and a job that was run for it is run again
+/// later. The call may wait for locks, for steps of other threads at an inbox, and for its threads to end.
 pub fn work<
     D: Disk + Send,
     F: FlowSet + Send + Sync,

@@ -26,4 +26,4 @@ returns-clause-works g c waited spread len =
     (seen_length c.drain_all-lists.new.own.items c.inboxes.result.now k c.drain_all-lists.ensures.of ids)
     c.gather-nodes.ensures.gathered
     (c.drain_all-lists.ensures.moves 0)
-    (drained_count _ k _ _ ids c.drain_all-lists.ensures.left))
+    (drained_count _ k _ _ _ ids c.drain_all-lists.ensures.left))
