@@ -6,7 +6,6 @@
 mod beside;
 mod calls;
 mod set;
-mod ships;
 
 pub use beside::Beside;
 pub use calls::{CallFrames, Called, CountFrame, FinalityFrame};
@@ -14,4 +13,3 @@ pub use set::{
     Answering, App, AppFlow, AppSet, Cash, Deals, Talking, answering_means_its_table,
     called_means_its_table, cash_means_its_table, deals_means_its_table, talking_means_its_table,
 };
-pub use ships::Ships;

@@ -193,4 +193,3 @@ pulled_whole at passes pass new there from s be = subst FromOrigins (some_eq (sy
   where
     now : slice_get (map (λ (p : InboxPass). p.seen) (slice_set passes at new)) at ≡ Some new.seen
     now = get_map (λ (p : InboxPass). p.seen) (slice_set passes at new) at new (get_there passes at pass new there)
-
