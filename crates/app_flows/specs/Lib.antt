@@ -3,3 +3,4 @@ pub mod Frames
 pub mod Machines
 pub mod Words
 pub mod Table
+pub mod Seen

@@ -3,12 +3,13 @@
 ghost use Rattle.flow_forms.specs.Tables.{table_part, SameFlows};
 ghost use Rattle.app_flows.specs.Table.{called, answering, cash, talking, deals};
 
+use crate::app::{App, AppCalls};
 use crate::beside::Beside;
-use crate::calls::{CallFrames, Called};
+use crate::calls::Called;
 use cash_flows::{ExitFrame, IssueFrame, PayFrame, SpendFrame};
 use deal_flows::{FactFrame, IouFrame, RefactFrame};
 use finality_flows::AgreeFrame;
-use flow_forms::{ByInit, ByWords, Closed, Closes, Flows, Frame, InFirst, Sum, Tabled};
+use flow_forms::{ByInit, ByWords, Closed, Closes, Flows, Frame, Sum, Tabled};
 use notary_flows::ServiceFrame;
 use resolve_flows::ReceiverFrame;
 use shipped_flows::{Echo, EchoPlace, Ping, PingPlace, Probe, ProbePlace};
@@ -28,11 +29,7 @@ pub type Talking = Sum<Frame<PingPlace, Ping, ByWords>, Frame<ProbePlace, Probe,
 /// The machines of agreements: 6 states a fact, 7 changes one, and 9 makes a debt.
 pub type Deals = Sum<FactFrame, Sum<RefactFrame, IouFrame>>;
 
-/// All machines. The sums are as flat as can be: what the prover computes of a sum grows with how deep it is. The frames of machines that
-/// keep much stand on the heap (`Beside`), since each frame is as large as the largest, and a step moves it some ten times.
-pub type App = Sum<Called, Sum<Beside<Answering, Cash>, Beside<Talking, Deals>>>;
-
-/// The frames of calls are those of `CallFrames`.
+/// How the machines become a flow set.
 #[derive(Clone, Copy)]
 pub struct AppSet;
 
@@ -40,7 +37,7 @@ impl Closes<App> for AppSet {
     ghost use Rattle.std.specs.Prelude.{refl};
     ghost use Rattle.app_flows.specs.Machines.{machines, unlike_as};
 
-    type Calls = InFirst<CallFrames>;
+    type Calls = AppCalls;
 
     ghost unlike = { unlike_as machines ⟦<App as Flows>⟧.kinds refl refl };
 }

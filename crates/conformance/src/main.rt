@@ -12,7 +12,6 @@ mod stage;
 mod steps;
 
 use anyhow::Result;
-use app_flows::{AppSet, Ships};
 use cash_contract::Cash;
 use checks::Check;
 use contract_verify::{BoxedContract, ContractBook};
@@ -33,7 +32,7 @@ fn passes(rt: &impl Print, name: &str, check: &Check) -> Result<bool> {
 }
 
 /// Makes all checks, with these contracts, and tells what differs and how many passed and failed.
-fn check_all<P: Ships, R: Print + Threads + Wait + Sync>(
+fn check_all<R: Print + Threads + Wait + Sync>(
     rt: &R,
     alloc: Global,
     text: &str,
@@ -50,7 +49,7 @@ fn check_all<P: Ships, R: Print + Threads + Wait + Sync>(
     }
     for part in text.split_inclusive("\n@") {
         let section = Section::parse(part);
-        match stage.take::<P, R>(rt, alloc, &section, contracts) {
+        match stage.take(rt, alloc, &section, contracts) {
             Ok(None) => {}
             Ok(Some(check)) if passes(rt, stage.name(), &check)? => {
                 passed = passed.saturating_add(1);
@@ -78,5 +77,5 @@ fn main(rt: HostRuntime) -> Result<()> {
     contracts.push(Box::new(alloc, Locks)?)?;
     contracts.push(Box::new(alloc, Facts)?)?;
     contracts.push(Box::new(alloc, Ious)?)?;
-    check_all::<AppSet, _>(&rt, alloc, text.as_str(), &ContractBook::new(contracts))
+    check_all(&rt, alloc, text.as_str(), &ContractBook::new(contracts))
 }

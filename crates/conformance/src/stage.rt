@@ -1,7 +1,7 @@
 use super::checks::{Check, Played, first_difference};
 use super::sections::Section;
 use anyhow::{Context, Result, bail, ensure};
-use app_flows::Ships;
+use app_flows::AppFlow;
 use contract_verify::ContractBook;
 use disk_mem::MemDisk;
 use node_shell::run;
@@ -129,7 +129,7 @@ impl<'a> Stage<'a> {
     }
 
     /// Plays a script over the disks that stand there.
-    fn run<P: Ships, R: Threads + Wait + Sync>(
+    fn run<R: Threads + Wait + Sync>(
         &mut self,
         rt: &R,
         alloc: Global,
@@ -144,7 +144,7 @@ impl<'a> Stage<'a> {
         let mut answers = MemSink::new(alloc, ROOM, writes)?;
         let disks = mem::replace(&mut self.disks, Vec::new(alloc));
         ensure!(disks.len() == 32, "no case is under way");
-        let ended = run::<_, _, _, _, P::Flow, _, _>(
+        let ended = run::<_, _, _, _, AppFlow, _, _>(
             rt,
             alloc,
             words.as_slice(),
@@ -191,7 +191,7 @@ impl<'a> Stage<'a> {
     /// # Errors
     ///
     /// Where there is no such section, or it can't be done, and for want of memory.
-    pub fn take<P: Ships, R: Threads + Wait + Sync>(
+    pub fn take<R: Threads + Wait + Sync>(
         &mut self,
         rt: &R,
         alloc: Global,
@@ -213,10 +213,10 @@ impl<'a> Stage<'a> {
             "power" => self.disk(values)?.restore_power(),
             "failing-reads" => self.failing_reads = numbers_of(alloc, values)?,
             "failing-writes" => self.failing_writes = numbers_of(alloc, values)?,
-            "run" => self.run::<P, R>(rt, alloc, values, lines, contracts)?,
+            "run" => self.run(rt, alloc, values, lines, contracts)?,
             "run-unended" => {
                 let script = lines.strip_suffix('\n').unwrap_or(lines);
-                self.run::<P, R>(rt, alloc, values, script, contracts)?;
+                self.run(rt, alloc, values, script, contracts)?;
             }
             "answers" | "differs" => {
                 return Ok(Some(Check {

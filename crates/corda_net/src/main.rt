@@ -11,10 +11,11 @@ ghost use Rattle.outside.specs.Disk.{DiskSeen, clean};
 ghost use Rattle.outside.specs.Faults.{Rose};
 ghost use Rattle.shell_words.specs.Program.{network_of_words};
 
-use app_flows::{AppSet, Ships};
+use app_flows::AppFlow;
 use cash_contract::Cash;
 use contract_verify::{BoxedContract, ContractBook};
 use disk_host::{HostDisk, StdSink, StdSource};
+use flow_machine::FlowSet;
 use node_shell::run;
 use outside::{Bay, NoGate, Sink, Source};
 use shell_words::{Told, text_told, told_of};
@@ -85,8 +86,14 @@ fn tell<W: Write>(alloc: Global, told: Told, out: &mut W) -> u8 {
     }
 }
 
-/// Runs a script with the flows of `P` and the contracts that the program ships, and gives its status.
-fn run_shipped<P: Ships, R: Threads + Wait + Sync, S: Source, K: Sink, B: Bay + Send>(
+/// Runs a script with these flows and the contracts that the program ships, and gives its status.
+fn run_shipped<
+    F: FlowSet + Send + Sync,
+    R: Threads + Wait + Sync,
+    S: Source,
+    K: Sink,
+    B: Bay + Send,
+>(
     rt: &R,
     alloc: Global,
     words: &[String],
@@ -110,7 +117,7 @@ fn run_shipped<P: Ships, R: Threads + Wait + Sync, S: Source, K: Sink, B: Bay + 
     contracts.push(Box::new(alloc, Facts)?)?;
     contracts.push(Box::new(alloc, Ious)?)?;
     let contracts = ContractBook::new(contracts);
-    let ended = run::<R, S, K, B, P::Flow, ContractBook, NoGate>(
+    let ended = run::<R, S, K, B, F, ContractBook, NoGate>(
         rt, alloc, words, source, sink, disks, &contracts, &NoGate,
     );
     Ok(ended.status)
@@ -139,7 +146,7 @@ fn main(rt: HostRuntime) -> ExitCode {
     };
     let mut source = StdSource::new(reader);
     let mut sink = StdSink::new(io::writer(&rt));
-    match run_shipped::<AppSet, _, _, _, _>(
+    match run_shipped::<AppFlow, _, _, _, _>(
         &rt,
         alloc,
         words.as_slice(),

@@ -7,10 +7,11 @@ ghost use Rattle.std.specs.Prelude.{◌≡◌, length};
 mod hold;
 
 use anyhow::Result;
-use app_flows::{AppSet, Ships};
+use app_flows::AppFlow;
 use cash_contract::Cash;
 use contract_verify::{BoxedContract, ContractBook, Judge};
 use disk_mem::MemDisk;
+use flow_machine::FlowSet;
 use hold::Hold;
 use node_shell::run;
 use outside::{Bay, Gate, MemSink, MemSource, Sink, Source};
@@ -46,7 +47,7 @@ fn disks(alloc: Global) -> Result<Vec<MemDisk>, AllocError> {
 
 /// Runs the script that the source gives with this gate, and gives the status.
 fn run_with<
-    P: Ships,
+    F: FlowSet + Send + Sync,
     R: Threads + Wait + Sync,
     S: Source,
     K: Sink,
@@ -65,14 +66,12 @@ fn run_with<
 ) -> u8
     requires { length disks.items ≡ 32 }
 {
-    let ended = run::<R, S, K, B, P::Flow, J, G>(
-        rt, alloc, words, source, sink, disks, contracts, gate,
-    );
+    let ended = run::<R, S, K, B, F, J, G>(rt, alloc, words, source, sink, disks, contracts, gate);
     ended.status
 }
 
 /// Plays the script with this gate, and says whether it is answered as it should be.
-fn is_played<P: Ships, R: Threads + Wait + Sync>(
+fn is_played<F: FlowSet + Send + Sync, R: Threads + Wait + Sync>(
     rt: &R,
     alloc: Global,
     contracts: &ContractBook,
@@ -87,7 +86,7 @@ fn is_played<P: Ships, R: Threads + Wait + Sync>(
         return Ok(false);
     }
     let words = words.as_slice();
-    let status = run_with::<P, _, _, _, _, _, _>(
+    let status = run_with::<F, _, _, _, _, _, _>(
         rt,
         alloc,
         words,
@@ -118,7 +117,7 @@ fn main(rt: HostRuntime) -> Result<()> {
     let mut contracts: Vec<BoxedContract> = Vec::new(alloc);
     contracts.push(Box::new(alloc, Cash)?)?;
     let gate = Hold::new();
-    let is_played = is_played::<AppSet, _>(&rt, alloc, &ContractBook::new(contracts), &gate)?;
+    let is_played = is_played::<AppFlow, _>(&rt, alloc, &ContractBook::new(contracts), &gate)?;
     match failure(is_played, &gate) {
         None => println!(rt; "1 passed, 0 failed")?,
         Some(what) => println!(rt; "{what}\n0 passed, 1 failed")?,
