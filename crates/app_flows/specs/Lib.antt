@@ -4,3 +4,4 @@ pub mod Machines
 pub mod Words
 pub mod Table
 pub mod Seen
+pub mod Laws
