@@ -28,7 +28,7 @@ abbrev pub halves : ℕ → List (List ℕ) → List ℕ
 halves zero hashes = slice_index_or hashes 0 []
 halves (suc d) hashes = node_of (halves d (take (2 ^ d) hashes)) (halves d (drop (2 ^ d) hashes))
 
--- the least d from this one on, within so many steps, with n at most 2 ^ d
+-- the least d from this one on, within the given number of steps, with n at most 2 ^ d
 abbrev pub depth_from : ℕ → ℕ → ℕ → ℕ
 depth_from zero d n = d
 depth_from (suc steps) d n = if nat_le n (2 ^ d) then d else depth_from steps (suc d) n

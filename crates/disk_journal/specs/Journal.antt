@@ -27,7 +27,7 @@ is_whole bytes = (slice_index bytes 0 == 1) && (nat_le (length_at bytes) body_li
 unfoldable pub is_closed : List ℕ → Bool
 is_closed bytes = nat_lt 0 (length bytes) && not (slice_index bytes 0 == 1)
 
--- the bodies of the whole records that stand first, at most so many
+-- the bodies of the whole records that stand first, at most the given number
 abbrev pub bodies : ℕ → List ℕ → List (List ℕ)
 bodies zero bytes = []
 bodies (suc n) bytes = if is_whole bytes then take (length_at bytes) (drop 5 bytes) ∷ bodies n (drop (5 + length_at bytes) bytes) else []
@@ -87,7 +87,7 @@ pub record JournalSeen : Type 0 where
   -- one more than the place of the closed gate that ends it
   pub length : ℕ
   pub count : ℕ
-  -- so many bytes have room in the buffer for one record
+  -- this number of bytes has room in the buffer for one record
   pub buffer : ℕ
 
 -- it takes no more records
@@ -105,7 +105,7 @@ pub record Stands (j : JournalSeen) (d : DiskState) : Type 0 where
 abbrev pub IsReady : JournalSeen → Type 0
 IsReady j = j.disk.tells ≡ true → Stands j j.disk.state
 
--- there is room for a record with a body of so many bytes
+-- there is room for a record with a body of this number of bytes
 pub record HasRoom (j : JournalSeen) (size : ℕ) : Type 0 where
   pub end : j.length + 5 + size ≤ j.disk.room_end
   pub writes : 2 ≤ j.disk.room_writes

@@ -199,7 +199,7 @@ impl<D: Disk> Journal<D> {
         }
     }
 
-    /// Makes room for one record with a body of so many bytes. It changes nothing else.
+    /// Makes room for one record with a body of this number of bytes. It changes nothing else.
     pub fn make_room(&mut self, alloc: Global, bytes: usize) -> Result<(), AllocError>
         ensures room { OnOk result (HasRoom self.new bytes) }
         ensures more { (size : ℕ) → HasRoom self.old size → HasRoom self.new size }

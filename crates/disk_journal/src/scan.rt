@@ -70,7 +70,7 @@ fn body_at(alloc: Global, bytes: &[u8], at: usize, n: usize) -> Result<ByteList,
     Ok(ByteList::from_vec(bytes[at + 5..at + 5 + n].to_vec(alloc)?))
 }
 
-/// Reads the records from a place on, at most so many.
+/// Reads the records from a place on, at most the given number.
 pub fn read_records(
     alloc: Global,
     bytes: &[u8],

@@ -11,7 +11,7 @@ pub struct Medium {
     pub pending: Vec<(usize, usize)>,
 }
 
-/// After so many more writes and syncs the power goes.
+/// After this number of further writes and syncs the power goes.
 #[derive(Clone, Copy, Debug, PartialEq, Eq)]
 pub struct Fuse {
     pub calls: u64,
@@ -74,7 +74,7 @@ pub fn copy_out(content: &[u8], at: usize, into: &mut [u8])
     into.copy_from_slice(&content[at..at + into.len()]);
 }
 
-/// Keeps what a write of so many bytes will cover.
+/// Keeps what a write of this number of bytes will cover.
 pub fn cover(last: &mut Last, content: &Vec<u8>, at: usize, count: usize)
     requires place { at ≤ length content.now.items }
     requires fits { at + count < 2 ^ 64 }

@@ -188,7 +188,7 @@ impl MemDisk {
         Ok(())
     }
 
-    /// Room for so many writes.
+    /// Room for this number of writes.
     fn allow(&mut self, writes: u32) -> Result<(), AllocError>
         ensures room { OnOk result (writes ≤ self.new.room_writes) }
         ensures more { self.old.room_writes ≤ self.new.room_writes }

@@ -198,11 +198,11 @@ moves SendingTx f with here = sent f with
 
 -- ---- what it may cause
 
--- what is left of 512 requests, and so many peers that are to be told
+-- what is left of 512 requests, and how many peers are to be told
 abbrev pub serving : Finality → ℕ → ℕ
 serving f peers = 4 * (512 - f.served) + 2573 * peers
 
--- the same, and so many signers that are to be asked
+-- the same, and how many signers are to be asked
 abbrev pub signing : Finality → ℕ → ℕ
 signing f signers = serving f (length f.peers - f.told) + 40 + 13 * signers
 

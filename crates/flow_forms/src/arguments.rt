@@ -27,7 +27,7 @@ pub trait Argument: Spelt {
     /// A word gives a value within its limits.
     ghost worded_within: { (word : List ℕ) (v : Self) → worded word ≡ Some v → Self.within v };
 
-    /// A value has at most so many bytes.
+    /// The most bytes of a value.
     ghost few: { (v : Self) → Self.within v → length (Self.spelling v) ≤ most };
 }
 
@@ -49,7 +49,7 @@ pub trait Arguments: Spelt {
     ghost worded_within: { (words : List (List ℕ)) (v : Self) → worded words ≡ Some v
         → Self.within v };
 
-    /// Arguments have at most so many bytes.
+    /// The most bytes of the arguments.
     ghost few: { (v : Self) → Self.within v → length (Self.spelling v) ≤ most };
 }
 

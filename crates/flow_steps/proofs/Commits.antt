@@ -61,7 +61,7 @@ goes_ready {F} w me now n within flows sessions tables cause at step num there b
 -- ---- a flow whose job was run
 
 module _ {F : Type 0} (m : Machine F) (r : List ℕ → Result (F × List ℕ) ℕ) (id : Identity) (now : ℕ) (at : Checkpoint F) (d : DoneJob) (judge : Judgement) (run : IsRun judge keyed_mark d) (s : NodeState F) where
-  -- where the flow waits for the job, what that came to is the effect of moving it
+  -- where the flow waits for the job, what that gave is the effect of moving it
   settled_effect : (f : ℕ) → slice_get s.flows f ≡ Some (state.Live at) → awaited id (with_ids s.stored) at ≡ Some d.job → effect_of (environment (meaning m r judge) id) id.party.0 s now (event.Move f) None ≡ Some (goes_on (environment (unjudged m r) id) id.party.0 now at (conclusion d))
   unfolding effect_of
   settled_effect f there waits = rw there (settles_as_meant (environment (meaning m r judge) id) id.party.0 s now at d run waits)

@@ -20,7 +20,7 @@ pub trait Concludes: Sized + Drop {
         ensures { result ≡ with_id self id };
 }
 
-/// How the flow goes on by what finality came to: the id that it returned is kept and returned, and any other result fails by its code.
+/// How the flow goes on by the result of finality: the id that it returned is kept and returned, and any other result fails by its code.
 pub fn concluded<P, S: Concludes>(fields: S, with: &Resumed) -> Goes<P, S>
     ensures { result ≡ concluded S.with_id fields with.now }
 {

@@ -1,4 +1,4 @@
--- What a turn at a node comes to for a worker.
+-- What a turn at a node is for a worker.
 use Rattle.std.specs.Prelude.{ℕ, ⊤, Result, Ok, Err}
 use Rattle.ledger_acts.specs.Jobs.{IsJob}
 use Rattle.node_core.specs.declared.faults.SharedTurn.{SharedTurn}

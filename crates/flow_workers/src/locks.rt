@@ -46,7 +46,7 @@ pub fn fill_desks<J: Call, D: Disk, F: FlowSet>(
     desks
 }
 
-/// What comes out from under the lock of a place. Under the lock of another place it would wait for good; no call comes to that, since
+/// What comes out from under the lock of a place. Under the lock of another place it would wait for good; no call does that, since
 /// each node's lock stands at its place.
 fn of_place<J: Call, D: Disk, F: FlowSet, R: Wait>(
     rt: &R,

@@ -1,4 +1,4 @@
--- What a job that was run comes to.
+-- The result of a job that was run.
 use Rattle.std.proofs.Common.{◌≡◌, ℕ, Bool, cond, List, [], ◌∷◌, Option, Some, None, refl, sym, ◌∙◌, ap}
 use Rattle.net_base.specs.declared.names.Tag.{Tag}
 use Rattle.ledger_types.specs.declared.tx.Tx.{Tx}

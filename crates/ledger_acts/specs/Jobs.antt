@@ -72,7 +72,7 @@ unjudged me store stx =
     else if is_other_notary stx.tx.notary me.notary then resumed.Refused 41
     else resumed.Refused 35
 
--- ---- what a job that was run comes to
+-- ---- the result of a job that was run
 
 -- what is done for a flow, by the verdict on its job's transaction
 abbrev pub judged : {F : Type 0} → Environment F → Tx → Option (List Tag) → Verdict → Done
@@ -111,7 +111,7 @@ abbrev pub concluded : Tx → Option (List Tag) → Verdict → List ℕ → Don
 concluded tx None v missing = (resumed.Verdict v, nothing)
 concluded tx (Some tags) v missing = recorded_by (record { tx = tx; tags = tags }) (refusal_of v missing)
 
--- what a job that was run comes to
+-- the result of a job that was run
 abbrev pub conclusion : DoneJob → Done
 conclusion d = concluded d.job.tx d.job.tags d.verdict (members d.missing)
 
@@ -130,11 +130,11 @@ UnjudgedAsMeant F = (w : Environment F) (me : ℕ) (s : NodeState F) (now : ℕ)
 abbrev pub JobIsTheAct : (F : Type 0) → Type 0
 JobIsTheAct F = (w : Environment F) (me : ℕ) (s : NodeState F) (now : ℕ) (at : Checkpoint F) (j : Job) → job_at w me s at ≡ Some j → performed w me s now at at.waiting ≡ Some (goes_on w me now at (done_by w j))
 
--- what a job that was run comes to is what its act is meant to do
+-- the result of a job that was run is what its act is meant to do
 abbrev pub ConcludesAsMeant : (F : Type 0) → Type 0
 ConcludesAsMeant F = (w : Environment F) (d : DoneJob) → IsRun w.judge w.mark d → conclusion d ≡ done_by w d.job
 
--- a flow that waits for a job which was run goes on by what that came to, whatever the node did meanwhile
+-- a flow that waits for a job which was run goes on by its result, whatever the node did meanwhile
 abbrev pub SettlesAsMeant : (F : Type 0) → Type 0
 SettlesAsMeant F = (w : Environment F) (me : ℕ) (s : NodeState F) (now : ℕ) (at : Checkpoint F) (d : DoneJob) → IsRun w.judge w.mark d → job_at w me s at ≡ Some d.job → performed w me s now at at.waiting ≡ Some (goes_on w me now at (conclusion d))
 

@@ -1,4 +1,4 @@
-//! What a job that was run comes to.
+//! The result of a job that was run.
 
 ghost use Rattle.std.specs.Prelude.{◌≡◌, true, false, Some, None, IfOk};
 ghost use Rattle.net_base.specs.Parties.{members};
@@ -34,7 +34,7 @@ fn refusal(verdict: Verdict, missing: PartySet) -> Option<u16>
     }
 }
 
-/// What recording comes to, by that code.
+/// The result of recording, by that code.
 fn recorded(
     alloc: Global,
     flow: u32,
@@ -65,7 +65,7 @@ fn recorded(
     }
 }
 
-/// What a job that was run comes to: the frame is resumed with the verdict; but where tags were asked for the transaction is recorded if
+/// The result of a job that was run: the frame is resumed with the verdict; but where tags were asked for the transaction is recorded if
 /// it was accepted and nobody is missing, and else the frame is refused with 31 to 34. The only error is want of memory.
 pub fn conclude(alloc: Global, done: Done) -> Result<LedgerOutcome, AllocError>
     ensures done { IfOk result (λ p. done_of p ≡ conclusion done) }

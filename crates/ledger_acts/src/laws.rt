@@ -21,12 +21,12 @@ pub fn job_is_the_act<F>()
     ensures { JobIsTheAct F }
 {}
 
-/// The law that what a job which was run comes to is what its act is meant to do.
+/// The law that the result of a job which was run is what its act is meant to do.
 pub fn concludes_as_meant<F>()
     ensures { ConcludesAsMeant F }
 {}
 
-/// The law that a flow whose job was run goes on by what that came to, whatever its node did meanwhile.
+/// The law that a flow whose job was run goes on by its result, whatever its node did meanwhile.
 pub fn settles_as_meant<F>()
     ensures { SettlesAsMeant F }
 {}

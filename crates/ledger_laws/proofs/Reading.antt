@@ -113,7 +113,7 @@ option_reads {V} {P} {reading} one = then_reads {rb = λ n rest. cond (n == 0) (
 from_ok : {V : Type 0} (P : V → Type 0) (v : V) (rest : List ℕ) (x : V × List ℕ) → done (v, rest) ≡ done x → P v → P x.0
 from_ok {V} P v rest x e h = subst (λ (z : V × List ℕ). P z.0) (ok_is (v, rest) x e) h
 
--- so many values, each of which is so
+-- this number of values, each of which is so
 abbrev Many : {V : Type 0} → ℕ → (V → Type 0) → List V → Type 0
 Many n P vs = (length vs ≡ n) × AllByRecursion P vs
 
@@ -139,7 +139,7 @@ items_reads {V} {P} {reading} one (suc n) = record {
       from_ok (Many (suc n) P) (a.0.0 ∷ b.0.0) b.0.1 x b.1.1 (omega (arith, h.0), (one.of bytes a.0 a.1.0, h.1));
 }
 
--- at most so many values, each of which is so
+-- at most this number of values, each of which is so
 abbrev Few : {V : Type 0} → ℕ → (V → Type 0) → List V → Type 0
 Few n P vs = (length vs ≤ n) × AllByRecursion P vs
 

@@ -24,7 +24,7 @@ use Rattle.ledger_types.specs.Torn.{IsTornPart, torn_part, IsTornGroup, shown_of
 use Rattle.ledger_types.specs.Requests.{IsRequest, request, IsConflictItem, conflict_item, IsNotaryAnswer, notary_answer, IsEntry, entry}
 use Rattle.ledger_types.specs.Values.{IsValue, value}
 
--- spellings within the limits have at most so many bytes
+-- spellings within the limits have at most this number of bytes
 abbrev pub Fits : {V : Type 0} → (V → Type 0) → (V → List ℕ) → ℕ → Type 0
 Fits {V} within spelling limit = (v : V) → within v → length (spelling v) ≤ limit
 
@@ -62,7 +62,7 @@ items_fit within spelling n fits (v ∷ vs) all =
     let product : length (v ∷ vs) * n ≡ n + length vs * n = suc-mul (length vs) n ∙ add_comm (length vs * n) n in
     omega (arith, rest, one, parts, both, product)
 
--- a list of at most so many items
+-- a list of at most this number of items
 list_fits : {V : Type 0} (within : V → Type 0) (spelling : V → List ℕ) (n limit : ℕ) → Fits within spelling n → Fits (ListWithin limit within) (list8 spelling) (1 + limit * n)
 list_fits within spelling n limit fits vs h =
     let items = items_fit within spelling n fits vs h.1 in

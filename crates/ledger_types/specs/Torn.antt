@@ -52,7 +52,7 @@ abbrev pub shown_of : TornGroup → ℕ
 shown_of (Hidden root) = 0
 shown_of (Shown parts) = length parts
 
--- a group that shows at most so many parts
+-- a group that shows at most this number of parts
 abbrev pub IsGroupWithin : ℕ → TornGroup → Type 0
 IsGroupWithin room g = IsTornGroup g × (shown_of g ≤ room)
 
@@ -78,11 +78,11 @@ hidden_of h = Hidden h
 abbrev shown : List TornPart → TornGroup
 shown parts = Shown parts
 
--- what is read behind each kind, where so many parts may still be shown
+-- what is read behind each kind, where this number of parts may still be shown
 abbrev group_arms : ℕ → List (ℕ × (List ℕ → Result (TornGroup × List ℕ) ℕ))
 group_arms room = (0, mapped_at hidden_of hash_at) ∷ (1, mapped_at shown (list8_at (cond (nat_lt room 64) room 64) torn_part_at)) ∷ []
 
--- reading a group, where so many parts may still be shown
+-- reading a group, where this number of parts may still be shown
 unfoldable pub group_at : ℕ → List ℕ → Result (TornGroup × List ℕ) ℕ
 group_at room = cases_at (group_arms room)
 
@@ -109,7 +109,7 @@ group_covered : (room : ℕ) (g : TornGroup) → (list_any (λ y. nat_eq y (grou
 group_covered room (Hidden h) = (refl, refl)
 group_covered room (Shown parts) = (refl, refl)
 
--- the laws of groups with room for so many parts
+-- the laws of groups with room for this number of parts
 pub group_laws : (room : ℕ) → Laws (IsGroupWithin room) torn_group (group_at room)
 unfolding group_at
 group_laws room =

@@ -77,7 +77,7 @@ impl Spelt for TornPart {
     }
 }
 
-/// A group with at most so many shown parts.
+/// A group with at most this number of shown parts.
 #[tactic(auto, unfolding(crate::specs::Torn::group_at))]
 fn read_group(alloc: Global, from: &mut Reader, room: u8) -> Result<TornGroup, PartFault>
     requires { room ≤ 96 }

@@ -40,12 +40,12 @@ payment_drawn l =
 abbrev pub after_payment : Load → Load
 after_payment l = record l { words = next_words (next_words (next_words l.words)) }
 
--- the load after so many payments
+-- the load after this number of payments
 abbrev pub after_payments : ℕ → Load → Load
 after_payments zero l = l
 after_payments (suc n) l = after_payment (after_payments n l)
 
--- the first payments of a load, so many
+-- the first n payments of a load
 abbrev pub payments : ℕ → Load → List Payment
 payments zero l = []
 payments (suc n) l = payments n l ++ payment_drawn (after_payments n l) ∷ []

@@ -19,7 +19,7 @@ list8 spell vs = length vs ∷ flat_map spell vs
 abbrev pub bytes16 : List ℕ → List ℕ
 bytes16 bytes = number w16 (length bytes) ++ bytes
 
--- at most so many items, each within its limits
+-- at most a given number of items, each within its limits
 abbrev pub ListWithin : {V : Type 0} → ℕ → (V → Type 0) → List V → Type 0
 ListWithin limit within vs = (length vs ≤ limit) × AllByRecursion within vs
 

@@ -12,7 +12,7 @@ use thiserror::Error;
 pub enum PartFault {
     #[error("out of memory")]
     Memory,
-    /// No spelling goes on at the place with so many bytes left.
+    /// No spelling goes on at the place with this number of bytes left.
     #[error("no spelling goes on {0} bytes before the end")]
     Left(usize),
 }

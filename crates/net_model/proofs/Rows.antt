@@ -107,7 +107,7 @@ machine = record {
   load = λ class. 0;
 }
 
--- so many nodes
+-- a number of nodes
 abbrev network : ℕ → Environment Frame
 network nodes = record { machine = machine; nodes = nodes; notary = party 0; judge = judge_without_contracts; mark = keyed_mark; frame_at = λ bytes. Err 0 }
 

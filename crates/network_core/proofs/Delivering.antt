@@ -156,7 +156,7 @@ hand_world m repeated p i old new result (inr (n, frames, at, waiting, handing))
     let waits : found.0.waiting ≡ frames = same_Some _ _ (sym there ∙ ap (λ l. slice_get l p) shows.waiting ∙ waiting) in
     hand_any m id repeated p i old new w shows coherent n found.0 frames (shows.each p n found.0 at found.1) at found.1 waits (said result) handing
 
--- ---- what a frame that was handed over came to
+-- ---- the result of a frame that was handed over
 
 memory_answers : {F : Type 0} (w : Environment F) (now : ℕ) (bytes : List ℕ) (n : NodeSeen) (journal : Option (List (List ℕ))) → n.journal ≡ journal → IsSome journal → TakeAnswers w now bytes n (Err take_fault.Memory) n
 memory_answers w now bytes n None here up = cc

@@ -16,12 +16,12 @@ pub record DrainLaws {W : Type 0} (s : DrainSteps W) : Type 0 where
   pub turn_last : (p : ℕ) (o : Outcome) (w v : W) → p < s.count w → ((g : ℕ) → o ≡ outcome.Moved g → ⊥) → (o ≡ outcome.Refused refusal.Full → ⊥) → s.turn p w (Some o) v → IsLastTurn o
   pub hand_over : (p d : ℕ) (why : Refusal) (w u v : W) (o : Outcome) → p < s.count u → o ≡ outcome.Refused why → (why ≡ refusal.Full → ⊥) → s.hand p u (Some o) v → s.ends p d w u v
 
--- as a flag says: with true so many that are not 0, with false none
+-- as a flag says: with true a number that is not 0, with false none
 abbrev pub Counts : {W : Type 0} → Bool → (ℕ → W → W → Type 0) → W → W → Type 0
 Counts true made w v = (n : ℕ) × made (suc n) w v
 Counts false made w v = made 0 w v
 
--- so many rounds as it may be
+-- as many rounds as it may be
 abbrev pub SomeRounds : {W : Type 0} → DrainSteps W → W → W → Type 0
 SomeRounds s w v = (r : ℕ) × Rounds s r w v
 
@@ -102,7 +102,7 @@ module _ {W : Type 0} (s : DrainSteps W) where
 
   -- ---- deliveries at a place
 
-  -- so many deliveries that took a frame away
+  -- this number of deliveries that took a frame away
   abbrev pub HandsSo : ℕ → ℕ → Bool → W → W → Type 0
   HandsSo p d moved w v = Counts moved (Hands s p d) w v
 
@@ -212,7 +212,7 @@ module _ {W : Type 0} (s : DrainSteps W) (laws : DrainLaws s) where
       by true h k = inr (inr (u, t, suc h.0, h.1, k, stop))
       by false h k = inr (inr (u, t, 0, h, k, stop))
 
--- ---- by what a turn or a delivery came to
+-- ---- by the result of a turn or a delivery
 
 pub was_full : (o : Outcome) → turned o ≡ turning.Full → o ≡ outcome.Refused refusal.Full
 was_full (outcome.Refused refusal.Full) h = refl

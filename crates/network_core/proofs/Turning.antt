@@ -211,7 +211,7 @@ count_turn m now pick p old new result at = same_count p old new result (λ n r 
 
 -- ---- a drain's answer
 
--- what the drain of a call came to
+-- the result of the drain of a call
 pub drained_as : {F E : Type 0} (m : Meaning F) (old new : NetSeen) (r : Result Bool E) (o : Option Outcome) → drain_outcome r ≡ o → Drains m old (drain_outcome r) new → Drains m old o new
 drained_as m old new r o is h = subst (λ (z : Option Outcome). Drains m old z new) is h
 

@@ -1,4 +1,4 @@
--- What a turn comes to at a node: a record was committed, or the disk failed.
+-- The result of a turn at a node: a record was committed, or the disk failed.
 use Rattle.std.proofs.Common.{◌≡◌, ℕ, List, Option, Some, Ok, Err, refl, ◌∙◌, ap}
 use Rattle.net_base.specs.declared.names.Identity.{Identity}
 use Rattle.net_base.specs.declared.causes.Event.{Event}

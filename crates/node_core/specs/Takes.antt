@@ -31,7 +31,7 @@ use Rattle.node_core.specs.Seen.{NodeSeen, Commits, Faults}
 abbrev pub accepting : List Session → Key → ℕ → ℕ → Event
 accepting sessions key direction number = if is_none (session_of key sessions) then event.Answer key else event.Arrive key direction number
 
--- the acknowledgement of so many items, with its addressee
+-- the acknowledgement of a number of items, with its addressee
 abbrev pub ack_to : Party → Party → Key → ℕ → ℕ → Outgoing
 ack_to me from key direction upto = record { to = from; bytes = frame (Ack me from key direction upto) }
 

@@ -1,4 +1,4 @@
--- What a command comes to.
+-- The result of a command.
 use Rattle.std.proofs.Common.{◌≡◌, inl, inr, ℕ, true, false, List, Option, Some, None, Result, Ok, Err, refl, sym, ◌∙◌, ap, subst}
 use Rattle.std.specs.Prelude.{IfOk, IsErr}
 use Rattle.flow_machine.specs.declared.flow_set.WordFault.{WordFault}

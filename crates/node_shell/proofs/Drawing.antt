@@ -23,7 +23,7 @@ parties_kept zero l = refl
 parties_kept (suc k) l = parties_kept k l
 
 module _ {F : Type 0} (m : Machine F) (nodes : List ℕ) (l : Load) where
-  -- the first so many, and the one behind them
+  -- the first n, and the one behind them
   abbrev pub first : ℕ → List Deal
   first k = map (deal_of m nodes) (payments k l)
 

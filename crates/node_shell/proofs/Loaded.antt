@@ -203,7 +203,7 @@ module _ {F : Type 0} (m : Meaning F) (id : Identity) where
       (λ commits x y works. (works.1, works.2, y.coherent))
       m.machine (λ z. payers_shown env z.net z.world z.shows) (λ z. up_shown env z.net z.world z.shows) (λ z. held_shown env z.net z.world z.shows) c reply a b h
 
--- such a command of a network comes to the same of each world that it shows
+-- such a command of a network has the same result in each world that it shows
 course_comes : {F E : Type 0} (m : Meaning F) (old new : NetSeen) (c : Course) (result : Result Reply E) → GoesOver (net_states m) m.machine c old (given result) new
     → KeepsWorld m old new (λ e w v. GoesOver (world_states e) e.machine c w (given result) v)
 course_comes m old new c result h id w shows coherent =

@@ -147,7 +147,7 @@ module _ {W : Type 0} {link : W → List ℕ → List ℕ → W → Type 0} {sta
     pub run_cut_at_end : {short : W → List ℕ → W → Type 0} → {left2 : Option (List ℕ)} {written2 : Option (List ℕ)} {new : W} → (why : Stop) → Keeps left1 left2 → IsAtEnd left2 → count ≤ 16777216 → 0 < length rest → StopsAs link short old rest new written1 written2 why → ScriptRun link short start left0 left2 written0 written2 count new (status_of why)
     run_cut_at_end {short = short} {left2 = left2} {written2 = written2} {new = new} why k end small some stops = ends_here (status_of why) k small (stopped short left2 written2 new r.lines rest rest count why (ap (λ l. whole_lines r.lines ++ l) (last_one rest some)) (λ _. end) stops)
 
-    -- a line that came to its end was not answered
+    -- a line that ended was not answered
     pub run_cut : {short : W → List ℕ → W → Type 0} → {left2 : Option (List ℕ)} {written2 : Option (List ℕ)} {new : W} → (why : Stop) → Consumes left1 left2 (10 ∷ []) → count < 16777216 → StopsAs link short old (without_cr rest) new written1 written2 why → ScriptRun link short start left0 left2 written0 written2 (count + 1) new (status_of why)
     run_cut {short = short} {left2 = left2} {written2 = written2} {new = new} why c small stops = ends_after 10 (status_of why) (r.lines ++ rest ∷ []) [] c small (lines_end r.split) (stopped short left2 written2 new (r.lines ++ rest ∷ []) [] (without_cr rest) (count + 1) why (append-nil _ ∙ whole_more r.lines rest) (λ none. absurd (omega arith)) stops)
 

@@ -155,7 +155,7 @@ RefusesLoad s w reply = ((s.are_up w ≡ false) × IsRefused refusal.NodeDown re
 abbrev pub TakesLoad : {W : Type 0} → CourseStates W → W → Type 0
 TakesLoad s w = (s.are_up w ≡ true) × (2 ≤ length (s.payers w))
 
--- what a load comes to: its reply, none at want of memory
+-- the result of a load: its reply, none at want of memory
 abbrev pub Loads : {W F : Type 0} → CourseStates W → Machine F → ℕ → ℕ → W → Option Reply → W → Type 0
 Loads s m seed count w (Some reply) v =
     (RefusesLoad s w reply × (v ≡ w))
@@ -173,7 +173,7 @@ WorksOrNot s w None v = v ≡ w
 
 -- ---- each
 
--- what a command comes to that goes over several steps
+-- the result of a command that goes over several steps
 abbrev pub GoesOver : {W F : Type 0} → CourseStates W → Machine F → Course → W → Option Reply → W → Type 0
 GoesOver s m (load seed count) w reply v = Loads s m seed count w reply v
 GoesOver s m (work workers turns seed) w reply v = WorksOrNot s w reply v

@@ -128,7 +128,7 @@ abbrev pub ScriptsArePassages : (F : Type 0) → Type 0
 ScriptsArePassages F = (m : Meaning F) (id : Identity) (a b : Pair (environment m id)) (left0 left1 written0 written1 : Option (List ℕ)) (count : ℕ) (s : Status)
     (run : ScriptRun (PairLink m id) (PairShort m id) a left0 left1 written0 written1 count b s) → IsOnePassage m id a b (EndComesBy (PairLink m id) (PairShort m id) a left1 written0 written1 count run.lines run.rest b s run.ends)
 
--- what a script comes to of networks together with worlds, it comes to of the worlds alone and of the networks alone
+-- what a script makes of networks together with worlds, it makes of the worlds alone and of the networks alone
 pub record IsBoth {F : Type 0} (m : Meaning F) (id : Identity) (a b : Pair (environment m id))
     (left0 left1 written0 written1 : Option (List ℕ)) (count : ℕ) (s : Status) : Type 0 where
   pub worlds : ScriptRun (Link (environment m id)) (RunsShort (environment m id)) a.world left0 left1 written0 written1 count b.world s

@@ -1,4 +1,4 @@
--- How many items the sessions of a node have, after so many records.
+-- How many items the sessions of a node have, by the number of its records.
 use Rattle.std.proofs.Common.{◌≡◌, ℕ, ◌+◌, ◌-◌, ◌<◌, ◌≤◌, ◌^◌, List, [], ◌∷◌, length, find, option_to_list, Option, Some, None, true, false, cond, refl, ap, subst, arith, nat_lt, length-append}
 use Rattle.std.specs.List.{AllByRecursion, list_all}
 use Rattle.std.specs.Option.{option_map_or}

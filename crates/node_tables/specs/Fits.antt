@@ -103,7 +103,7 @@ fits_event nodes me s (event.Lapse f) e = goes_on f (live_at s f) e.flow && is_n
 abbrev pub opens_next : Party → List Session → List SentItem → Key → Party → Bool
 opens_next me sessions sent key peer = key_eq key (next_key me sessions) && (not (peer.0 == me.0) && list_any (is_init_of key) sent)
 
--- whether a flow opens a session with a peer that is one of so many nodes, and owns 64 at most of these sessions
+-- whether a flow opens a session with a peer that is one of this number of nodes, and owns 64 at most of these sessions
 abbrev pub owns_few : ℕ → List Session → Party → Option ℕ → Bool
 owns_few nodes sessions peer None = false
 owns_few nodes sessions peer (Some flow) = nat_lt peer.0 nodes && nat_le (length (sessions_of flow sessions)) 64
@@ -162,7 +162,7 @@ fits_ledger notary me s c =
 
 -- ---- records
 
--- whether a record fits after a state of the party in a network of so many nodes with this notary
+-- whether a record fits after a state of the party in a network of this number of nodes with this notary
 unfoldable pub fits : {F : Type 0} → Party → ℕ → Party → NodeState F → Record F → Bool
 fits notary nodes me s r = rises s r.cause && (fits_event nodes me s r.cause.event r.effect && (fits_sessions nodes me s.sessions (begun_by r.cause r.effect s.sessions) r.cause.stamp (flow_of r.effect.flow) r.effect.change && fits_ledger notary me s r.effect.change))
 

@@ -28,13 +28,13 @@ abbrev pub flows_after : {F : Type 0} → Option (FlowAfter F) → List (FlowSta
 flows_after None flows = flows
 flows_after (Some after) flows = with_flow after.number after.state flows
 
--- a session of the party has so many sent and arrived items at most, and the first of them arrived where another party opened it
+-- a session of the party has at most this number of sent and of arrived items, and the first of them arrived where another party opened it
 pub record IsSmall (me : Party) (sent came : ℕ) (session : Session) : Type 0 where
   pub few_sent : length session.sent ≤ sent
   pub few_came : length session.came ≤ came
   pub begun : is_opened_by me session.key ≡ false → 0 < length session.came
 
--- each session's key is one, so many flows own the sessions that are owned, and none of them owns more than 64
+-- each session's key is one, this number of flows own the sessions that are owned, and none of them owns more than 64
 pub record AreOwned (flows : ℕ) (sessions : List Session) : Type 0 where
   pub keys : AllByRecursion (λ session. IsKey session.key) sessions
   pub owners : AllByRecursion (λ session. IfSome session.owner (λ f. f < flows)) sessions

@@ -81,7 +81,7 @@ fn take<F: Spelt + Drop>(
     }
 }
 
-/// The tables of a node of the party, in a network of so many nodes, 16 at most, that these records make. No item that the node sent
+/// The tables of a node of the party, in a network of this number of nodes, 16 at most, that these records make. No item that the node sent
 /// is acknowledged there. Nothing is asked of frames but how they are spelt, so no flow is resumed.
 ///
 /// # Errors

@@ -296,7 +296,7 @@ fn run_awaited<F: Spelt, J: Judge>(
     }
 }
 
-/// Whether the job of a flow is awaited, and what it comes to where no contract is known.
+/// Whether the job of a flow is awaited, and its result where no contract is known.
 fn judge<F: Spelt>(
     alloc: Global,
     store: &Store,
@@ -314,7 +314,7 @@ fn judge<F: Spelt>(
     }
 }
 
-/// What the job of a flow comes to where its transaction was accepted and nobody is missing.
+/// The result of a flow's job where its transaction was accepted and nobody is missing.
 fn accept<F: Spelt>(
     alloc: Global,
     store: &Store,
@@ -335,7 +335,7 @@ fn accept<F: Spelt>(
     }
 }
 
-/// Whether a flow waits for a job; what that comes to where no contract is known, and where it was accepted. It lets go of the
+/// Whether a flow waits for a job; its result where no contract is known, and where it was accepted. It lets go of the
 /// flow.
 fn settle(
     alloc: Global,

@@ -75,7 +75,7 @@ burns_then m n old mid new first next = record {
   power = next.power ∙ (λ i. first.power i && not (blows_within n (first.fuse i))) ∙ power_then m n old.power (blows_within m old.fuse) old.fuse refl ∙ ap (λ b. old.power && not b) (sym (blows_both m n old.fuse));
 }
 
--- at most so many
+-- at most that number
 
 pub up_to : (calls most : ℕ) (old new : DiskSeen) → calls ≤ most → Burns calls old new → BurnsUpTo most old new
 up_to calls most old new few burns = (calls, few, burns)

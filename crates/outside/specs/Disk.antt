@@ -153,7 +153,7 @@ pub record DiskSeen : Type 0 where
   pub of_file : Bool
   -- what it was attached as last, none before that
   pub attached : Option Attached
-  -- so many writes that end at or below this place have room
+  -- this number of writes that end at or below this place have room
   pub room_end : ℕ
   pub room_writes : ℕ
 
@@ -184,7 +184,7 @@ abbrev pub burnt : Option (ℕ × ℕ) → Option (ℕ × ℕ)
 burnt None = None
 burnt (Some f) = if f.0 == 1 then None else Some (f.0 - 1, f.1)
 
--- the fuse after so many writes and syncs more
+-- the fuse after this number of writes and syncs more
 abbrev pub burnt_by : ℕ → Option (ℕ × ℕ) → Option (ℕ × ℕ)
 burnt_by zero fuse = fuse
 burnt_by (suc n) fuse = burnt_by n (burnt fuse)
@@ -194,17 +194,17 @@ abbrev pub blows : Option (ℕ × ℕ) → Bool
 blows None = false
 blows (Some f) = f.0 == 1
 
--- one of so many writes and syncs more takes the power
+-- one of the next n writes and syncs takes the power
 abbrev pub blows_within : ℕ → Option (ℕ × ℕ) → Bool
 blows_within zero fuse = false
 blows_within (suc n) fuse = blows fuse || blows_within n (burnt fuse)
 
--- what so many writes and syncs do to power and fuse: with power each burns the fuse, which takes the power as it ends; without power nothing changes, and no call brings power back
+-- what n writes and syncs do to power and fuse: with power each burns the fuse, which takes the power as it ends; without power nothing changes, and no call brings power back
 pub record Burns (calls : ℕ) (old new : DiskSeen) : Type 0 where
   pub fuse : new.fuse ≡ (if old.power then burnt_by calls old.fuse else old.fuse)
   pub power : new.power ≡ (old.power && not (blows_within calls old.fuse))
 
--- what at most so many do
+-- what at most n of them do
 abbrev pub BurnsUpTo : ℕ → DiskSeen → DiskSeen → Type 0
 BurnsUpTo most old new = (calls : ℕ) × (calls ≤ most) × Burns calls old new
 

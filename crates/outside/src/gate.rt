@@ -1,9 +1,9 @@
 /// Where a thread may be held up, so that a test can choose the order of events.
 pub trait Gate {
-    /// Called before a node verifies a transaction for one of its flows, outside any lock.
+    /// Called by a worker before it runs a job of a flow (it judges a transaction, say), outside any lock.
     fn before_verify(&self, node: u8, flow: u32);
 
-    /// Called after each commit of a node, outside any lock.
+    /// Called by a worker after each call that committed a record of the node, outside any lock.
     fn after_commit(&self, node: u8);
 }
 

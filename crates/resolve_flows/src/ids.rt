@@ -28,7 +28,7 @@ fn read_at_most(from: &mut Reader, limit: u16) -> Result<u16, PartFault>
     Ok(256 * high as u16 + low as u16)
 }
 
-/// Reads so many values.
+/// Reads this number of values.
 fn read_items<T: Spelt>(alloc: Global, from: &mut Reader, len: u16) -> Result<Vec<T>, PartFault>
     ensures { Gives (λ x. x.items) result from.old from.new (items_at T.reading len from.old.left) }
 {

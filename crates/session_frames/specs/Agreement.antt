@@ -18,7 +18,7 @@ abbrev pub IsOtherSide : Party → ℕ → Option Session → Type 0
 IsOtherSide me direction None = direction ≡ 0
 IsOtherSide me direction (Some session) = session.peer ≡ me
 
--- what is said of an item's message where so many items of its session arrived
+-- what is said of an item's message where this number of items of its session arrived
 abbrev pub said_of : Party → Item → ℕ → Judged
 said_of me item count =
     if nat_lt item.number count then Again me item.key item.direction count
@@ -30,11 +30,11 @@ abbrev pub MessagesAreJudged : Type 0
 MessagesAreJudged = (me : Party) (item : Item) (node : Identity) (sessions : List Session) → item.peer ≡ node.party → me.0 < node.nodes → IsOtherSide me item.direction (session_of item.key sessions)
     → judge node sessions (message_of me item) ≡ said_of me item (arrived (session_of item.key sessions))
 
--- what is said of an acknowledgement where so many items were sent
+-- what is said of an acknowledgement where this number of items was sent
 abbrev pub noted : Key → ℕ → ℕ → ℕ → Judged
 noted key direction upto count = if nat_lt count upto then Early count else Acked key direction upto
 
--- The addressee of an acknowledgement notes it where it sent so many items, and says that it is early where it sent fewer.
+-- The addressee of an acknowledgement notes it where it sent as many items as are acknowledged, and says that it is early where it sent fewer.
 abbrev pub AcknowledgementsAreJudged : Type 0
 AcknowledgementsAreJudged = (me : Party) (key : Key) (direction upto : ℕ) (node : Identity) (sessions : List Session) (session : Session) → me.0 < node.nodes → session_of key sessions ≡ Some session → session.peer ≡ me
     → judge node sessions (Ack me node.party key direction upto) ≡ noted key direction upto (length session.sent)

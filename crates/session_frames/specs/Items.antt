@@ -27,7 +27,7 @@ pub record GoesOn (node : Identity) (sessions : List Session) (from : Party) (ke
   pub peer : session.peer ≡ from
   pub next : is_next node.party key direction number body session ≡ true
 
--- the acknowledgement of so many items, to their sender, is a frame
+-- the acknowledgement of a number of items, to their sender, is a frame
 abbrev pub CanAnswer : Party → Party → Key → ℕ → ℕ → Type 0
 CanAnswer me from key direction upto = IsFrame (Ack me from key direction upto)
 

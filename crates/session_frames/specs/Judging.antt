@@ -15,7 +15,7 @@ use Rattle.session_frames.specs.declared.judged.Judged.TheVariants.{Garbled, Not
 abbrev pub is_other : Party → Party → Bool
 is_other a b = not (a.0 == b.0)
 
--- whether a party is none of a network of so many nodes
+-- whether a party is outside a network of this number of nodes
 abbrev pub is_no_node : ℕ → Party → Bool
 is_no_node nodes party = nat_le nodes party.0
 

@@ -20,7 +20,7 @@ pub enum Judged {
     Early {
         expected: u32,
     },
-    /// So many of the items that this node sent in this direction of the session have arrived.
+    /// The number of the items that this node sent in this direction of the session and that have arrived.
     Acked {
         key: Key,
         direction: u8,

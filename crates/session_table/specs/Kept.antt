@@ -41,7 +41,7 @@ owner_of e = (e.0, e.1.owner)
 abbrev pub IsNumbered : {V : Type 0} → List (Place × V) → Type 0
 IsNumbered items = (key : Key) (n : ℕ) → lookup (place_eq (place_of key n)) items ≡ slice_get (items_of key items) n
 
--- the session of the key counts so many of its items, and there are none where there is no session
+-- the session of the key counts this number of its items, and there are none where there is no session
 abbrev pub IsCounted : {V : Type 0} → (Standing → ℕ) → List (Key × Standing) → List (Place × V) → Type 0
 IsCounted count lines items = (key : Key) → length (items_of key items) ≡ option_map_or count (lookup (key_eq key) lines) 0
 

@@ -154,7 +154,7 @@ impl Sessions {
         }
     }
 
-    /// Whether so many items of the session may be taken: no fewer than were, and no more than arrived.
+    /// Whether this number of the session's items may be received: no fewer than were, and no more than arrived.
     fn takes_up_to(&self, key: &Key, number: u32) -> bool
         ensures { IsTrue result ↔ TakesUpTo self.now.list key.now number }
     {
@@ -231,7 +231,7 @@ fn count_of(key: &Key, items: &[SentItem]) -> usize
     items.iter().filter(|item| *key == item.key).count()
 }
 
-/// Whether the item has the direction and the number, which is the first one and so many more, and is lawful there.
+/// Whether the item has the direction and the number, which is the sum of the first one and the count, and is lawful there.
 fn is_placed(item: &SentItem, direction: u8, first: u32, count: usize) -> bool
     ensures { IsTrue result ↔ ((item.now.direction ≡ direction) × (item.now.seq ≡ first + count)
         × (is_lawful item.now.direction item.now.seq item.now.body ≡ true)) }
@@ -241,7 +241,7 @@ fn is_placed(item: &SentItem, direction: u8, first: u32, count: usize) -> bool
         && is_lawful(item.direction, item.seq, &item.body)
 }
 
-/// Whether the number is the first one and so many more.
+/// Whether the number is the sum of the first one and the count.
 fn is_past(number: u32, first: u32, count: usize) -> bool
     ensures { result ≡ (number == first + count) }
 {

@@ -90,7 +90,7 @@ impl Owned {
         self.counts.get(&flow).copied().unwrap_or(0)
     }
 
-    /// Makes room for so many sessions. Want of memory leaves all as it was.
+    /// Makes room for this number of sessions. Want of memory leaves all as it was.
     pub(crate) fn make_room(&mut self, sessions: usize) -> Result<(), AllocError>
         ensures list { self.new.list ≡ self.old.list }
         ensures room { OnOk result (sessions ≤ self.new.room) }

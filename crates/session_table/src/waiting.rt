@@ -35,7 +35,7 @@ impl Waiting {
         }
     }
 
-    /// Makes room for so many places. Want of memory leaves all as it was.
+    /// Makes room for this number of places. Want of memory leaves all as it was.
     pub(crate) fn make_room(&mut self, places: usize) -> Result<(), AllocError>
         ensures list { self.new.list ≡ self.old.list }
         ensures room { OnOk result (places ≤ self.new.room) }

@@ -31,7 +31,7 @@ direction_out me key = if is_opened_by me key then 0 else 1
 abbrev pub direction_in : Party → Key → ℕ
 direction_in me key = if is_opened_by me key then 1 else 0
 
--- whether a party is no other node of a network of so many nodes
+-- whether a party is no other node of a network of this number of nodes
 abbrev pub is_no_peer : ℕ → Party → Party → Bool
 is_no_peer nodes me to = (to.0 == me.0) || nat_le nodes to.0
 
@@ -88,7 +88,7 @@ item_on me session body = record { key = session.key; direction = direction_out 
 abbrev pub is_next : Party → Key → ℕ → ℕ → Body → Session → Bool
 is_next me key direction number body session = (direction == direction_in me key) && ((number == length session.came) && (is_lawful direction number body && not (is_init body)))
 
--- whether a key is new here, and its initiator is another node of a network of so many nodes
+-- whether a key is new here, and its initiator is another node of a network of this number of nodes
 abbrev pub is_new_key : ℕ → Party → List Session → Key → Bool
 is_new_key nodes me sessions key = is_none (session_of key sessions) && not (is_no_peer nodes me key.initiator)
 

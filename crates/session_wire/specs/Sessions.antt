@@ -78,7 +78,7 @@ abbrev pub sent_on : ℕ → List SentItem → List Session → List Session
 sent_on stamp [] sessions = sessions
 sent_on stamp (item ∷ items) sessions = sent_on stamp items (changed_at item.key (with_sent (record { body = item.body; stamp = stamp })) sessions)
 
--- the sessions once so many items of one were taken
+-- the sessions once this number of items of one was received
 abbrev pub taken_on : Option (Key × ℕ) → List Session → List Session
 taken_on None sessions = sessions
 taken_on (Some taken) sessions = changed_at taken.0 (with_taken taken.1) sessions

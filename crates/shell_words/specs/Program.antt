@@ -61,7 +61,7 @@ nodes_in words = number_or (codes "nodes") words 2
 unfoldable pub notary_in : List (List ℕ) → ℕ
 notary_in words = number_or (codes "notary") words 0
 
--- a network of so many nodes, where the notary is one of them
+-- a network of this number of nodes, where the notary is one of them
 abbrev pub network : ℕ → ℕ → Option NetworkWords
 network nodes notary = if nat_lt notary nodes then Some (record { nodes = nodes; notary = notary }) else None
 

@@ -238,11 +238,11 @@ ledger_words w n = if bytes_eq w (codes "vault") then vault_of (number_of n) els
 abbrev pub two_words : List ℕ → List ℕ → Command
 two_words w n = if bytes_eq w (codes "clock") then clock_of (number_of n) else if bytes_eq w (codes "turn") then turn_of (number_of n) else if bytes_eq w (codes "post") then post_of (number_of n) else if bytes_eq w (codes "boot") then boot_of (number_of n) else if bytes_eq w (codes "flows") then flows_of (number_of n) else ledger_words w n
 
--- what three and more words ask for where no other command has so many: `start N CLASS ARGS..`
+-- what three and more words ask for where no other command has that number: `start N CLASS ARGS..`
 abbrev pub many_words : List ℕ → List ℕ → Command
 many_words w n = if bytes_eq w (codes "start") then start_of (number_of n) else Unknown
 
--- what three words ask for where no other command has so many: `load SEED COUNT` or `start N CLASS`
+-- what three words ask for where no other command has that number: `load SEED COUNT` or `start N CLASS`
 abbrev pub load_words : List ℕ → List ℕ → List ℕ → Command
 load_words w n m = if bytes_eq w (codes "load") then load_of (number_of n) (number_of m) else many_words w n
 

@@ -30,7 +30,7 @@ pub enum Command {
     Repeat { node: u64, place: u64 },
     /// `lose N I`: that frame is lost.
     Lose { node: u64, place: u64 },
-    /// `cut N CALLS OUTCOME`: the node's power goes after so many calls. The outcome is at most 3.
+    /// `cut N CALLS OUTCOME`: the node's power goes after that number of calls. The outcome is at most 3.
     Cut { node: u64, calls: u64, outcome: u8 },
     /// `boot N`.
     Boot { node: u64 },

@@ -46,7 +46,7 @@ numbers = record { all = Sleeping ∷ []; number = λ p. 1; told = λ callable. 
 pub begins_within : BeginsWithin (λ args. (args.first < 2 ^ 32) × Unit {0}) kept.within form.tags begins
 begins_within args here c e = let made = if_some (nat_le args.first 65534) e in (λ given place. subst kept.within made.1 (given.0, given.0), refl)
 
--- how it sleeps, with so many left
+-- how it sleeps, with this number left
 sleeps_owe : (most n : ℕ) (c : Count) (with : Resumed) (here : Place) → 1 ≤ most → n + 1 ≤ most → (kept.within c → n < 2 ^ 32) → Owes form kept.within most c with here (sleeps (record c { left = n }))
 sleeps_owe most n c with here some falls small =
     owes_if form kept.within most c with here (n == 0) (Ends (record c { left = n }) (value.Number c.all)) (On Sleeping (record c { left = n }) (act.Sleep 0))

@@ -39,7 +39,7 @@ after m at with flow = m.next flow.0 with at
 abbrev pub got : ℕ → Resumed
 got x = resumed.Got (value.Number x)
 
--- Two flows of a set wait to receive in a session. A number is on its way to the second, which sends an answer there, and the first returns the answer or sends a number on there, within so many turns. Each resume of a flow has a place of its own, counted on from i.
+-- Two flows of a set wait to receive in a session. A number is on its way to the second, which sends an answer there, and the first returns the answer or sends a number on there, within the given number of turns. Each resume of a flow has a place of its own, counted on from i.
 abbrev pub talk : {F : Type 0} → Machine F → Key → (ℕ → Place) → (ℕ → Place) → ℕ → ℕ → ℕ → F × Act F → F × Act F → Option ℕ
 talk m k p q i zero x first second = None
 talk m k p q i (suc n) x first second =

@@ -100,7 +100,7 @@ ping_sends to k n last y p =
 plays : Plays machine
 plays = record { answers = echo_answers; heard = λ k last turns q. refl; returns = λ to k last y p. refl; sends = ping_sends; sent = λ to k left last p. refl }
 
--- with so many left, and a number on its way, the ping returns their sum
+-- with this number left, and a number on its way, the ping returns their sum
 talks : (m : Machine Shipped) → Plays m → (n x : ℕ) (p q : ℕ → Place) (i : ℕ) (to : Party) (k : Key) (last heard turns : ℕ) → turns + suc n ≤ 1000 → x + suc n < 2 ^ 64 → talk m k p q i (suc n) x (waiting to k (suc n) last) (listening k heard turns) ≡ Some (x + suc n)
 talks m play zero x p q i to k last heard turns few small =
     rw (same_self k, play.answers k heard turns x (q i) few small, same_self k, play.returns to k last (x + 1) (p i)) refl

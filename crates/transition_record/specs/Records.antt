@@ -65,7 +65,7 @@ record_laws =
 
 -- ---- what reading a record answers
 
--- the record whose bytes these are; Malformed at 0 where they are none's; or want of memory
+-- the record whose bytes these are; Malformed at 0 where they spell none; or want of memory
 abbrev pub GivesRecord : Result (Cause × Effect) DecodeFault → List ℕ → Type 0
 GivesRecord (Ok p) bytes = IsRecord p.0 p.1 × (bytes ≡ record_text p.0 p.1)
 GivesRecord (Err decoding.Memory) bytes = Unit {0}

@@ -13,7 +13,7 @@ use std::marker::Model;
 /// many more there is room. No two of them are equal.
 #[derive(Drop)]
 pub struct Waiting {
-    // Before those that wait stand so many that were discarded.
+    // Before those that wait stand those that were discarded, this number.
     frames: IndexSet<Vec<u8>>,
     gone: usize,
 }
@@ -122,7 +122,7 @@ impl Waiting {
     }
 }
 
-/// Takes the first frames out, so many as were discarded, at once.
+/// Takes the first frames out, as many as were discarded, at once.
 fn compact(frames: &mut IndexSet<Vec<u8>>, gone: &mut usize)
     requires { gone.old ≤ length frames.old.keys }
     ensures frames { frames.new.keys ≡ drop gone.old frames.old.keys }

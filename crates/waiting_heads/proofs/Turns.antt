@@ -102,7 +102,7 @@ take_more n xs front x at is = let next : n + 1 ≡ suc n = omega arith in ap (�
     by (suc n) [] at = cc
     by (suc n) (k ∷ ks) at = ap (λ (l : List Frame). k ∷ l) (by n ks at)
 
--- a front of so many frames as there are up to a number is the front of that number
+-- a front of as many frames as there are up to a number is the front of that number
 pub take_least : (n k : ℕ) (xs : List Frame) → k ≡ min (length xs) n → take k xs ≡ take n xs
 take_least n k [] is = none k ∙ sym (none n)
   where

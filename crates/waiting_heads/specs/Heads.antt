@@ -13,7 +13,7 @@ abbrev pub turned : List Frame → List Frame
 turned [] = []
 turned (x ∷ xs) = xs ++ x ∷ []
 
--- so many times
+-- this number of times
 abbrev pub turned_by : ℕ → List Frame → List Frame
 turned_by zero xs = xs
 turned_by (suc n) xs = turned (turned_by n xs)

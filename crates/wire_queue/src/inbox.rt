@@ -70,7 +70,8 @@ impl Inbox {
         Ok((inbox, pass))
     }
 
-    /// Puts the frame at the back. It comes back only where the inbox was full at a step of this call.
+    /// Puts the frame at the back. It comes back where the inbox was full; of a pass with every share contracts say this: 1,024 frames
+    /// were posted and not pulled. With fewer shares, no clause tells a full inbox from another one.
     pub fn post<R: Wait>(&self, rt: &R, pass: &mut InboxPass, frame: ByteList) -> Option<ByteList>
         requires { pass.old.of ≡ self.now }
         ensures of { pass.new.of ≡ pass.old.of }
@@ -85,8 +86,8 @@ impl Inbox {
         }
     }
 
-    /// Takes the frame at the front. `None` comes only where the inbox was empty at a step of this call. With every share, what was pulled
-    /// is among the origins, and after `None` what was posted is just what was pulled.
+    /// Takes the frame at the front, or `None` where the inbox was empty. Of a pass with every share contracts say this: what was pulled is
+    /// among the origins, and after `None` what was posted is just what was pulled. With fewer shares, `None` may come at any time.
     pub fn pull<R: Wait>(&self, rt: &R, pass: &mut InboxPass) -> Option<ByteList>
         requires { pass.old.of ≡ self.now }
         ensures of { pass.new.of ≡ pass.old.of }

@@ -7,11 +7,11 @@ use Rattle.wire_queue.specs.declared.inbox.InboxPass.{InboxPass}
 use Rattle.wire_queue.specs.declared.rule.Seen.{Seen}
 use Rattle.wire_queue.specs.Wire.{Frame, IsIn, seen, fresh}
 
--- so many shares of the pass were given away
+-- this number of shares of the pass was given away
 abbrev pub given_of : ℕ → Seen → Seen
 given_of n s = seen (s.shares - n) s.origins s.copies s.pulled
 
--- so many shares were given away, and each origin waited at the inbox's place
+-- this number of shares was given away, and each origin waited at the inbox's place
 pub record Spread (waited : List (List Frame)) (given : ℕ) (own : List Seen) : Type 0 where
   pub shares : (q : ℕ) (s : Seen) → slice_get own q ≡ Some s → s.shares + given ≡ 32
   pub posted : (q : ℕ) (s : Seen) → slice_get own q ≡ Some s → (x : Frame) → IsIn x s.origins → (frames : List Frame) × (slice_get waited q ≡ Some frames) × IsIn x frames

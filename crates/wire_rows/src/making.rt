@@ -57,7 +57,7 @@ fn split_all(
     Ok((kept, row))
 }
 
-/// So many rows of passes, with one share of each inbox in each, and what is left of the passes with all shares. The only error is want of
+/// This number of rows of passes, with one share of each inbox in each, and what is left of the passes with all shares. The only error is want of
 /// memory.
 pub fn rows_of(
     alloc: Global,

@@ -206,7 +206,7 @@ lasts_same n = record {
 
 -- ---- how many
 
--- so many records were committed, and a node that is up has them all
+-- this number of records was committed, and a node that is up has them all
 record Few (count : ℕ) (n : NodeSeen) : Type 0 where
   most : count ≤ 65536
   within : (bodies : List (List ℕ)) → n.journal ≡ Some bodies → count ≤ length bodies
