@@ -11,8 +11,7 @@ pub record Table (F : Type 0) : Type 0 where
 -- whether the flow is live
 abbrev pub is_live : {F : Type 0} → FlowState F → Bool
 is_live (state.Live at) = true
-is_live (state.Ended step class value) = false
-is_live (state.Failed step class code) = false
+is_live _ = false
 
 -- the number, where the test holds
 abbrev pub where_true : Bool → ℕ → List ℕ

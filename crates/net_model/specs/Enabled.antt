@@ -26,8 +26,7 @@ enabling sessions f now _ = Some (event.Move f)
 -- the event by which a flow goes on at a moment, where it is live on an act that is enabled
 abbrev pub enabled_event : {F : Type 0} → List Session → ℕ → FlowState F → Option Event
 enabled_event sessions now (state.Live at) = enabling sessions at.flow now at.waiting
-enabled_event sessions now (state.Ended step class value) = None
-enabled_event sessions now (state.Failed step class code) = None
+enabled_event sessions now _ = None
 
 -- the event by which the first flow of the list goes on that can
 abbrev pub first_event : {F : Type 0} → List Session → ℕ → List (FlowState F) → Option Event
@@ -49,9 +48,7 @@ part_of f (state.Failed step class code) = now_failed f step class code
 abbrev pub effect_on : {F : Type 0} → Environment F → ℕ → NodeState F → ℕ → FlowState F → Event → Option (Effect F)
 effect_on w me s now flow (event.Move f) = option_and_then (λ at. performed w me s now at at.waiting) (checkpoint_of flow)
 effect_on w me s now flow (event.Lapse f) = option_and_then (λ at. lapsed w me now at (lapses s now at.flow at.waiting)) (checkpoint_of flow)
-effect_on w me s now flow (event.Start f class args) = None
-effect_on w me s now flow (event.Answer key) = None
-effect_on w me s now flow (event.Arrive key direction number) = None
+effect_on w me s now flow _ = None
 
 -- ---- laws
 

@@ -21,8 +21,7 @@ use Rattle.net_model.specs.Fits.{IsSound}
 -- whether the frames of a flow that are over are those that wait on Return or Fail
 abbrev pub flow_is_fair : {F : Type 0} → Machine F → FlowState F → Bool
 flow_is_fair m (state.Live at) = is_fair m at.stack.top at.waiting && list_all (λ frame. not (m.over frame)) at.stack.below
-flow_is_fair m (state.Ended step class value) = true
-flow_is_fair m (state.Failed step class code) = true
+flow_is_fair m _ = true
 
 -- ---- the number
 
@@ -43,8 +42,7 @@ owns sessions f = total (λ session. one_of (is_owner f session.owner)) sessions
 -- what a flow may still do: the weights of its frames, the cost of its act, and 1 for each session that it owns
 abbrev pub flow_left : {F : Type 0} → Machine F → List Session → FlowState F → ℕ
 flow_left m sessions (state.Live at) = m.weight at.stack.top + total m.weight at.stack.below + cost m at.waiting + owns sessions at.flow
-flow_left m sessions (state.Ended step class value) = 0
-flow_left m sessions (state.Failed step class code) = 0
+flow_left m sessions _ = 0
 
 -- what an item that has not arrived may still cause
 abbrev pub item_left : {F : Type 0} → Machine F → Body → ℕ
@@ -76,10 +74,7 @@ left w net = total (node_left w net) net
 -- whether an event is a Start
 abbrev pub is_start : Event → Bool
 is_start (event.Start flow class args) = true
-is_start (event.Answer key) = false
-is_start (event.Arrive key direction number) = false
-is_start (event.Move flow) = false
-is_start (event.Lapse flow) = false
+is_start _ = false
 
 -- whether an owner, if there is one, is below a number
 abbrev pub owner_below : ℕ → Option ℕ → Bool

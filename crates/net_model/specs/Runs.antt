@@ -26,9 +26,7 @@ item_from net me sender key number = option_and_then (λ s. sent_to me number (s
 abbrev pub item_for : {F : Type 0} → List (NodeState F) → ℕ → NodeState F → Event → Option Sent
 item_for net me s (event.Answer key) = item_from net me key.initiator.0 key 0
 item_for net me s (event.Arrive key direction number) = option_and_then (λ session. item_from net me session.peer.0 key number) (session_of key s.sessions)
-item_for net me s (event.Start flow class args) = None
-item_for net me s (event.Move flow) = None
-item_for net me s (event.Lapse flow) = None
+item_for net me s _ = None
 
 -- the network once the state of node p has changed, with the effect
 abbrev pub net_step_at : {F : Type 0} → Environment F → List (NodeState F) → ℕ → Cause → NodeState F → Option (List (NodeState F) × Effect F)
@@ -141,9 +139,7 @@ pub record IsItem {F : Type 0} (net : List (NodeState F)) (p : ℕ) (s : NodeSta
 abbrev pub accepts : Event → Bool
 accepts (event.Answer key) = true
 accepts (event.Arrive key direction number) = true
-accepts (event.Start flow class args) = false
-accepts (event.Move flow) = false
-accepts (event.Lapse flow) = false
+accepts _ = false
 
 -- each accepted item of these records is its sender's in the network
 abbrev pub IsMatchedFrom : {F : Type 0} → List (NodeState F) → ℕ → NodeState F → List (Record F) → Type 0

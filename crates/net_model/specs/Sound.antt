@@ -6,8 +6,7 @@ use Rattle.flow_machine.specs.declared.flows.FlowState.TheVariants.{Live, Ended,
 -- a flow that is live keeps this number
 abbrev pub IsNumbered : {F : Type 0} → ℕ → FlowState F → Type 0
 IsNumbered f (Live at) = at.flow ≡ f
-IsNumbered f (Ended step class value) = ⊤
-IsNumbered f (Failed step class code) = ⊤
+IsNumbered f _ = ⊤
 
 -- each live flow keeps its own number, the first of the list being flow f
 abbrev pub AreNumbered : {F : Type 0} → ℕ → List (FlowState F) → Type 0

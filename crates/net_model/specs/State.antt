@@ -88,9 +88,7 @@ pub record Record (F : Type 0) : Type 0 where
 abbrev pub came_on : Event → List Body → Option ℕ → List Session → List Session
 came_on (event.Answer key) bodies owner sessions = sessions ++ new_session key key.initiator owner bodies ∷ []
 came_on (event.Arrive key direction number) bodies owner sessions = changed_at key (with_came bodies) sessions
-came_on (event.Start flow class args) bodies owner sessions = sessions
-came_on (event.Move flow) bodies owner sessions = sessions
-came_on (event.Lapse flow) bodies owner sessions = sessions
+came_on _ bodies owner sessions = sessions
 
 -- ---- flows and locks
 

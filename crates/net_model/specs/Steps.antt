@@ -201,8 +201,7 @@ lapses s now f _ = false
 -- the checkpoint of a flow that is live
 abbrev pub checkpoint_of : {F : Type 0} → FlowState F → Option (Checkpoint F)
 checkpoint_of (state.Live at) = Some at
-checkpoint_of (state.Ended step class value) = None
-checkpoint_of (state.Failed step class code) = None
+checkpoint_of _ = None
 
 -- the checkpoint of the flow of that number, where it is live
 abbrev pub live_at : {F : Type 0} → NodeState F → ℕ → Option (Checkpoint F)
