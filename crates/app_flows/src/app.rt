@@ -100,67 +100,132 @@ impl Flows for App {
 
     ghost laws = { sum_laws _ _ _ _
         (sum_laws _ _ _ _
-        (frames false count.numbers count.kept count.form _ 1 count.is_form (worded count.kept count.form (codes "count") 1 count.begins (then middle end) (omega arith) count.begins_within))
+        (frames false count.numbers count.kept count.form _ 1 count.is_form
+        (worded count.kept count.form (codes "count") 1 count.begins (then middle end) (omega arith)
+        count.begins_within))
         (sum_laws _ _ _ _
-        (frames true client_laws.numbers client_laws.kept client.form no_way 31 client_laws.is_form (no_way_laws _ _))
+        (frames true client_laws.numbers client_laws.kept client.form no_way 31 client_laws.is_form
+        (no_way_laws _ _))
         (sum_laws _ _ _ _
-        (frames true resolve_laws.numbers resolve_laws.kept resolve.form no_way 32 resolve_laws.is_form (no_way_laws _ _))
-        (frames true finality_laws.numbers finality_laws.kept finality.form no_way 30 finality_laws.is_form (no_way_laws _ _)))))
-        (sum_laws _ _ _ _
-        (sum_laws _ _ _ _
-        (sum_laws _ _ _ _
-        (sum_laws _ _ _ _
-        (frames false echo.numbers echo.kept echo.form _ 11 echo.is_form (by_init_laws _ _ 2 echo.answers echo.answers_within))
-        (frames false service_laws.numbers service_laws.kept service.form _ 20 service_laws.is_form (by_init_laws _ _ 20 service.fresh service_laws.answers_within)))
-        (sum_laws _ _ _ _
-        (frames false receiver.numbers receiver.kept receiver.form _ 21 receiver_laws.is_form (by_init_laws _ _ 21 receiver.fresh receiver_laws.answers_within))
-        (frames false agree.numbers agree.kept agree.form _ 22 agree_laws.is_form (by_init_laws _ _ 22 agree.fresh agree_laws.answers_within))))
+        (frames true resolve_laws.numbers resolve_laws.kept resolve.form no_way 32
+        resolve_laws.is_form (no_way_laws _ _))
+        (frames true finality_laws.numbers finality_laws.kept finality.form no_way 30
+        finality_laws.is_form (no_way_laws _ _)))))
         (sum_laws _ _ _ _
         (sum_laws _ _ _ _
-        (frames false issue.numbers issue.kept issue.form _ 3 issue_laws.is_form (worded issue.kept issue.form (codes "issue") 3 issue.begins (then currency (then long end)) (omega arith) issue_laws.begins_within))
-        (frames false pay_laws.numbers pay_laws.kept pay.form _ 4 pay_laws.is_form (worded pay_laws.kept pay.form (codes "pay") 4 pay.begins (then byte (then currency (then byte (then long options)))) (omega arith) pay_laws.begins_within)))
-        (sum_laws _ _ _ _
-        (frames false exit.numbers exit.kept exit.form _ 5 exit_laws.is_form (worded exit.kept exit.form (codes "exit") 5 exit.begins (then currency (then long end)) (omega arith) exit_laws.begins_within))
-        (frames false spend.numbers spend.kept spend.form _ 8 spend_laws.is_form (worded spend.kept spend.form (codes "spend") 8 spend.begins (then id (then middle (then byte end))) (omega arith) spend_laws.begins_within)))))
         (sum_laws _ _ _ _
         (sum_laws _ _ _ _
-        (frames false ping.numbers ping.kept ping.form _ 2 ping.is_form (worded ping.kept ping.form (codes "ping") 2 ping.begins (then byte (then middle end)) (omega arith) ping.begins_within))
-        (frames false probe.numbers probe.kept probe.form _ 10 probe.is_form (worded probe.kept probe.form (codes "probe") 10 probe.begins (then byte (then short end)) (omega arith) probe.begins_within)))
+        (frames false echo.numbers echo.kept echo.form _ 11 echo.is_form
+        (by_init_laws _ _ 2 echo.answers echo.answers_within))
+        (frames false service_laws.numbers service_laws.kept service.form _ 20 service_laws.is_form
+        (by_init_laws _ _ 20 service.fresh service_laws.answers_within)))
         (sum_laws _ _ _ _
-        (frames false fact.numbers fact.kept fact.form _ 6 fact_laws.is_form (worded fact.kept fact.form (codes "fact") 6 fact.begins (then byte (then long (then long end))) (omega arith) fact_laws.begins_within))
+        (frames false receiver.numbers receiver.kept receiver.form _ 21 receiver_laws.is_form
+        (by_init_laws _ _ 21 receiver.fresh receiver_laws.answers_within))
+        (frames false agree.numbers agree.kept agree.form _ 22 agree_laws.is_form
+        (by_init_laws _ _ 22 agree.fresh agree_laws.answers_within))))
         (sum_laws _ _ _ _
-        (frames false refact.numbers refact.kept refact.form _ 7 refact_laws.is_form (worded refact.kept refact.form (codes "refact") 7 refact.begins (then id (then middle (then long end))) (omega arith) refact_laws.begins_within))
-        (frames false iou.numbers iou.kept iou.form _ 9 iou_laws.is_form (worded iou.kept iou.form (codes "iou") 9 iou.begins (then byte (then currency (then byte (then long end)))) (omega arith) iou_laws.begins_within)))))) };
+        (sum_laws _ _ _ _
+        (frames false issue.numbers issue.kept issue.form _ 3 issue_laws.is_form
+        (worded issue.kept issue.form (codes "issue") 3 issue.begins (then currency (then long end))
+        (omega arith) issue_laws.begins_within))
+        (frames false pay_laws.numbers pay_laws.kept pay.form _ 4 pay_laws.is_form
+        (worded pay_laws.kept pay.form (codes "pay") 4 pay.begins
+        (then byte (then currency (then byte (then long options)))) (omega arith)
+        pay_laws.begins_within)))
+        (sum_laws _ _ _ _
+        (frames false exit.numbers exit.kept exit.form _ 5 exit_laws.is_form
+        (worded exit.kept exit.form (codes "exit") 5 exit.begins (then currency (then long end))
+        (omega arith) exit_laws.begins_within))
+        (frames false spend.numbers spend.kept spend.form _ 8 spend_laws.is_form
+        (worded spend.kept spend.form (codes "spend") 8 spend.begins
+        (then id (then middle (then byte end))) (omega arith) spend_laws.begins_within)))))
+        (sum_laws _ _ _ _
+        (sum_laws _ _ _ _
+        (frames false ping.numbers ping.kept ping.form _ 2 ping.is_form
+        (worded ping.kept ping.form (codes "ping") 2 ping.begins (then byte (then middle end))
+        (omega arith) ping.begins_within))
+        (frames false probe.numbers probe.kept probe.form _ 10 probe.is_form
+        (worded probe.kept probe.form (codes "probe") 10 probe.begins (then byte (then short end))
+        (omega arith) probe.begins_within)))
+        (sum_laws _ _ _ _
+        (frames false fact.numbers fact.kept fact.form _ 6 fact_laws.is_form
+        (worded fact.kept fact.form (codes "fact") 6 fact.begins
+        (then byte (then long (then long end))) (omega arith) fact_laws.begins_within))
+        (sum_laws _ _ _ _
+        (frames false refact.numbers refact.kept refact.form _ 7 refact_laws.is_form
+        (worded refact.kept refact.form (codes "refact") 7 refact.begins
+        (then id (then middle (then long end))) (omega arith) refact_laws.begins_within))
+        (frames false iou.numbers iou.kept iou.form _ 9 iou_laws.is_form
+        (worded iou.kept iou.form (codes "iou") 9 iou.begins
+        (then byte (then currency (then byte (then long end)))) (omega arith)
+        iou_laws.begins_within)))))) };
 
-    ghost contents = { sum_contents (sum ⟦<CountFrame as Flows>⟧.part (sum ⟦<ClientFrame as Flows>⟧.part (sum ⟦<ResolveFrame as Flows>⟧.part ⟦<FinalityFrame as Flows>⟧.part))) (sum (sum (sum (sum ⟦<Frame<EchoPlace, Echo, ByInit> as Flows>⟧.part ⟦<ServiceFrame as Flows>⟧.part) (sum ⟦<ReceiverFrame as Flows>⟧.part ⟦<AgreeFrame as Flows>⟧.part)) (sum (sum ⟦<IssueFrame as Flows>⟧.part ⟦<PayFrame as Flows>⟧.part) (sum ⟦<ExitFrame as Flows>⟧.part ⟦<SpendFrame as Flows>⟧.part))) (sum (sum ⟦<Frame<PingPlace, Ping, ByWords> as Flows>⟧.part ⟦<Frame<ProbePlace, Probe, ByWords> as Flows>⟧.part) (sum ⟦<FactFrame as Flows>⟧.part (sum ⟦<RefactFrame as Flows>⟧.part ⟦<IouFrame as Flows>⟧.part))))
-        (sum_contents ⟦<CountFrame as Flows>⟧.part (sum ⟦<ClientFrame as Flows>⟧.part (sum ⟦<ResolveFrame as Flows>⟧.part ⟦<FinalityFrame as Flows>⟧.part))
+    ghost contents = { sum_contents
+        (sum ⟦<CountFrame as Flows>⟧.part
+        (sum ⟦<ClientFrame as Flows>⟧.part
+        (sum ⟦<ResolveFrame as Flows>⟧.part ⟦<FinalityFrame as Flows>⟧.part)))
+        (sum (sum (sum
+        (sum ⟦<Frame<EchoPlace, Echo, ByInit> as Flows>⟧.part ⟦<ServiceFrame as Flows>⟧.part)
+        (sum ⟦<ReceiverFrame as Flows>⟧.part ⟦<AgreeFrame as Flows>⟧.part))
+        (sum (sum ⟦<IssueFrame as Flows>⟧.part ⟦<PayFrame as Flows>⟧.part)
+        (sum ⟦<ExitFrame as Flows>⟧.part ⟦<SpendFrame as Flows>⟧.part)))
+        (sum (sum ⟦<Frame<PingPlace, Ping, ByWords> as Flows>⟧.part
+        ⟦<Frame<ProbePlace, Probe, ByWords> as Flows>⟧.part)
+        (sum ⟦<FactFrame as Flows>⟧.part
+        (sum ⟦<RefactFrame as Flows>⟧.part ⟦<IouFrame as Flows>⟧.part))))
+        (sum_contents ⟦<CountFrame as Flows>⟧.part
+        (sum ⟦<ClientFrame as Flows>⟧.part
+        (sum ⟦<ResolveFrame as Flows>⟧.part ⟦<FinalityFrame as Flows>⟧.part))
         (λ f. refl)
-        (sum_contents ⟦<ClientFrame as Flows>⟧.part (sum ⟦<ResolveFrame as Flows>⟧.part ⟦<FinalityFrame as Flows>⟧.part)
+        (sum_contents ⟦<ClientFrame as Flows>⟧.part
+        (sum ⟦<ResolveFrame as Flows>⟧.part ⟦<FinalityFrame as Flows>⟧.part)
         (λ f. refl)
         (sum_contents ⟦<ResolveFrame as Flows>⟧.part ⟦<FinalityFrame as Flows>⟧.part
         (λ f. refl)
         (λ f. refl))))
-        (sum_contents (sum (sum (sum ⟦<Frame<EchoPlace, Echo, ByInit> as Flows>⟧.part ⟦<ServiceFrame as Flows>⟧.part) (sum ⟦<ReceiverFrame as Flows>⟧.part ⟦<AgreeFrame as Flows>⟧.part)) (sum (sum ⟦<IssueFrame as Flows>⟧.part ⟦<PayFrame as Flows>⟧.part) (sum ⟦<ExitFrame as Flows>⟧.part ⟦<SpendFrame as Flows>⟧.part))) (sum (sum ⟦<Frame<PingPlace, Ping, ByWords> as Flows>⟧.part ⟦<Frame<ProbePlace, Probe, ByWords> as Flows>⟧.part) (sum ⟦<FactFrame as Flows>⟧.part (sum ⟦<RefactFrame as Flows>⟧.part ⟦<IouFrame as Flows>⟧.part)))
-        (sum_contents (sum (sum ⟦<Frame<EchoPlace, Echo, ByInit> as Flows>⟧.part ⟦<ServiceFrame as Flows>⟧.part) (sum ⟦<ReceiverFrame as Flows>⟧.part ⟦<AgreeFrame as Flows>⟧.part)) (sum (sum ⟦<IssueFrame as Flows>⟧.part ⟦<PayFrame as Flows>⟧.part) (sum ⟦<ExitFrame as Flows>⟧.part ⟦<SpendFrame as Flows>⟧.part))
-        (sum_contents (sum ⟦<Frame<EchoPlace, Echo, ByInit> as Flows>⟧.part ⟦<ServiceFrame as Flows>⟧.part) (sum ⟦<ReceiverFrame as Flows>⟧.part ⟦<AgreeFrame as Flows>⟧.part)
-        (sum_contents ⟦<Frame<EchoPlace, Echo, ByInit> as Flows>⟧.part ⟦<ServiceFrame as Flows>⟧.part
+        (sum_contents (sum (sum
+        (sum ⟦<Frame<EchoPlace, Echo, ByInit> as Flows>⟧.part ⟦<ServiceFrame as Flows>⟧.part)
+        (sum ⟦<ReceiverFrame as Flows>⟧.part ⟦<AgreeFrame as Flows>⟧.part))
+        (sum (sum ⟦<IssueFrame as Flows>⟧.part ⟦<PayFrame as Flows>⟧.part)
+        (sum ⟦<ExitFrame as Flows>⟧.part ⟦<SpendFrame as Flows>⟧.part)))
+        (sum (sum ⟦<Frame<PingPlace, Ping, ByWords> as Flows>⟧.part
+        ⟦<Frame<ProbePlace, Probe, ByWords> as Flows>⟧.part)
+        (sum ⟦<FactFrame as Flows>⟧.part
+        (sum ⟦<RefactFrame as Flows>⟧.part ⟦<IouFrame as Flows>⟧.part)))
+        (sum_contents (sum
+        (sum ⟦<Frame<EchoPlace, Echo, ByInit> as Flows>⟧.part ⟦<ServiceFrame as Flows>⟧.part)
+        (sum ⟦<ReceiverFrame as Flows>⟧.part ⟦<AgreeFrame as Flows>⟧.part))
+        (sum (sum ⟦<IssueFrame as Flows>⟧.part ⟦<PayFrame as Flows>⟧.part)
+        (sum ⟦<ExitFrame as Flows>⟧.part ⟦<SpendFrame as Flows>⟧.part))
+        (sum_contents
+        (sum ⟦<Frame<EchoPlace, Echo, ByInit> as Flows>⟧.part ⟦<ServiceFrame as Flows>⟧.part)
+        (sum ⟦<ReceiverFrame as Flows>⟧.part ⟦<AgreeFrame as Flows>⟧.part)
+        (sum_contents ⟦<Frame<EchoPlace, Echo, ByInit> as Flows>⟧.part
+        ⟦<ServiceFrame as Flows>⟧.part
         (λ f. refl)
         (λ f. refl))
         (sum_contents ⟦<ReceiverFrame as Flows>⟧.part ⟦<AgreeFrame as Flows>⟧.part
         (λ f. refl)
         (λ f. refl)))
-        (sum_contents (sum ⟦<IssueFrame as Flows>⟧.part ⟦<PayFrame as Flows>⟧.part) (sum ⟦<ExitFrame as Flows>⟧.part ⟦<SpendFrame as Flows>⟧.part)
+        (sum_contents (sum ⟦<IssueFrame as Flows>⟧.part ⟦<PayFrame as Flows>⟧.part)
+        (sum ⟦<ExitFrame as Flows>⟧.part ⟦<SpendFrame as Flows>⟧.part)
         (sum_contents ⟦<IssueFrame as Flows>⟧.part ⟦<PayFrame as Flows>⟧.part
         (λ f. refl)
         (λ f. refl))
         (sum_contents ⟦<ExitFrame as Flows>⟧.part ⟦<SpendFrame as Flows>⟧.part
         (λ f. refl)
         (λ f. refl))))
-        (sum_contents (sum ⟦<Frame<PingPlace, Ping, ByWords> as Flows>⟧.part ⟦<Frame<ProbePlace, Probe, ByWords> as Flows>⟧.part) (sum ⟦<FactFrame as Flows>⟧.part (sum ⟦<RefactFrame as Flows>⟧.part ⟦<IouFrame as Flows>⟧.part))
-        (sum_contents ⟦<Frame<PingPlace, Ping, ByWords> as Flows>⟧.part ⟦<Frame<ProbePlace, Probe, ByWords> as Flows>⟧.part
+        (sum_contents (sum ⟦<Frame<PingPlace, Ping, ByWords> as Flows>⟧.part
+        ⟦<Frame<ProbePlace, Probe, ByWords> as Flows>⟧.part)
+        (sum ⟦<FactFrame as Flows>⟧.part
+        (sum ⟦<RefactFrame as Flows>⟧.part ⟦<IouFrame as Flows>⟧.part))
+        (sum_contents ⟦<Frame<PingPlace, Ping, ByWords> as Flows>⟧.part
+        ⟦<Frame<ProbePlace, Probe, ByWords> as Flows>⟧.part
         (λ f. refl)
         (λ f. refl))
-        (sum_contents ⟦<FactFrame as Flows>⟧.part (sum ⟦<RefactFrame as Flows>⟧.part ⟦<IouFrame as Flows>⟧.part)
+        (sum_contents ⟦<FactFrame as Flows>⟧.part
+        (sum ⟦<RefactFrame as Flows>⟧.part ⟦<IouFrame as Flows>⟧.part)
         (λ f. refl)
         (sum_contents ⟦<RefactFrame as Flows>⟧.part ⟦<IouFrame as Flows>⟧.part
         (λ f. refl)
