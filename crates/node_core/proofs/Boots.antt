@@ -5,6 +5,7 @@ use Rattle.outside.specs.Disk.{DiskSeen, IsImage, EachImage, IfTold, Burns, Burn
 use Rattle.outside.specs.Faults.{Rose}
 use Rattle.outside.proofs.Moments.{at_now}
 use Rattle.net_base.specs.declared.names.Identity.{Identity}
+use Rattle.net_base.specs.Names.{IsIdentity}
 use Rattle.disk_journal.specs.Journal.{JournalSeen, IsReady, IsSound, IsYoung, GivesUp, WasSpelt, journal_of, is_unformatted, formatted, opening_calls, refusal, placed, size_of}
 use Rattle.disk_journal.specs.declared.fault.OpenFault.{OpenFault}
 use Rattle.disk_journal.specs.declared.fault.OpenFault.TheVariants as open_fault
@@ -37,6 +38,7 @@ kept_image x = record { no_shorter = omega arith; no_longer = omega arith; elsew
 
 -- all that an opening says of the journal that it gives
 pub record Opening (id : Identity) (old : DiskSeen) (journal : JournalSeen) (list : List (ℕ × List ℕ)) : Type 0 where
+  pub limits : IsIdentity id
   pub format : old.tells ≡ true → refusal id old.state.kept ≡ None
   pub told : old.tells ≡ true → list ≡ placed 16 (journal_of old.state.kept)
   pub ready : IsReady journal × (journal.of ≡ id)
@@ -57,6 +59,7 @@ pub record Opening (id : Identity) (old : DiskSeen) (journal : JournalSeen) (lis
 pub opening_tied : (id : Identity) (old : DiskSeen) (journal : JournalSeen) (list : List (ℕ × List ℕ)) (bodies : List (List ℕ)) → Opening id old journal list → bodies ≡ bodies_in list → Tied id journal bodies
 opening_tied id old journal list bodies o is =
     let t : Tied id journal (bodies_in list) = record {
+      limits = o.limits;
       of = o.ready.1;
       ready = o.ready.0;
       counted = o.counts.0 ∙ sym (length-map list (λ (y : ℕ × List ℕ). y.1));

@@ -56,6 +56,7 @@ pub tied_same : (old new : JournalSeen) (bodies : List (List ℕ)) → Tied old.
 tied_same old new bodies tied is ready =
     let same = same_whole old new is in
     record {
+      limits = tied.limits;
       of = ap (λ (j : JournalSeen). j.of) same;
       ready = ready;
       counted = ap (λ (j : JournalSeen). j.count) same ∙ tied.counted;
@@ -69,6 +70,7 @@ module _ {F : Type 0} (f : Reads F) (r : Record F) (bodies : List (List ℕ)) (b
   logged old new tied stays ready done counts calm power = (
     reads,
     record {
+      limits = tied.limits;
       of = stays.rest.1;
       ready = ready;
       counted = omega (arith, counts.1, tied.counted, length-append bodies (body ∷ []));

@@ -13,7 +13,7 @@ use Rattle.flow_machine.specs.Machine.{Machine}
 use Rattle.net_model.specs.Environment.{Environment, environment, unjudged}
 use Rattle.net_model.specs.Steps.{place}
 use Rattle.node_core.specs.declared.node.State.{State}
-use Rattle.node_core.specs.declared.node.State.TheVariants.{Down, Up, Moved}
+use Rattle.node_core.specs.declared.node.State.TheVariants.{Down, Up}
 use Rattle.node_core.specs.declared.faults.StartFault.TheVariants as start_fault
 use Rattle.node_tables.specs.Journals.{Reads}
 use Rattle.node_core.specs.declared.faults.Taken.{Taken}
@@ -75,22 +75,19 @@ arms id calls outcome old calm some memory synced = record {
 
 -- a node without a journal is down
 pub is_down : {D F : Type 0} (id : Identity) (state : State D F) → IsWhole id state → journal_in state ≡ None → IsDown state
-is_down id (Down disk) whole none = tt
 is_down id (Up up) whole none = cc
-is_down id Moved whole none = absurd whole
+is_down id state whole none = whole
 
 pub down_seen : {D F : Type 0} (seen : D → DiskSeen) (id : Identity) (state : State D F) (disk : D) → state ≡ Down disk → seen_in seen id state ≡ seen_over id (seen disk)
 down_seen seen id state disk is = ap (seen_in seen id) is
 
 down_journal : {D F : Type 0} (state : State D F) → IsDown state → journal_in state ≡ None
 down_journal (Down disk) h = refl
-down_journal (Up up) h = absurd h
-down_journal Moved h = absurd h
+down_journal _ h = absurd h
 
 down_acked : {D F : Type 0} (state : State D F) → IsDown state → acked_in state ≡ []
 down_acked (Down disk) h = refl
-down_acked (Up up) h = absurd h
-down_acked Moved h = absurd h
+down_acked _ h = absurd h
 
 pub cut_down : {D F : Type 0} (seen : D → DiskSeen) (id : Identity) (calls outcome : ℕ) (fuse : Option (ℕ × ℕ)) (up armed : UpSeen) (fallen state : State D F) → calls ≡ 0 → up.journal.disk.of_file ≡ false → armed.journal.disk ≡ record up.journal.disk { fuse = fuse; calm = armed.journal.disk.calm } → disk_in seen fallen ≡ roomless armed.journal.disk
     → CutsNow outcome (disk_in seen fallen) (disk_in seen state) → IsDown state → CutAnswers {T = Unit {0}} calls outcome (seen_up id up) (Ok tt) (record { identity = id; disk = disk_in seen state; journal = journal_in state; acked = acked_in state })

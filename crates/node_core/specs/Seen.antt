@@ -60,8 +60,9 @@ pub record IsMember (id : Identity) : Type 0 where
   pub node : id.party.0 < id.nodes
   pub notary : id.notary.0 < id.nodes
 
--- a journal that took every append holds these bodies
+-- a journal of a node in its limits, which took every append, holds these bodies
 pub record Tied (id : Identity) (journal : JournalSeen) (bodies : List (List ℕ)) : Type 0 where
+  pub limits : IsIdentity id
   pub of : journal.of ≡ id
   pub ready : IsReady journal
   pub counted : journal.count ≡ length bodies

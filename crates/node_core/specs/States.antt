@@ -8,7 +8,7 @@ use Rattle.node_core.specs.declared.faults.Taken.{Taken}
 use Rattle.node_core.specs.declared.faults.TakeFault.{TakeFault}
 use Rattle.node_core.specs.declared.faults.TakeFault.TheVariants as take_fault
 use Rattle.node_core.specs.declared.node.State.{State}
-use Rattle.node_core.specs.declared.node.State.TheVariants.{Down, Up, Moved}
+use Rattle.node_core.specs.declared.node.State.TheVariants.{Down, Up}
 use Rattle.node_core.specs.Disks.{roomless}
 use Rattle.node_core.specs.Seen.{UpSeen, NodeSeen, Tied}
 use Rattle.node_core.specs.Takes.{AcceptsAs}
@@ -21,7 +21,7 @@ no_disk = record { tells = false; state = record { kept = []; now = clean []; pa
 abbrev pub disk_in : {D F : Type 0} → (D → DiskSeen) → State D F → DiskSeen
 disk_in seen (Down disk) = roomless (seen disk)
 disk_in seen (Up up) = roomless up.journal.disk
-disk_in seen Moved = no_disk
+disk_in seen _ = no_disk
 
 -- the bodies of a node that is up
 abbrev pub journal_in : {D F : Type 0} → State D F → Option (List (List ℕ))
@@ -33,16 +33,15 @@ abbrev pub acked_in : {D F : Type 0} → State D F → List ℕ
 acked_in (Up up) = up.acked
 acked_in _ = []
 
--- a node is up with a journal that took every append, or down
-abbrev pub IsWhole : {D F : Type 0} → Identity → State D F → Type 0
-IsWhole id (Down disk) = ⊤
-IsWhole id (Up up) = Tied id up.journal up.bodies
-IsWhole id Moved = ⊥
-
 -- a node is down, with its disk
 abbrev pub IsDown : {D F : Type 0} → State D F → Type 0
 IsDown (Down disk) = ⊤
 IsDown _ = ⊥
+
+-- a node is up with a journal that took every append, or down
+abbrev pub IsWhole : {D F : Type 0} → Identity → State D F → Type 0
+IsWhole id (Up up) = Tied id up.journal up.bodies
+IsWhole id state = IsDown state
 
 -- what contracts see of a node in this state
 abbrev pub seen_in : {D F : Type 0} → (D → DiskSeen) → Identity → State D F → NodeSeen

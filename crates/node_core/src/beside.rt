@@ -255,7 +255,6 @@ impl<D: Disk, F: FlowSet> Up<D, F> {
         identity: &Identity,
         cause: Cause,
     ) -> Result<Step<F>, AllocError>
-        requires identity { IsIdentity identity.now }
         requires tied { Tied identity.now self.now.journal self.now.bodies }
         requires picked { (pick : Option ℕ)
             × (picked_at (environment (unjudged F.machine F.reading) identity.now) cause.moment.0
@@ -287,7 +286,6 @@ impl<D: Disk, F: FlowSet> Up<D, F> {
         now: Moment,
         picked: Picked,
     ) -> Result<(), CommitFault>
-        requires identity { IsIdentity identity.now }
         requires tied { Tied identity.now self.old.journal self.old.bodies }
         requires by { (state_of F.reading self.old.bodies).moment ≤ now.0 }
         requires room { is_full F.reading 0 self.old.bodies ≡ false }
@@ -349,7 +347,6 @@ impl<D: Disk, F: FlowSet> Up<D, F> {
         done: Done,
         contracts: &J,
     ) -> Result<(), CommitFault>
-        requires identity { IsIdentity identity.now }
         requires tied { Tied identity.now self.old.journal self.old.bodies }
         requires by { (state_of F.reading self.old.bodies).moment ≤ now.0 }
         requires room { is_full F.reading 0 self.old.bodies ≡ false }

@@ -170,7 +170,7 @@ impl<D: Disk, F: Spelt + Drop> Node<D, F> {
         match self.state {
             State::Down { disk } => disk,
             State::Up { up } => up.into_disk(),
-            State::Moved => unreachable!(),
+            _ => unreachable!(),
         }
     }
 

@@ -1,7 +1,6 @@
 //! How a node that is up takes a frame.
 
 ghost use Rattle.std.specs.Prelude.{◌≡◌, ◌<◌, ◌≤◌, ◌^◌, ◌+◌, false, Err, Some, IfOk};
-ghost use Rattle.net_base.specs.Names.{IsIdentity};
 ghost use Rattle.session_frames.specs.Items.{CanAnswer, IsNextItem};
 ghost use Rattle.net_model.specs.Environment.{environment, unjudged};
 ghost use Rattle.node_tables.specs.Journals.{state_of};
@@ -44,7 +43,6 @@ impl<D: Disk, F: FlowSet> Up<D, F> {
         now: Moment,
         bytes: &[u8],
     ) -> Result<Taken, TakeFault>
-        requires identity { IsIdentity identity.now }
         requires tied { Tied identity.now self.old.journal self.old.bodies }
         requires by { (state_of F.reading self.old.bodies).moment ≤ now.0 }
         ensures takes { TakesAs (environment (unjudged F.machine F.reading) identity.now) now.0
@@ -105,7 +103,6 @@ impl<D: Disk, F: FlowSet> Up<D, F> {
         now: Moment,
         item: Item,
     ) -> Result<Taken, TakeFault>
-        requires identity { IsIdentity identity.now }
         requires tied { Tied identity.now self.old.journal self.old.bodies }
         requires by { (state_of F.reading self.old.bodies).moment ≤ now.0 }
         requires next { IsNextItem identity.now
@@ -149,7 +146,6 @@ impl<D: Disk, F: FlowSet> Up<D, F> {
         item: Item,
         ack: Outgoing,
     ) -> Result<Taken, TakeFault>
-        requires identity { IsIdentity identity.now }
         requires tied { Tied identity.now self.old.journal self.old.bodies }
         requires by { (state_of F.reading self.old.bodies).moment ≤ now.0 }
         requires next { IsNextItem identity.now
@@ -187,7 +183,6 @@ impl<D: Disk, F: FlowSet> Up<D, F> {
         now: Moment,
         item: Item,
     ) -> Result<(), CommitFault>
-        requires identity { IsIdentity identity.now }
         requires tied { Tied identity.now self.old.journal self.old.bodies }
         requires by { (state_of F.reading self.old.bodies).moment ≤ now.0 }
         requires next { IsNextItem identity.now

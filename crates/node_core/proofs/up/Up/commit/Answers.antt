@@ -9,6 +9,11 @@ use Rattle.node_core.specs.Seen.{Tied, UpSeen, MayCommit, CommitsAs}
 use Rattle.node_core.proofs.Commits.{journal_room, step_fits, committed, committed_by, committed_idle, not_committed}
 use Rattle.node_core.proofs.up.Up.commit.Goals as goal
 
+pub log-requires-clause-tied : goal.log-requires-clause-tied
+log-requires-clause-tied g c =
+    let tied : Tied c.args.identity.now c.self.inside.journal c.self.inside.tables.bodies = rw (← c.self.view_is) at c.requires.tied in
+    subst (λ id. Tied id c.self.inside.journal c.self.inside.tables.bodies) (sym tied.of) tied
+
 pub log-requires-clause-room : goal.log-requires-clause-room
 log-requires-clause-room g c =
     let id = c.args.identity.now in
