@@ -7,7 +7,7 @@ use Rattle.network_core.specs.declared.steps.Outcome.{Outcome}
 use Rattle.network_core.specs.declared.steps.Step.{Step}
 use Rattle.network_core.specs.Served.{Links, none as no_link, more as one_link, LeadTo}
 use Rattle.node_shell.specs.declared.replies.Reply.{Reply}
-use Rattle.node_shell.specs.Loads.{Course, load, work, CourseStates, Deal, Pays, none, more, Loaded, Breaks, BreaksFirst, LoadedShort, RefusesLoad, TakesLoad, GoesOver, started, is_paid, then_drain, issues_by, deals_of, load_text}
+use Rattle.node_shell.specs.Loads.{Course, load, work, CourseStates, Deal, Pays, none, more, Loaded, Breaks, BreaksFirst, LoadedShort, RefusesLoad, TakesLoad, Loads, GoesOver, started, is_paid, then_drain, issues_by, deals_of, load_text}
 
 -- ---- what is so of each part is so of all
 
@@ -22,10 +22,9 @@ module _ {W : Type 0} (serve : Step → W → Option Outcome → W → Type 0) (
   leads_go steps outcomes true a b h = links_go steps outcomes a b h
   leads_go steps outcomes false a b (first, s, rest, u, is, before, serves) = trans a u b (links_go first outcomes a u before) (each s u None b serves)
 
--- and of such a command
+-- and of a load
 module _ {W : Type 0} (s : CourseStates W) (R : W → W → Type 0) (here : (a b : W) → b ≡ a → R a b) (trans : (a b c : W) → R a b → R b c → R a c)
-    (part : (steps : List Step) (outcomes : List Outcome) (all : Bool) (a b : W) → s.follows steps outcomes all a b → R a b)
-    (worked : (commits : ℕ) (a b : W) → s.works commits a b → R a b) where
+    (part : (steps : List Step) (outcomes : List Outcome) (all : Bool) (a b : W) → s.follows steps outcomes all a b → R a b) where
   pays_go : (deals : List Deal) (paid : ℕ) (a b : W) → Pays s deals paid a b → R a b
   pays_go deals paid a b (none empty unpaid is) = here a b is
   pays_go all sum a b (more {deals = deals} {paid = paid} {u = u} d outcomes before pays all_is sum_is) = trans a u b (pays_go deals paid a u before) (part (then_drain d.starts) outcomes true u b pays)
@@ -44,15 +43,19 @@ module _ {W : Type 0} (s : CourseStates W) (R : W → W → Type 0) (here : (a b
       trans a h.funded b (part (then_drain issues) h.outcomes true a h.funded h.issued)
       (trans h.funded h.short.last b (pays_go h.short.made h.short.paid h.funded h.short.last h.short.pays) (first_go h.short.rest h.short.last b h.short.breaks))
 
-  pub course_goes : {F : Type 0} (m : Machine F) (c : Course) (reply : Option Reply) (a b : W) → GoesOver s m c a reply b → R a b
-  course_goes m (load seed count) (Some reply) a b (inl refused) = here a b refused.1
-  course_goes m (load seed count) (Some reply) a b (inr (takes, (paid, loaded, told))) =
+  pub load_goes : {F : Type 0} (m : Machine F) (seed count : ℕ) (reply : Option Reply) (a b : W) → Loads s m seed count a reply b → R a b
+  load_goes m seed count (Some reply) a b (inl refused) = here a b refused.1
+  load_goes m seed count (Some reply) a b (inr (takes, (paid, loaded, told))) =
       trans a loaded.funded b (part (then_drain (issues_by m (s.payers a))) loaded.outcomes true a loaded.funded loaded.issued) (pays_go (deals_of m (s.payers a) seed count) paid loaded.funded b loaded.pays)
-  course_goes m (load seed count) None a b (inl is) = here a b is
-  course_goes m (load seed count) None a b (inr (takes, short)) = short_go (issues_by m (s.payers a)) (deals_of m (s.payers a) seed count) a b short
-  course_goes m (work workers turns seed) (Some reply) a b (inl refused) = here a b refused.2
-  course_goes m (work workers turns seed) (Some reply) a b (inr (up, (commits, works, told))) = worked commits a b works
-  course_goes m (work workers turns seed) None a b is = here a b is
+  load_goes m seed count None a b (inl is) = here a b is
+  load_goes m seed count None a b (inr (takes, short)) = short_go (issues_by m (s.payers a)) (deals_of m (s.payers a) seed count) a b short
+
+  -- and, where it holds of work side by side, of each such command
+  pub course_goes : ((commits : ℕ) (a b : W) → s.works commits a b → R a b) → {F : Type 0} (m : Machine F) (c : Course) (reply : Option Reply) (a b : W) → GoesOver s m c a reply b → R a b
+  course_goes worked m (load seed count) reply a b h = load_goes m seed count reply a b h
+  course_goes worked m (work workers turns seed) (Some reply) a b (inl refused) = here a b refused.2
+  course_goes worked m (work workers turns seed) (Some reply) a b (inr (up, (commits, works, told))) = worked commits a b works
+  course_goes worked m (work workers turns seed) None a b is = here a b is
 
 -- ---- over what states show
 

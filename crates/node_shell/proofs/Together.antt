@@ -1,32 +1,40 @@
 -- A story of networks is one of them together with the worlds that they show, that is one of each alone, and it is one passage.
-use Rattle.std.proofs.Common.{◌≡◌, ◌⊎◌, inl, inr, ℕ, List, ◌++◌, Bool, true, false, Option, Some, None, refl, sym, subst}
+use Rattle.std.proofs.Common.{◌≡◌, ◌⊎◌, inl, inr, ℕ, ◌+◌, ◌≤◌, List, [], ◌∷◌, ◌++◌, Bool, true, false, Option, Some, None, Result, Ok, Err, refl, sym, ap, subst, arith}
 use Rattle.std.specs.Prelude.{◌||◌, not, if◌then◌else◌, MatchBool}
 use Rattle.net_base.specs.declared.names.Identity.{Identity}
+use Rattle.net_base.specs.declared.values.Hash32.{Hash32}
 use Rattle.net_base.proofs.Options.{some_eq}
+use Rattle.ledger_types.specs.declared.tx.SignedTx.{SignedTx}
+use Rattle.flow_machine.specs.declared.flow_set.WordFault.{WordFault}
+use Rattle.flow_machine.specs.Machine.{Machine}
 use Rattle.net_model.specs.Environment.{Environment, environment, Meaning}
 use Rattle.network_core.specs.declared.refusal.Refusal.TheVariants as refusal
+use Rattle.network_core.specs.declared.steps.Outcome.{Outcome}
 use Rattle.network_core.specs.declared.steps.Outcome.TheVariants as outcome
+use Rattle.network_core.specs.declared.steps.Step.{Step}
 use Rattle.network_core.specs.Drains.{Pair, with_world}
-use Rattle.network_core.specs.Ways.{stay}
+use Rattle.network_core.specs.Served.{PairFollows}
+use Rattle.network_core.specs.Ways.{Way, stay}
 use Rattle.network_core.specs.Worlds.{World, NetSeen, Shows, Coherent}
 use Rattle.network_core.proofs.KeepingCalls.{calls_are_ways}
-use Rattle.work_law.specs.Passages.{Passage, goes, works}
-use Rattle.work_law.proofs.Passing.{passage_then, kept_on_passages, acknowledged_on_passages}
+use Rattle.work_law.specs.Passages.{Passage, goes, works, times_worked}
+use Rattle.work_law.proofs.Passing.{way_then, passage_then, times_then, kept_on_passages, acknowledged_on_passages}
 use Rattle.shell_words.specs.declared.commands.Command.{Command}
 use Rattle.shell_words.specs.declared.commands.Command.TheVariants.{Unknown}
-use Rattle.shell_words.specs.Script.{has_no_answer, is_readable, words_of, command_of, asked_by}
+use Rattle.shell_words.specs.declared.commands.Command.TheVariants as command
+use Rattle.shell_words.specs.Script.{has_no_answer, is_readable, words_of, command_of, asked_by, whole_lines, last_line}
 use Rattle.node_shell.specs.declared.replies.Reply.{Reply}
 use Rattle.node_shell.specs.declared.replies.Reply.TheVariants.{Silence, Told}
 use Rattle.node_shell.specs.declared.statuses.Status.{Status}
 use Rattle.node_shell.specs.declared.statuses.Status.TheVariants as status
 use Rattle.node_shell.specs.Replies.{IsRefused}
-use Rattle.node_shell.specs.Loads.{Course, GoesOver}
-use Rattle.node_shell.specs.Serve.{Doing, asking, making, going, world_states, doing_of, recorded_in, Makes, Serves, RepliesTo, Link, Leaves, RunsShort}
+use Rattle.node_shell.specs.Loads.{Course, load, work, GoesOver}
+use Rattle.node_shell.specs.Serve.{Doing, asking, making, going, world_states, place_of, started_by, start_step, doing_of, recorded_in, Makes, Serves, RepliesTo, Link, Leaves, RunsShort}
 use Rattle.node_shell.specs.Responds.{net_states, recorded_seen, Responds, CommandResponds, LineResponds, NetLink, NetShort}
-use Rattle.node_shell.specs.Story.{Story, begins, goes_on, Answered, CutOff, LeftOff, EndsWith, ScriptRun}
-use Rattle.node_shell.specs.Together.{pair_states, Goes, LineGoes, PairLink, PairShort, InPair, ComesBy, EndComesBy, LeadsOn, ScriptsArePassages, ScriptsAreBoth}
+use Rattle.node_shell.specs.Story.{Story, begins, goes_on, Answered, CutOff, LeftOff, all_lines, EndsWith, ScriptRun}
+use Rattle.node_shell.specs.Together.{pair_states, Goes, LineGoes, PairLink, PairShort, InPair, ComesBy, EndComesBy, work_asked, work_asked_by, LeadsOn, ScriptsArePassages, LinesArePassages, ScriptsAreBoth}
 use Rattle.node_shell.proofs.Shown.{shown_answers, step_shown}
-use Rattle.node_shell.proofs.Loading.{course_goes}
+use Rattle.node_shell.proofs.Loading.{load_goes}
 use Rattle.node_shell.proofs.Loaded.{course_in, course_world}
 
 -- ---- a line, from each coherent world that the network shows
@@ -266,94 +274,192 @@ scripts_are_both m id a b left0 left1 written0 written1 count s run = record {
   nets = run_of (PairLink m id) (PairShort m id) (NetLink m) (NetShort m) (of_nets m id) (net_link m id) (net_short m id) a left0 left1 written0 written1 count b s run;
 }
 
+-- ---- how often lines have the nodes worked on
+
+asked_append : (xs ys : List (List ℕ)) → work_asked_by (xs ++ ys) ≡ work_asked_by xs + work_asked_by ys
+asked_append [] ys = refl
+asked_append (x ∷ xs) ys = let is = asked_append xs ys in omega (arith, is)
+
+-- a line more
+asked_more : (all earlier : List (List ℕ)) (line : List ℕ) → all ≡ earlier ++ line ∷ [] → work_asked_by earlier + work_asked (asked_by line) ≡ work_asked_by all
+asked_more all earlier line is =
+    let more = ap work_asked_by is in
+    let both = asked_append earlier (line ∷ []) in
+    omega (arith, more, both)
+
+-- so often does what a line does
+abbrev work_done : Doing → ℕ
+work_done asking = 0
+work_done (making s) = 0
+work_done (going (load seed count)) = 0
+work_done (going (work workers turns seed)) = 1
+
+start_done : (node : ℕ) (named : Result (ℕ × List ℕ) WordFault) → work_done (start_step node named) ≡ 0
+start_done node (Ok words) = refl
+start_done node (Err fault) = refl
+
+done_is : {F : Type 0} (m : Machine F) (recorded : ℕ → List (Hash32 × SignedTx)) (asked : Command) (words : List (List ℕ)) → work_done (doing_of m recorded asked words) ≡ work_asked asked
+done_is m recorded (command.Clock to) words = refl
+done_is m recorded (command.Start node) words = start_done (place_of node) (started_by m (recorded (place_of node)) words)
+done_is m recorded (command.Turn node pick) words = refl
+done_is m recorded (command.Post node) words = refl
+done_is m recorded (command.Deliver node at) words = refl
+done_is m recorded (command.Repeat node at) words = refl
+done_is m recorded (command.Lose node at) words = refl
+done_is m recorded (command.Cut node calls kind) words = refl
+done_is m recorded (command.Boot node) words = refl
+done_is m recorded command.Drain words = refl
+done_is m recorded (command.Flows node) words = refl
+done_is m recorded (command.Flow node flow) words = refl
+done_is m recorded (command.Vault node) words = refl
+done_is m recorded (command.Balance node) words = refl
+done_is m recorded command.Book words = refl
+done_is m recorded (command.TxLine node name) words = refl
+done_is m recorded command.History words = refl
+done_is m recorded (command.Load seed count) words = refl
+done_is m recorded (command.Workers workers turns seed) words = refl
+done_is m recorded command.Quit words = refl
+done_is m recorded command.Unknown words = refl
+
 -- ---- the passage
 
+-- a passage on which the nodes were worked on this many times at most
+record Few {F : Type 0} (m : Meaning F) (id : Identity) (most : ℕ) (a b : Pair (environment m id)) : Type 0 where
+  pub passage : Passage m id a b
+  pub few : times_worked passage ≤ most
+
 -- from what it begins with to an end, by way of what it comes by
-record Passages {F : Type 0} (m : Meaning F) (id : Identity) (a b : Pair (environment m id)) (passes : Pair (environment m id) → Type 0) : Type 0 where
-  pub whole : Passage m id a b
-  pub to : (u : Pair (environment m id)) → passes u → Passage m id a u
-  pub on : (u : Pair (environment m id)) → passes u → Passage m id u b
+record Passages {F : Type 0} (m : Meaning F) (id : Identity) (most : ℕ) (a b : Pair (environment m id)) (passes : Pair (environment m id) → Type 0) : Type 0 where
+  pub whole : Few m id most a b
+  pub to : (u : Pair (environment m id)) → passes u → Few m id most a u
+  pub on : (u : Pair (environment m id)) → passes u → Few m id most u b
 
 module _ {F : Type 0} (m : Meaning F) (id : Identity) where
   abbrev shown : Type 0
   shown = Pair (environment m id)
 
-  nothing : (a b : shown) → b ≡ a → Passage m id a b
-  nothing a b is = goes (stay is)
+  by_way : (most : ℕ) (a b : shown) → Way m id a b → Few m id most a b
+  by_way most a b way = record { passage = goes way; few = omega arith }
 
-  follow_on : (a b c : shown) → Passage m id a b → Passage m id b c → Passage m id a c
-  follow_on a b c one two = passage_then m id a b c one two
+  nothing : (most : ℕ) (a b : shown) → b ≡ a → Few m id most a b
+  nothing most a b is = by_way most a b (stay is)
 
-  goes_passage : (d : Doing) (reply : Option Reply) (a b : shown) → Goes m id d reply a b → Passage m id a b
-  goes_passage (making s) (Some reply) a b (o, serves, told) = goes ((calls_are_ways m id a b).apply s (Some o) serves)
-  goes_passage (making s) None a b (inl is) = nothing a b is
-  goes_passage (making s) None a b (inr serves) = goes ((calls_are_ways m id a b).apply s None serves)
-  goes_passage (going c) reply a b h =
-      course_goes (pair_states m id) (Passage m id) nothing follow_on (λ steps outcomes all x y follows. goes ((calls_are_ways m id x y).apply_all steps outcomes all follows))
-      (λ commits x y worked. works commits (nothing x x refl) (record { works = worked.0.works; world = worked.1 }) (stay refl)) m.machine c reply a b h
-  goes_passage asking reply a b is = nothing a b is
+  follow_on : (i j : ℕ) (a b c : shown) → Few m id i a b → Few m id j b c → Few m id (i + j) a c
+  follow_on i j a b c one two =
+      let is = times_then m id a b c one.passage two.passage in
+      let first = one.few in
+      let second = two.few in
+      record { passage = passage_then m id a b c one.passage two.passage; few = omega (arith, is, first, second) }
 
-  link_passage : (a : shown) (line text : List ℕ) (b : shown) → PairLink m id a line text b → Passage m id a b
-  link_passage a line text b l = goes_passage (doing_of m.machine (recorded_seen m.frame_at a.net) (asked_by line) (words_of line)) (Some l.net.reply) a b l.goes
+  more_often : (i j : ℕ) → i ≤ j → (a b : shown) → Few m id i a b → Few m id j a b
+  more_often i j less a b one = let few = one.few in record { passage = one.passage; few = omega (arith, less, few) }
 
-  short_passage : (a : shown) (line : List ℕ) (b : shown) → PairShort m id a line b → Passage m id a b
-  short_passage a line b (inl l) = goes_passage (doing_of m.machine (recorded_seen m.frame_at a.net) (asked_by line) (words_of line)) None a b l.goes
+  follows_way : (steps : List Step) (outcomes : List Outcome) (all : Bool) (a b : shown) → PairFollows m id steps outcomes all a b → Way m id a b
+  follows_way steps outcomes all a b follows = (calls_are_ways m id a b).apply_all steps outcomes all follows
+
+  goes_passage : (d : Doing) (reply : Option Reply) (a b : shown) → Goes m id d reply a b → Few m id (work_done d) a b
+  goes_passage (making s) (Some reply) a b (o, serves, told) = by_way 0 a b ((calls_are_ways m id a b).apply s (Some o) serves)
+  goes_passage (making s) None a b (inl is) = nothing 0 a b is
+  goes_passage (making s) None a b (inr serves) = by_way 0 a b ((calls_are_ways m id a b).apply s None serves)
+  goes_passage (going (load seed count)) reply a b h =
+      by_way 0 a b (load_goes (pair_states m id) (Way m id) (λ x y is. stay is) (way_then m id) follows_way m.machine seed count reply a b h)
+  goes_passage (going (work workers turns seed)) (Some reply) a b (inl refused) = nothing 1 a b refused.2
+  goes_passage (going (work workers turns seed)) (Some reply) a b (inr (up, (commits, worked, told))) =
+      record { passage = works commits (goes (stay refl)) (record { works = worked.0.works; world = worked.1 }) (stay refl); few = omega arith }
+  goes_passage (going (work workers turns seed)) None a b is = nothing 1 a b is
+  goes_passage asking reply a b is = nothing 0 a b is
+
+  line_passage : (line : List ℕ) (reply : Option Reply) (a b : shown) → LineGoes m id line reply a b → Few m id (work_asked (asked_by line)) a b
+  line_passage line reply a b h =
+      let recorded = recorded_seen m.frame_at a.net in
+      subst (λ (k : ℕ). Few m id k a b) (done_is m.machine recorded (asked_by line) (words_of line)) (goes_passage (doing_of m.machine recorded (asked_by line) (words_of line)) reply a b h)
+
+  link_passage : (a : shown) (line text : List ℕ) (b : shown) → PairLink m id a line text b → Few m id (work_asked (asked_by line)) a b
+  link_passage a line text b l = line_passage line (Some l.net.reply) a b l.goes
+
+  short_passage : (a : shown) (line : List ℕ) (b : shown) → PairShort m id a line b → Few m id (work_asked (asked_by line)) a b
+  short_passage a line b (inl l) = line_passage line None a b l.goes
   short_passage a line b (inr (text, l)) = link_passage a line text b l
 
-  pub leads_on : (a b : shown) → Passage m id a b → LeadsOn m id a b
-  leads_on a b passage = record { passage = passage; kept = kept_on_passages m id a b passage; acknowledged = acknowledged_on_passages m id a b passage }
+  pub leads_on : (most : ℕ) (a b : shown) → Few m id most a b → LeadsOn m id most a b
+  leads_on most a b one = record { passage = one.passage; few = one.few; kept = kept_on_passages m id a b one.passage; acknowledged = acknowledged_on_passages m id a b one.passage }
 
-  story_passage : (a : shown) (lines : List (List ℕ)) (out : List ℕ) (b : shown) → Story (PairLink m id) a lines out b → Passage m id a b
-  story_passage a lines out b begins = nothing a a refl
-  story_passage a lines out b (goes_on {lines = earlier} {out = said} {before = c} line text before none l all longer) = follow_on a c b (story_passage a earlier said c before) (link_passage c line text b l)
+  -- a line more
+  one_more : (all earlier : List (List ℕ)) (line : List ℕ) → all ≡ earlier ++ line ∷ [] → (a c b : shown) → Few m id (work_asked_by earlier) a c → Few m id (work_asked (asked_by line)) c b → Few m id (work_asked_by all) a b
+  one_more all earlier line is a c b before last =
+      subst (λ (k : ℕ). Few m id k a b) (asked_more all earlier line is) (follow_on (work_asked_by earlier) (work_asked (asked_by line)) a c b before last)
 
-  story_to : (a : shown) (lines : List (List ℕ)) (out : List ℕ) (b : shown) (story : Story (PairLink m id) a lines out b) (u : shown) → ComesBy story u → Passage m id a u
-  story_to a lines out b begins u is = nothing a u is
-  story_to a lines out b (goes_on {lines = earlier} {out = said} {before = c} line text before none l all longer) u (inl earlier_on) = story_to a earlier said c before u earlier_on
+  story_passage : (a : shown) (lines : List (List ℕ)) (out : List ℕ) (b : shown) → Story (PairLink m id) a lines out b → Few m id (work_asked_by lines) a b
+  story_passage a lines out b begins = nothing 0 a a refl
+  story_passage a lines out b (goes_on {lines = earlier} {out = said} {before = c} line text before none l all longer) =
+      one_more lines earlier line all a c b (story_passage a earlier said c before) (link_passage c line text b l)
+
+  story_to : (a : shown) (lines : List (List ℕ)) (out : List ℕ) (b : shown) (story : Story (PairLink m id) a lines out b) (u : shown) → ComesBy story u → Few m id (work_asked_by lines) a u
+  story_to a lines out b begins u is = nothing 0 a u is
+  story_to a lines out b (goes_on {lines = earlier} {out = said} {before = c} line text before none l all longer) u (inl earlier_on) =
+      let is = asked_more lines earlier line all in
+      more_often (work_asked_by earlier) (work_asked_by lines) (omega (arith, is)) a u (story_to a earlier said c before u earlier_on)
   story_to a lines out b (goes_on {lines = earlier} {out = said} {before = c} line text before none l all longer) u (inr is) =
-      subst (Passage m id a) (sym is) (follow_on a c b (story_passage a earlier said c before) (link_passage c line text b l))
+      subst (Few m id (work_asked_by lines) a) (sym is) (one_more lines earlier line all a c b (story_passage a earlier said c before) (link_passage c line text b l))
 
-  story_on : (a : shown) (lines : List (List ℕ)) (out : List ℕ) (b : shown) (story : Story (PairLink m id) a lines out b) (u : shown) → ComesBy story u → Passage m id u b
-  story_on a lines out b begins u is = nothing u _ (sym is)
-  story_on a lines out b (goes_on {lines = earlier} {out = said} {before = c} line text before none l all longer) u (inl earlier_on) = follow_on u c b (story_on a earlier said c before u earlier_on) (link_passage c line text b l)
-  story_on a lines out b (goes_on {lines = earlier} {out = said} {before = c} line text before none l all longer) u (inr is) = nothing u _ (sym is)
+  story_on : (a : shown) (lines : List (List ℕ)) (out : List ℕ) (b : shown) (story : Story (PairLink m id) a lines out b) (u : shown) → ComesBy story u → Few m id (work_asked_by lines) u b
+  story_on a lines out b begins u is = nothing 0 u _ (sym is)
+  story_on a lines out b (goes_on {lines = earlier} {out = said} {before = c} line text before none l all longer) u (inl earlier_on) =
+      one_more lines earlier line all u c b (story_on a earlier said c before u earlier_on) (link_passage c line text b l)
+  story_on a lines out b (goes_on {lines = earlier} {out = said} {before = c} line text before none l all longer) u (inr is) = nothing (work_asked_by lines) u _ (sym is)
 
-  story_passages : (a : shown) (lines : List (List ℕ)) (out : List ℕ) (b : shown) (story : Story (PairLink m id) a lines out b) → Passages m id a b (ComesBy story)
+  story_passages : (a : shown) (lines : List (List ℕ)) (out : List ℕ) (b : shown) (story : Story (PairLink m id) a lines out b) → Passages m id (work_asked_by lines) a b (ComesBy story)
   story_passages a lines out b story = record { whole = story_passage a lines out b story; to = story_to a lines out b story; on = story_on a lines out b story }
 
   -- a last line more
-  last_passages : (a b c : shown) (passes : shown → Type 0) → Passages m id a b passes → Passage m id b c → Passages m id a c (λ u. passes u ⊎ (u ≡ c))
-  last_passages a b c passes all last = record {
-    whole = follow_on a b c all.whole last;
+  last_passages : (all earlier : List (List ℕ)) (line : List ℕ) → all ≡ earlier ++ line ∷ [] → (a b c : shown) (passes : shown → Type 0) → Passages m id (work_asked_by earlier) a b passes → Few m id (work_asked (asked_by line)) b c
+      → Passages m id (work_asked_by all) a c (λ u. passes u ⊎ (u ≡ c))
+  last_passages all earlier line all_is a b c passes story last = record {
+    whole = one_more all earlier line all_is a b c story.whole last;
     to = λ u h. to_last u h;
     on = λ u h. on_last u h;
   }
     where
-      to_last : (u : shown) → passes u ⊎ (u ≡ c) → Passage m id a u
-      to_last u (inl h) = all.to u h
-      to_last u (inr is) = subst (Passage m id a) (sym is) (follow_on a b c all.whole last)
+      to_last : (u : shown) → passes u ⊎ (u ≡ c) → Few m id (work_asked_by all) a u
+      to_last u (inl h) = let is = asked_more all earlier line all_is in more_often (work_asked_by earlier) (work_asked_by all) (omega (arith, is)) a u (story.to u h)
+      to_last u (inr is) = subst (Few m id (work_asked_by all) a) (sym is) (one_more all earlier line all_is a b c story.whole last)
 
-      on_last : (u : shown) → passes u ⊎ (u ≡ c) → Passage m id u c
-      on_last u (inl h) = follow_on u b c (all.on u h) last
-      on_last u (inr is) = nothing u _ (sym is)
+      on_last : (u : shown) → passes u ⊎ (u ≡ c) → Few m id (work_asked_by all) u c
+      on_last u (inl h) = one_more all earlier line all_is u b c (story.on u h) last
+      on_last u (inr is) = nothing (work_asked_by all) u _ (sym is)
+
+  -- where only the whole lines were answered
+  widened : (lines : List (List ℕ)) (rest : List ℕ) (a b : shown) (passes : shown → Type 0) → Passages m id (work_asked_by (whole_lines lines)) a b passes → Passages m id (work_asked_by (all_lines lines rest)) a b passes
+  widened lines rest a b passes story =
+      let is = asked_append (whole_lines lines) (last_line rest) in
+      let wider : work_asked_by (whole_lines lines) ≤ work_asked_by (all_lines lines rest) = omega (arith, is) in
+      let more = more_often (work_asked_by (whole_lines lines)) (work_asked_by (all_lines lines rest)) wider in
+      record { whole = more a b story.whole; to = λ u h. more a u (story.to u h); on = λ u h. more u b (story.on u h) }
 
   module _ (a b : shown) (left written0 written1 : Option (List ℕ)) (count : ℕ) (lines : List (List ℕ)) (rest : List ℕ) where
-    ends_passages : (s : Status) (h : EndsWith (PairLink m id) (PairShort m id) a left written0 written1 count lines rest b s) → Passages m id a b (EndComesBy (PairLink m id) (PairShort m id) a left written0 written1 count lines rest b s h)
+    ends_passages : (s : Status) (h : EndsWith (PairLink m id) (PairShort m id) a left written0 written1 count lines rest b s)
+        → Passages m id (work_asked_by (all_lines lines rest)) a b (EndComesBy (PairLink m id) (PairShort m id) a left written0 written1 count lines rest b s h)
     ends_passages status.Finished h = story_passages a _ h.1.out b h.1.story
     ends_passages status.BadWords h = absurd h
-    ends_passages status.TooLong h = story_passages a _ h.2.out b h.2.story
-    ends_passages status.ReadFault h = story_passages a _ h.1.out b h.1.story
-    ends_passages status.WriteFault h = last_passages a h.0.before b (ComesBy h.0.story) (story_passages a h.0.earlier h.0.out h.0.before h.0.story) (link_passage h.0.before h.0.line _ b h.0.linked)
+    ends_passages status.TooLong h = widened lines rest a b (ComesBy h.2.story) (story_passages a _ h.2.out b h.2.story)
+    ends_passages status.ReadFault h = widened lines rest a b (ComesBy h.1.story) (story_passages a _ h.1.out b h.1.story)
+    ends_passages status.WriteFault h =
+        last_passages (all_lines lines rest) h.0.earlier h.0.line h.0.all a h.0.before b (ComesBy h.0.story) (story_passages a h.0.earlier h.0.out h.0.before h.0.story) (link_passage h.0.before h.0.line _ b h.0.linked)
     ends_passages status.DiskFault h = absurd h
-    ends_passages status.NoMemory (inl h) = last_passages a h.0.before b (ComesBy h.0.story) (story_passages a h.0.earlier h.0.out h.0.before h.0.story) (short_passage h.0.before h.0.line b h.0.ran_short)
-    ends_passages status.NoMemory (inr h) = story_passages a _ h.2.out b h.2.story
+    ends_passages status.NoMemory (inl h) =
+        last_passages (all_lines lines rest) h.0.earlier h.0.line h.0.all a h.0.before b (ComesBy h.0.story) (story_passages a h.0.earlier h.0.out h.0.before h.0.story) (short_passage h.0.before h.0.line b h.0.ran_short)
+    ends_passages status.NoMemory (inr h) = widened lines rest a b (ComesBy h.2.story) (story_passages a _ h.2.out b h.2.story)
     ends_passages status.BadJournal h = absurd h
 
 pub scripts_are_passages : {F : Type 0} → ScriptsArePassages F
 scripts_are_passages m id a b left0 left1 written0 written1 count s run =
+    let most = work_asked_by (all_lines run.lines run.rest) in
     let all = ends_passages m id a b left1 written0 written1 count run.lines run.rest s run.ends in
     record {
-      whole = leads_on m id a b all.whole;
-      to = λ u h. leads_on m id a u (all.to u h);
-      on = λ u h. leads_on m id u b (all.on u h);
+      whole = leads_on m id most a b all.whole;
+      to = λ u h. leads_on m id most a u (all.to u h);
+      on = λ u h. leads_on m id most u b (all.on u h);
     }
+
+pub lines_are_passages : {F : Type 0} → LinesArePassages F
+lines_are_passages m id a b line short = leads_on m id (work_asked (asked_by line)) a b (short_passage m id a line b short)

@@ -1,6 +1,6 @@
 -- Stories of networks together with the worlds that they show, and what a whole script comes by.
 use Rattle.std.proofs.Common.{inl, inr}
-use Rattle.std.specs.Prelude.{◌≡◌, ◌⊎◌, ℕ, List, map, Option, Some, None, false}
+use Rattle.std.specs.Prelude.{◌≡◌, ◌⊎◌, ℕ, ◌+◌, ◌≤◌, List, [], ◌∷◌, map, Option, Some, None, false}
 use Rattle.disk_journal.specs.Journal.{journal_of}
 use Rattle.net_base.specs.declared.causes.Cause.{Cause}
 use Rattle.net_base.specs.declared.names.Identity.{Identity}
@@ -15,8 +15,10 @@ use Rattle.network_core.specs.Moments.{Instant, IsChoice, IsKept}
 use Rattle.network_core.specs.Served.{PairServes, PairFollows}
 use Rattle.network_core.specs.Worlds.{World, NetSeen, Shows, Coherent}
 use Rattle.work_law.specs.Works.{WorldWorks}
-use Rattle.work_law.specs.Passages.{Passage, IsPassed}
+use Rattle.work_law.specs.Passages.{Passage, times_worked, IsPassed}
 use Rattle.flow_workers.specs.Ends.{WorkedOn, KeepsTails}
+use Rattle.shell_words.specs.declared.commands.Command.{Command}
+use Rattle.shell_words.specs.declared.commands.Command.TheVariants as command
 use Rattle.shell_words.specs.Script.{words_of, asked_by}
 use Rattle.node_shell.specs.declared.replies.Reply.{Reply}
 use Rattle.node_shell.specs.declared.replies.Reply.TheVariants.{Told}
@@ -25,7 +27,7 @@ use Rattle.node_shell.specs.declared.statuses.Status.TheVariants as status
 use Rattle.node_shell.specs.Loads.{CourseStates, GoesOver}
 use Rattle.node_shell.specs.Serve.{Doing, asking, making, going, doing_of, recorded_in, waiting_in, RepliesTo, Leaves, Link, RunsShort}
 use Rattle.node_shell.specs.Responds.{net_states, recorded_seen, NetLink, NetLeft, NetShort}
-use Rattle.node_shell.specs.Story.{Story, begins, goes_on, EndsWith, ScriptRun}
+use Rattle.node_shell.specs.Story.{Story, begins, goes_on, all_lines, EndsWith, ScriptRun}
 
 -- ---- a line
 
@@ -108,25 +110,41 @@ EndComesBy link short start left written0 written1 count lines rest last status.
 
 -- ---- laws
 
--- from a network with its world there is a passage to another one, and at every moment on its ways, whichever images power cuts leave of the disks, all is kept,
--- and what was acknowledged as it began stands once in the merged journals
-pub record LeadsOn {F : Type 0} (m : Meaning F) (id : Identity) (a b : Pair (environment m id)) : Type 0 where
+-- how many times a command has the nodes worked on side by side: once by `workers`, else never
+abbrev pub work_asked : Command → ℕ
+work_asked (command.Workers workers turns seed) = 1
+work_asked _ = 0
+
+-- so all these lines together
+abbrev pub work_asked_by : List (List ℕ) → ℕ
+work_asked_by [] = 0
+work_asked_by (line ∷ lines) = work_asked (asked_by line) + work_asked_by lines
+
+-- From a network with its world there is a passage to another one, on which the nodes were worked on side by side this many times at most. At every moment on
+-- its ways, whichever images power cuts leave of the disks, all is kept, and what was acknowledged as it began stands once in the merged journals.
+pub record LeadsOn {F : Type 0} (m : Meaning F) (id : Identity) (most : ℕ) (a b : Pair (environment m id)) : Type 0 where
   pub passage : Passage m id a b
+  pub few : times_worked passage ≤ most
   pub kept : (s : Instant) → IsPassed passage s → IsKept (environment m id) a.net s
   pub acknowledged : (s : Instant) → IsPassed passage s → (images : List (List ℕ)) → IsChoice s images → (p : ℕ) (cause : Cause)
       → Acknowledged (environment m id) a.world p cause → StandsOnce (p, cause) (merged (map (causes_of m.frame_at) (map journal_of images)))
 
 -- a passage leads through the whole script, and one to and one on from all that it comes by
-pub record IsOnePassage {F : Type 0} (m : Meaning F) (id : Identity) (a b : Pair (environment m id))
+pub record IsOnePassage {F : Type 0} (m : Meaning F) (id : Identity) (most : ℕ) (a b : Pair (environment m id))
     (passes : Pair (environment m id) → Type 0) : Type 0 where
-  pub whole : LeadsOn m id a b
-  pub to : (u : Pair (environment m id)) → passes u → LeadsOn m id a u
-  pub on : (u : Pair (environment m id)) → passes u → LeadsOn m id u b
+  pub whole : LeadsOn m id most a b
+  pub to : (u : Pair (environment m id)) → passes u → LeadsOn m id most a u
+  pub on : (u : Pair (environment m id)) → passes u → LeadsOn m id most u b
 
--- so of each script
+-- so of each script: the nodes are worked on side by side as often as its lines ask for it, at most
 abbrev pub ScriptsArePassages : (F : Type 0) → Type 0
 ScriptsArePassages F = (m : Meaning F) (id : Identity) (a b : Pair (environment m id)) (left0 left1 written0 written1 : Option (List ℕ)) (count : ℕ) (s : Status)
-    (run : ScriptRun (PairLink m id) (PairShort m id) a left0 left1 written0 written1 count b s) → IsOnePassage m id a b (EndComesBy (PairLink m id) (PairShort m id) a left1 written0 written1 count run.lines run.rest b s run.ends)
+    (run : ScriptRun (PairLink m id) (PairShort m id) a left0 left1 written0 written1 count b s)
+    → IsOnePassage m id (work_asked_by (all_lines run.lines run.rest)) a b (EndComesBy (PairLink m id) (PairShort m id) a left1 written0 written1 count run.lines run.rest b s run.ends)
+
+-- so of each line, whether it was answered or not: it is a way, unless it asks for work side by side
+abbrev pub LinesArePassages : (F : Type 0) → Type 0
+LinesArePassages F = (m : Meaning F) (id : Identity) (a b : Pair (environment m id)) (line : List ℕ) → PairShort m id a line b → LeadsOn m id (work_asked (asked_by line)) a b
 
 -- what a script makes of networks together with worlds, it makes of the worlds alone and of the networks alone
 pub record IsBoth {F : Type 0} (m : Meaning F) (id : Identity) (a b : Pair (environment m id))

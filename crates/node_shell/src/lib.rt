@@ -16,5 +16,5 @@ mod streams;
 mod top;
 mod working;
 
-pub use laws::{scripts_are_both, scripts_are_passages};
+pub use laws::{lines_are_passages, scripts_are_both, scripts_are_passages};
 pub use top::{Ended, run};

@@ -29,6 +29,7 @@ in_scripts m fact worlds ways n a b left0 left1 written0 written1 count s run is
     let one = scripts_are_passages m (known_as n) a b left0 left1 written0 written1 count s run in
     record {
       passage = one.whole.passage;
+      few = one.whole.few;
       moments = λ t images on choice. on_passages m fact ways (known_as n) (is_identity n is) a b one.whole.passage t images on choice;
       worlds = λ u lists passes choice. worlds (known_as n) u.world lists (is_identity n is) u.coherent choice;
     }

@@ -1,5 +1,5 @@
 -- What leads on where nodes are worked on side by side in between: coherent worlds, and what power cuts may leave at each moment.
-use Rattle.std.proofs.Common.{◌≡◌, inl, inr, ℕ, suc, List, [], ◌∷◌, ◌++◌, length, slice_get, Option, Some, None, refl, sym, ◌∙◌, ap, subst, arith, append-nil, append_assoc}
+use Rattle.std.proofs.Common.{◌≡◌, inl, inr, ℕ, suc, ◌+◌, List, [], ◌∷◌, ◌++◌, length, slice_get, Option, Some, None, refl, sym, ◌∙◌, ap, subst, arith, append-nil, append_assoc}
 use Rattle.std.proofs.lemmas.List.{length-map}
 use Rattle.outside.specs.Disk.{Durable, IsImage}
 use Rattle.outside.proofs.Moments.{at_now}
@@ -28,7 +28,7 @@ use Rattle.network_core.proofs.Naming.{name_of, names_of}
 use Rattle.network_core.proofs.Reaching.{Leads, reaches_leads}
 use Rattle.network_core.proofs.Standing.{Later, only_journal, causes_append, stands_later}
 use Rattle.work_law.specs.Lasting.{HoldsJournal, Lasts}
-use Rattle.work_law.specs.Passages.{Attains, by_steps, by_work, AttainedAreCoherent, AcknowledgedIsKept, PairWorks, Passage, goes, works, IsPassed, KeptOnPassages, AcknowledgedOnPassages}
+use Rattle.work_law.specs.Passages.{Attains, by_steps, by_work, AttainedAreCoherent, AcknowledgedIsKept, PairWorks, Passage, goes, works, times_worked, UnworkedAreWays, IsPassed, KeptOnPassages, AcknowledgedOnPassages}
 use Rattle.work_law.specs.Works.{Works, WorldWorks}
 use Rattle.work_law.proofs.Lasting.{histories_last}
 
@@ -177,6 +177,20 @@ module _ {F : Type 0} (m : Meaning F) (id : Identity) where
   passage_then a b c one (goes way) = passage_on a b c one way
   passage_then a b c one (works {b = d} commits before work way) = works commits (passage_then a b d one before) work way
 
+  -- ---- how many times the nodes were worked on
+
+  times_on : (a b c : Pair e) (one : Passage m id a b) (way : Way m id b c) → times_worked (passage_on a b c one way) ≡ times_worked one
+  times_on a b c (goes one) way = refl
+  times_on a b c (works commits before work one) way = refl
+
+  pub times_then : (a b c : Pair e) (one : Passage m id a b) (two : Passage m id b c) → times_worked (passage_then a b c one two) ≡ times_worked one + times_worked two
+  times_then a b c one (goes way) = let is = times_on a b c one way in omega (arith, is)
+  times_then a b c one (works {b = d} commits before work way) = let is = times_then a b d one before in omega (arith, is)
+
+  none_worked : (a b : Pair e) (passage : Passage m id a b) → times_worked passage ≡ 0 → (way : Way m id a b) × (passage ≡ goes way)
+  none_worked a b (goes way) is = (way, refl)
+  none_worked a d (works commits before work way) is = absurd (omega (arith, is))
+
   -- ---- moments
 
   -- the last moment of a way is on it
@@ -256,6 +270,9 @@ module _ {F : Type 0} (m : Meaning F) (id : Identity) where
       then_kept a c s over (kept_on_ways m id c d way s on)
 
 -- ---- the laws
+
+pub unworked_are_ways : {F : Type 0} → UnworkedAreWays F
+unworked_are_ways m id a b passage is = none_worked m id a b passage is
 
 pub kept_on_passages : {F : Type 0} → KeptOnPassages F
 kept_on_passages m id a b passage s on = kept m id a b passage s on

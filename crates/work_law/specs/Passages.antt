@@ -1,5 +1,5 @@
 -- What leads from a network with its world to another one where nodes are worked on side by side in between.
-use Rattle.std.specs.Prelude.{◌⊎◌, ℕ, List, map}
+use Rattle.std.specs.Prelude.{◌≡◌, ◌⊎◌, ℕ, suc, List, map}
 use Rattle.disk_journal.specs.Journal.{journal_of}
 use Rattle.net_base.specs.declared.causes.Cause.{Cause}
 use Rattle.net_base.specs.declared.names.Identity.{Identity}
@@ -40,6 +40,15 @@ pub record PairWorks {F : Type 0} (m : Meaning F) (id : Identity) (commits : ℕ
 pub data Passage {F : Type 0} (m : Meaning F) (id : Identity) : Pair (environment m id) → Pair (environment m id) → Type 0 where
   goes : {a b : Pair (environment m id)} → Way m id a b → Passage m id a b
   works : {a b c d : Pair (environment m id)} (commits : ℕ) → Passage m id a b → PairWorks m id commits b c → Way m id c d → Passage m id a d
+
+-- how many times the nodes were worked on side by side
+abbrev pub times_worked : {F : Type 0} {m : Meaning F} {id : Identity} {a b : Pair (environment m id)} → Passage m id a b → ℕ
+times_worked (goes way) = 0
+times_worked (works commits before work way) = suc (times_worked before)
+
+-- without such work a passage is a way
+abbrev pub UnworkedAreWays : (F : Type 0) → Type 0
+UnworkedAreWays F = (m : Meaning F) (id : Identity) (a b : Pair (environment m id)) (passage : Passage m id a b) → times_worked passage ≡ 0 → (way : Way m id a b) × (passage ≡ goes way)
 
 -- what the disks could leave at a moment on one of these ways. Of a moment within the work nothing is said here, since there each disk goes on by itself:
 -- what each of them alone could leave then is a law of its node (`Lasts`)

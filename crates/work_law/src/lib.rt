@@ -6,7 +6,7 @@
 #![tactic(auto)]
 
 ghost use Rattle.work_law.specs.Lasting.{HistoriesLast};
-ghost use Rattle.work_law.specs.Passages.{AcknowledgedIsKept, AcknowledgedOnPassages, AttainedAreCoherent, KeptOnPassages};
+ghost use Rattle.work_law.specs.Passages.{AcknowledgedIsKept, AcknowledgedOnPassages, AttainedAreCoherent, KeptOnPassages, UnworkedAreWays};
 ghost use Rattle.work_law.specs.Works.{WorksCoherently};
 
 /// The law that from a coherent world which the nodes showed they go, by whatever they did side by side, to a coherent world which they
@@ -36,6 +36,11 @@ pub fn attained_are_coherent<F>()
 /// there twice.
 pub fn acknowledged_is_kept<F>()
     ensures { AcknowledgedIsKept F }
+{}
+
+/// The law that a passage on which the nodes were never worked on side by side is a way.
+pub fn unworked_are_ways<F>()
+    ensures { UnworkedAreWays F }
 {}
 
 /// The law of every moment on ways one after another, with work side by side between one and the next, whichever image power cuts leave of
