@@ -9,7 +9,7 @@ use Rattle.node_tables.specs.Journals.{state_of}
 use Rattle.node_core.specs.declared.faults.BootFault.{BootFault}
 use Rattle.network_core.specs.declared.steps.Outcome.{Outcome}
 use Rattle.network_core.specs.Worlds.{NodeWorld, World, Coherent}
-use Rattle.network_core.specs.Serves.{WorldPlace, WorldStarts, WorldTurns, WorldCuts, WorldBoots, WorldPosts, WorldHands, LosesAt, WorldClock, waits_on}
+use Rattle.network_core.specs.WorldSteps.{WorldPlace, WorldStarts, WorldTurns, WorldCuts, WorldBoots, WorldPosts, WorldHands, LosesAt, WorldClock, waits_on}
 use Rattle.network_core.specs.Drains.{world_steps}
 use Rattle.network_core.specs.Rounds.{DoesAt}
 use Rattle.network_core.specs.Begins.{Begun, StayDown}

@@ -20,7 +20,7 @@ use Rattle.node_tables.specs.Journals.{state_of}
 use Rattle.network_core.specs.declared.steps.Outcome.{Outcome}
 use Rattle.network_core.specs.declared.steps.Outcome.TheVariants as outcome
 use Rattle.network_core.specs.Worlds.{NodeWorld, World, MaySpell, Choice, states_of, WaitsAt, Coherent}
-use Rattle.network_core.specs.Serves.{with_frame, sent_to, sent_once, sent_all, PostsFrom}
+use Rattle.network_core.specs.WorldSteps.{with_frame, sent_to, sent_once, sent_all, PostsFrom}
 use Rattle.network_core.proofs.AgreeingLists.{all_map}
 use Rattle.network_core.proofs.AgreeingKeys.{sound_keys, found_by_key}
 use Rattle.network_core.proofs.AgreeingOnce.{goes_coherent}

@@ -19,7 +19,7 @@ use Rattle.node_core.specs.Seen.{Pends}
 use Rattle.network_core.specs.declared.steps.Outcome.{Outcome}
 use Rattle.network_core.specs.declared.steps.Outcome.TheVariants as outcome
 use Rattle.network_core.specs.Worlds.{NodeWorld, World, MaySpell, Choice, states_of, came_at, WaitsAt, AreArrived, Coherent}
-use Rattle.network_core.specs.Serves.{WorldCommits, WorldFaults, WorldPlace, WorldStarts, WorldTurns, WorldCuts, StaysDown, ComesUp, WorldBoots, LosesAt, without}
+use Rattle.network_core.specs.WorldSteps.{WorldCommits, WorldFaults, WorldPlace, WorldStarts, WorldTurns, WorldCuts, StaysDown, ComesUp, WorldBoots, LosesAt, without}
 use Rattle.network_core.proofs.AgreeingNets.{keeps_sessions}
 use Rattle.network_core.proofs.AgreeingPlace.{Adds, state_after}
 use Rattle.network_core.proofs.AgreeingOnce.{goes_coherent}

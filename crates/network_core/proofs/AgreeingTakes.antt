@@ -18,7 +18,7 @@ use Rattle.node_core.specs.Takes.{accepting, ack_to}
 use Rattle.network_core.specs.declared.steps.Outcome.{Outcome}
 use Rattle.network_core.specs.declared.steps.Outcome.TheVariants as outcome
 use Rattle.network_core.specs.Worlds.{NodeWorld, World, Coherent}
-use Rattle.network_core.specs.Serves.{HearsNext, Hears, WorldTakes, sent_all, without, handed_over}
+use Rattle.network_core.specs.WorldSteps.{HearsNext, Hears, WorldTakes, sent_all, without, handed_over}
 use Rattle.network_core.proofs.AgreeingLists.{set_twice}
 use Rattle.network_core.proofs.AgreeingSteps.{commits_coherent, faults_coherent, stays_coherent, same_coherent, all_without}
 use Rattle.network_core.proofs.AgreeingSends.{sends_coherent}

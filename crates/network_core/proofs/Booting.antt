@@ -25,7 +25,7 @@ use Rattle.network_core.specs.declared.steps.Outcome.TheVariants as outcome
 use Rattle.network_core.specs.Worlds.{NodeWorld, World, NetSeen, MaySpell, ShowsJournal, NodeShows, NodeCoherent, Shows, Coherent, KeepsWorld}
 use Rattle.network_core.specs.Answers.{said, boot_outcome, Restored, BootServes, BootClock, AtPlace, booted_at, journal_at, last_moment}
 use Rattle.network_core.specs.Begins.{IsLast}
-use Rattle.network_core.specs.Serves.{WorldPlace, WorldBoots, StaysDown}
+use Rattle.network_core.specs.WorldSteps.{WorldPlace, WorldBoots, StaysDown}
 use Rattle.network_core.proofs.Agreeing.{boot_coherent}
 use Rattle.network_core.proofs.Stands.{Goes, AreYoung, shows_down, images_now, young_now}
 use Rattle.network_core.proofs.Fitting.{local_fits}

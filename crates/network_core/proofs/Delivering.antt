@@ -18,7 +18,7 @@ use Rattle.network_core.specs.declared.steps.Outcome.{Outcome}
 use Rattle.network_core.specs.declared.steps.Outcome.TheVariants as outcome
 use Rattle.network_core.specs.Worlds.{NodeWorld, World, NetSeen, ShowsJournal, NodeShows, Shows, Coherent, KeepsWorld}
 use Rattle.network_core.specs.Answers.{said, take_sent, mailed, count_fresh, parted, Posting, PostServes, Handed, Handing, HandServes, TakeServes, reached, replied}
-use Rattle.network_core.specs.Serves.{WorldPosts, PostsFrom, WorldTakes, WorldHands, handed_over, waits_on, without, sent_all, count_new}
+use Rattle.network_core.specs.WorldSteps.{WorldPosts, PostsFrom, WorldTakes, WorldHands, handed_over, waits_on, without, sent_all, count_new}
 use Rattle.network_core.proofs.Agreeing.{post_coherent, hand_coherent, never_garbled}
 use Rattle.network_core.proofs.Mailing.{waits_in, map_set_same, sent_all_waits, sent_all_length, sent_all_get, count_is}
 use Rattle.network_core.proofs.Placing.{get_set_both}

@@ -19,7 +19,7 @@ use Rattle.network_core.specs.declared.steps.Outcome.{Outcome}
 use Rattle.network_core.specs.declared.steps.Outcome.TheVariants as outcome
 use Rattle.network_core.specs.Answers.{said, turn_outcome, take_outcome, AtPlace, TurnServes, Posting, PostServes, Handing, HandServes, answer_of, NetTurn, NetPost, NetHand, net_steps}
 use Rattle.network_core.specs.Worlds.{World, NodeWorld, NetSeen, Shows, Coherent, KeepsWorld}
-use Rattle.network_core.specs.Serves.{WorldTurns}
+use Rattle.network_core.specs.WorldSteps.{WorldTurns}
 use Rattle.network_core.specs.Rounds.{DrainSteps, DrainGoal, IsLastTurn, Round, DrainsTo}
 use Rattle.network_core.specs.Drains.{TurnAt, world_steps, room, Pair, with_world, pair_steps, KeepsPair, PairDrains, WorldDrains, Drives, Drains}
 use Rattle.network_core.proofs.Draining.{DrainLaws, SomeRounds, drain_ends}

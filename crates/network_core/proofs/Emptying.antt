@@ -21,7 +21,7 @@ use Rattle.network_core.specs.declared.refusal.Refusal.TheVariants as refusal
 use Rattle.network_core.specs.declared.steps.Outcome.{Outcome}
 use Rattle.network_core.specs.declared.steps.Outcome.TheVariants as outcome
 use Rattle.network_core.specs.Worlds.{NodeWorld, World}
-use Rattle.network_core.specs.Serves.{HearsNext, Hears, waits_on, handed_over, with_frame, without, sent_to, sent_once, sent_all}
+use Rattle.network_core.specs.WorldSteps.{HearsNext, Hears, waits_on, handed_over, with_frame, without, sent_to, sent_once, sent_all}
 use Rattle.network_core.specs.Drains.{HandAt, world_steps}
 use Rattle.network_core.specs.Rounds.{Hands, EndsHands, IsTaken}
 use Rattle.network_core.proofs.QuietingFrames.{Has}

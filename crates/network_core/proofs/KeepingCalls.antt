@@ -10,7 +10,7 @@ use Rattle.network_core.specs.Drains.{Pair, pair_steps}
 use Rattle.network_core.specs.Ways.{Way, stay, by_part, by_step, CallsAreWays, PairsAreBoth}
 use Rattle.network_core.specs.declared.steps.Step.{Step}
 use Rattle.network_core.specs.declared.steps.Step.TheVariants as step
-use Rattle.network_core.specs.Served.{PairServes, PairLinks, none, more, PairFollows}
+use Rattle.network_core.specs.Following.{PairServes, PairLinks, none, more, PairFollows}
 use Rattle.network_core.proofs.Driving.{to_net, to_world}
 use Rattle.network_core.proofs.Mapping.{drains_go, drains_map}
 use Rattle.network_core.proofs.Pairing.{follows_nets, follows_worlds}

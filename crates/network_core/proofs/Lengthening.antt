@@ -12,7 +12,7 @@ use Rattle.net_model.specs.Environment.{Environment}
 use Rattle.network_core.specs.declared.steps.Outcome.{Outcome}
 use Rattle.network_core.specs.declared.steps.Outcome.TheVariants as outcome
 use Rattle.network_core.specs.Worlds.{NodeWorld, MaySpell}
-use Rattle.network_core.specs.Serves.{WorldCommits, WorldFaults, WorldStarts, WorldTurns, WorldCuts, StaysDown, ComesUp, WorldBoots, LosesAt, HearsNext, Hears, WorldTakes, handed_over, sent_all}
+use Rattle.network_core.specs.WorldSteps.{WorldCommits, WorldFaults, WorldStarts, WorldTurns, WorldCuts, StaysDown, ComesUp, WorldBoots, LosesAt, HearsNext, Hears, WorldTakes, handed_over, sent_all}
 use Rattle.network_core.proofs.QuietingFrames.{all_grown}
 use Rattle.network_core.proofs.QuietingSteps.{handed}
 

@@ -37,7 +37,7 @@ use Rattle.node_core.specs.Takes.{accepting}
 use Rattle.network_core.specs.declared.steps.Outcome.{Outcome}
 use Rattle.network_core.specs.declared.steps.Outcome.TheVariants as outcome
 use Rattle.network_core.specs.Worlds.{NodeWorld, World, MaySpell, Choice, states_of, Coherent}
-use Rattle.network_core.specs.Serves.{WorldCommits, WorldFaults, WorldTurns, HearsNext, Hears, WorldTakes, waits_on, handed_over, sent_all}
+use Rattle.network_core.specs.WorldSteps.{WorldCommits, WorldFaults, WorldTurns, HearsNext, Hears, WorldTakes, waits_on, handed_over, sent_all}
 use Rattle.network_core.specs.Drains.{takes, TurnAt, HandAt, world_steps, RoundsAreBounded}
 use Rattle.network_core.specs.Rounds.{Moves, TurnsAt, InOrder, PostsAt, committed, Hands, DeliversAt, Round, Rounds, RoundStops, DrainStops, in_front}
 use Rattle.network_core.proofs.Placing.{get_set_both}

@@ -9,7 +9,7 @@ use Rattle.session_frames.specs.declared.sending.Outgoing.{Outgoing}
 use Rattle.network_core.specs.Worlds.{NodeWorld}
 use Rattle.waiting_frames.specs.Waiting.{is_waiting, joined}
 use Rattle.network_core.specs.Answers.{mailed, mailed_once, mailed_to, fresh_at, count_fresh, parted}
-use Rattle.network_core.specs.Serves.{with_frame, without, sent_to, sent_once, sent_all, new_at, count_new}
+use Rattle.network_core.specs.WorldSteps.{with_frame, without, sent_to, sent_once, sent_all, new_at, count_new}
 
 -- the frames that wait at each node of a world
 abbrev pub waits_in : List NodeWorld → List (List (List ℕ))

@@ -11,7 +11,7 @@ use Rattle.network_core.specs.Worlds.{NetSeen, KeepsWorld}
 use Rattle.network_core.specs.Answers.{said, answer_of, AtPlace, StartServes, TurnServes, CutServes, BootServes, LoseServes, Posting, PostServes, Handing, HandServes, Answered, booted_at, journal_at, net_steps}
 use Rattle.network_core.specs.Rounds.{DrainsTo}
 use Rattle.network_core.specs.Drains.{Pair, with_world, pair_steps, KeepsPair, PairDrains, world_steps}
-use Rattle.network_core.specs.Served.{Serve, Links, none, more, LeadTo, Follows, NetServe, NetFollows, PairServes, PairLinks, PairFollows, FollowPairs}
+use Rattle.network_core.specs.Following.{Serve, Links, none, more, LeadTo, Follows, NetServe, NetFollows, PairServes, PairLinks, PairFollows, FollowPairs}
 use Rattle.network_core.proofs.Mapping.{drains_map}
 use Rattle.network_core.proofs.Driving.{to_world, to_net}
 

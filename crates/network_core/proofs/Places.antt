@@ -10,7 +10,7 @@ use Rattle.network_core.specs.declared.steps.Outcome.{Outcome}
 use Rattle.network_core.specs.declared.steps.Outcome.TheVariants as outcome
 use Rattle.network_core.specs.Worlds.{NodeWorld, World, NetSeen, NodeShows, NodeCoherent, Shows, Coherent, KeepsWorld}
 use Rattle.network_core.specs.Answers.{said, StartServes, TurnServes, CutServes, AtPlace, ClockServes, LoseServes}
-use Rattle.network_core.specs.Serves.{WorldStarts, WorldTurns, WorldCuts, WorldPlace, WorldClock, LosesAt, without}
+use Rattle.network_core.specs.WorldSteps.{WorldStarts, WorldTurns, WorldCuts, WorldPlace, WorldClock, LosesAt, without}
 use Rattle.network_core.proofs.Agreeing.{start_coherent, turn_coherent, cut_coherent, lose_coherent, clock_coherent}
 use Rattle.network_core.proofs.Mailing.{waits_in, map_set_same}
 use Rattle.network_core.proofs.Placing.{get_set_both}

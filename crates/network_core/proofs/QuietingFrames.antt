@@ -17,7 +17,7 @@ use Rattle.session_frames.specs.Sending.{message_of}
 use Rattle.waiting_frames.specs.Waiting.{is_waiting, joined}
 use Rattle.net_model.specs.Environment.{Environment, party, identity}
 use Rattle.network_core.specs.Worlds.{NodeWorld}
-use Rattle.network_core.specs.Serves.{with_frame, sent_to, sent_once, sent_all}
+use Rattle.network_core.specs.WorldSteps.{with_frame, sent_to, sent_once, sent_all}
 
 -- ---- lists
 

@@ -9,7 +9,7 @@ use Rattle.network_core.specs.declared.refusal.Refusal.TheVariants as refusal
 use Rattle.network_core.specs.declared.steps.Outcome.{Outcome}
 use Rattle.network_core.specs.declared.steps.Outcome.TheVariants as outcome
 use Rattle.network_core.specs.Worlds.{NodeWorld, World}
-use Rattle.network_core.specs.Serves.{WorldTakes, waits_on, handed_over, without, sent_all}
+use Rattle.network_core.specs.WorldSteps.{WorldTakes, waits_on, handed_over, without, sent_all}
 use Rattle.network_core.specs.Drains.{HandAt, world_steps}
 use Rattle.network_core.specs.Rounds.{InOrder, Hands, DeliversAt, IsTaken, committed}
 use Rattle.network_core.proofs.QuietingFrames.{Has, Keeps, keeps_same, keeps_then, all_grown, get_set}

@@ -5,7 +5,7 @@ use Rattle.network_core.specs.declared.refusal.Refusal.TheVariants as refusal
 use Rattle.network_core.specs.declared.steps.Outcome.{Outcome}
 use Rattle.network_core.specs.declared.steps.Outcome.TheVariants as outcome
 use Rattle.network_core.specs.Worlds.{NodeWorld, World}
-use Rattle.network_core.specs.Serves.{WorldPosts, PostsFrom}
+use Rattle.network_core.specs.WorldSteps.{WorldPosts, PostsFrom}
 use Rattle.network_core.specs.Drains.{world_steps}
 use Rattle.network_core.specs.Rounds.{IsLastTurn, Moves, TurnsAt, PostsAt, Hands, DeliversAt, InOrder, Round, Rounds, RoundStops, TurnsStop, PostsStop, HandsStop, IsDrained, DrainStops, Runs, none, more, RunsTo}
 

@@ -26,7 +26,7 @@ use Rattle.network_core.specs.declared.refusal.Refusal.TheVariants as refusal
 use Rattle.network_core.specs.declared.steps.Outcome.{Outcome}
 use Rattle.network_core.specs.declared.steps.Outcome.TheVariants as outcome
 use Rattle.network_core.specs.Worlds.{NodeWorld, World}
-use Rattle.network_core.specs.Serves.{WorldTurns, WorldPosts, PostsFrom, HearsNext, Hears, WorldTakes, waits_on, handed_over, without, sent_all}
+use Rattle.network_core.specs.WorldSteps.{WorldTurns, WorldPosts, PostsFrom, HearsNext, Hears, WorldTakes, waits_on, handed_over, without, sent_all}
 use Rattle.network_core.specs.Drains.{TurnAt}
 use Rattle.network_core.specs.Rounds.{InOrder, IsLastTurn, IsTaken, committed}
 use Rattle.network_core.proofs.QuietingFrames.{Has, Grown, grown_same, grown_then, all_grown, all_sent, get_set, has_mapped, all_has}

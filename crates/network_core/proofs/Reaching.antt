@@ -8,10 +8,10 @@ use Rattle.network_core.specs.declared.steps.Outcome.TheVariants as outcome
 use Rattle.network_core.specs.declared.steps.Step.{Step}
 use Rattle.network_core.specs.declared.steps.Step.TheVariants as step
 use Rattle.network_core.specs.Worlds.{NodeWorld, World, AreOpenable, Coherent}
-use Rattle.network_core.specs.Serves.{WorldClock, WorldPlace, WorldStarts, WorldTurns, WorldCuts, WorldBoots, LosesAt, PostsFrom, WorldPosts, WorldHands, waits_on, handed_over, sent_all}
+use Rattle.network_core.specs.WorldSteps.{WorldClock, WorldPlace, WorldStarts, WorldTurns, WorldCuts, WorldBoots, LosesAt, PostsFrom, WorldPosts, WorldHands, waits_on, handed_over, sent_all}
 use Rattle.network_core.specs.Drains.{WorldDrains, world_steps}
 use Rattle.network_core.specs.Rounds.{DoesAt, Runs, none, more, RunsTo}
-use Rattle.network_core.specs.Served.{Serve}
+use Rattle.network_core.specs.Following.{Serve}
 use Rattle.network_core.specs.Acknowledged.{Reaches, here, by_step, by_part}
 use Rattle.network_core.proofs.Agreeing.{start_coherent, turn_coherent, cut_coherent, boot_coherent, lose_coherent, post_coherent, hand_coherent, clock_coherent, does_coherent}
 use Rattle.network_core.proofs.QuietingRuns.{drained_run, stopped_run}

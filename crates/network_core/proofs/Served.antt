@@ -40,7 +40,7 @@ use Rattle.network_core.specs.declared.steps.Outcome.{Outcome}
 use Rattle.network_core.specs.declared.steps.Outcome.TheVariants as outcome
 use Rattle.network_core.specs.Worlds.{NodeWorld, NodeShows}
 use Rattle.network_core.specs.Answers.{start_outcome, turn_outcome, cut_outcome, take_outcome, take_sent, IsCounted}
-use Rattle.network_core.specs.Serves.{WorldStarts, WorldTurns, WorldCuts, WorldCommits, WorldFaults, WorldTakes, Hears, HearsNext, RefusesStart, RefusesTurn}
+use Rattle.network_core.specs.WorldSteps.{WorldStarts, WorldTurns, WorldCuts, WorldCommits, WorldFaults, WorldTakes, Hears, HearsNext, RefusesStart, RefusesTurn}
 use Rattle.network_core.proofs.Stands.{Goes, commits_world, faults_world, shows_down, shows_same, images_now, young_now}
 
 module _ {F : Type 0} (m : Meaning F) (id : Identity) (p now : ℕ) (n k : NodeSeen) (x : NodeWorld) (shows : NodeShows (environment m id) p n x) where

@@ -13,7 +13,7 @@ use Rattle.net_model.specs.Environment.{Environment, environment, Meaning}
 use Rattle.node_core.specs.Disks.{Moves, KeepsForm, OldOrMore}
 use Rattle.node_core.specs.Seen.{NodeSeen, Pends, Commits, Faults, acks_over}
 use Rattle.network_core.specs.Worlds.{NodeWorld, MaySpell, ShowsJournal, NodeShows}
-use Rattle.network_core.specs.Serves.{WorldCommits, WorldFaults}
+use Rattle.network_core.specs.WorldSteps.{WorldCommits, WorldFaults}
 
 -- the node is now k, in a world in which the same frames wait there, and which is so
 abbrev pub Goes : {F : Type 0} → Environment F → ℕ → NodeWorld → NodeSeen → (NodeWorld → Type 0) → Type 0

@@ -30,7 +30,7 @@ use Rattle.network_core.specs.declared.net.Turning.{Turning}
 use Rattle.network_core.specs.declared.steps.Outcome.{Outcome}
 use Rattle.network_core.specs.declared.steps.Outcome.TheVariants as outcome
 use Rattle.network_core.specs.Worlds.{NetSeen}
-use Rattle.network_core.specs.Serves.{WorldPosts}
+use Rattle.network_core.specs.WorldSteps.{WorldPosts}
 use Rattle.network_core.specs.Answers.{said, net_steps, turn_outcome, take_outcome, TurnServes, AtPlace, Posting, PostServes, SendServes, Handing, HandServes, count_fresh, mailed}
 use Rattle.network_core.specs.Drains.{room, total_room, journal_room, takes, TurnAt, HandAt, world_steps, Drains, Drives, Pair, with_world, pair_steps}
 use Rattle.network_core.specs.Rounds.{DrainSteps, Posts, PostsAt, PostsStop, InOrder, Hands, DeliversAt, Turns, TurnsAt, TurnsStop, drain_outcome}

@@ -8,7 +8,7 @@ use Rattle.node_tables.specs.Journals.{causes_of}
 use Rattle.network_core.specs.declared.steps.Outcome.{Outcome}
 use Rattle.network_core.specs.declared.steps.Step.{Step}
 use Rattle.network_core.specs.Worlds.{World, NodeWorld, Choice, Coherent}
-use Rattle.network_core.specs.Served.{Serve}
+use Rattle.network_core.specs.Following.{Serve}
 use Rattle.network_core.specs.Drains.{world_steps}
 use Rattle.network_core.specs.Rounds.{DoesAt}
 

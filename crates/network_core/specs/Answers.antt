@@ -30,7 +30,7 @@ use Rattle.network_core.specs.declared.steps.Outcome.TheVariants as outcome
 use Rattle.network_core.specs.declared.steps.Step.{Step}
 use Rattle.network_core.specs.declared.steps.Step.TheVariants as step
 use Rattle.network_core.specs.Worlds.{NetSeen}
-use Rattle.network_core.specs.Serves.{waits_on, without}
+use Rattle.network_core.specs.WorldSteps.{waits_on, without}
 use Rattle.network_core.specs.Rounds.{DrainSteps, EndsHands, DrainsTo}
 
 -- the outcome of a call that had one, none at want of memory

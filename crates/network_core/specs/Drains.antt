@@ -12,7 +12,7 @@ use Rattle.network_core.specs.declared.steps.Outcome.TheVariants as outcome
 use Rattle.network_core.specs.Worlds.{World, NodeWorld, NetSeen, Shows, KeepsWorld, Choice, states_of, came_at, Coherent}
 use Rattle.network_core.specs.Answers.{NetTurn, NetPost, NetHand, NetEnds, net_steps}
 use Rattle.network_core.specs.Rounds.{DrainSteps, DrainGoal, EndsHands, Rounds, IsDrained, DrainStops, DrainsTo, in_front, Runs, RunsTo}
-use Rattle.network_core.specs.Serves.{WorldPlace, WorldTurns, WorldPosts, WorldHands}
+use Rattle.network_core.specs.WorldSteps.{WorldPlace, WorldTurns, WorldPosts, WorldHands}
 
 -- ---- how many turns there can be
 

@@ -2,9 +2,9 @@ pub mod Worlds
 pub mod Refusals
 pub mod Rounds
 pub mod Answers
-pub mod Serves
+pub mod WorldSteps
 pub mod Drains
-pub mod Served
+pub mod Following
 pub mod Begins
 pub mod Acknowledged
 pub mod Moments

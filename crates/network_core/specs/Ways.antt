@@ -16,7 +16,7 @@ use Rattle.network_core.specs.Answers.{Answered, answer_of, net_steps}
 use Rattle.network_core.specs.Drains.{Pair, PairDrains, WorldDrains, pair_steps}
 use Rattle.network_core.specs.Moments.{Instant, IsSince, now_of, IsBetween, OneMoves, IsChoice, IsKept}
 use Rattle.network_core.specs.Rounds.{DoesAt, DrainsTo}
-use Rattle.network_core.specs.Served.{Serve, Follows, NetFollows, PairServes, PairFollows}
+use Rattle.network_core.specs.Following.{Serve, Follows, NetFollows, PairServes, PairFollows}
 
 -- A way from one network with its world to another: steps that are no drains, one after another, and the turns, posts and deliveries of drains, each
 -- of the network and of the world that it shows.

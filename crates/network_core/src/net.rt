@@ -11,7 +11,7 @@ ghost use Rattle.network_core.specs.Begins.{BeginsWorld, IsRefused, BootsUpTo, n
 ghost use Rattle.network_core.specs.Drains.{Drains, Drives, room};
 ghost use Rattle.network_core.specs.Parts.{IsNet, net_of};
 ghost use Rattle.network_core.specs.Rounds.{DeliversAt, HandStops, HandsStop, InOrder, Posts, Round, RoundStops, StopsAt, Turns, TurnsAt, TurnsStop, drain_outcome, heard, joined, turned};
-ghost use Rattle.network_core.specs.Served.{Serve, Follows, NetFollows, ServesPairs, FollowPairs};
+ghost use Rattle.network_core.specs.Following.{Serve, Follows, NetFollows, ServesPairs, FollowPairs};
 ghost use Rattle.network_core.specs.declared.net.Turning.TheVariants as turning;
 
 use super::begin::{BeginRefused, boot_all, disks_of, nodes_over};

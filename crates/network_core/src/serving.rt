@@ -5,7 +5,7 @@ ghost use Rattle.std.specs.Prelude.{◌≡◌, ◌≤◌, ℕ, Some, None, Ok};
 ghost use Rattle.std.specs.Option.{option_to_list};
 ghost use Rattle.node_core.specs.Seen.{IsBy};
 ghost use Rattle.network_core.specs.Answers.{StartServes, TurnServes, SendServes, TakeServes, CutServes, BootServes, IsCounted, boot_outcome, replied, reached, said, take_outcome, take_sent};
-ghost use Rattle.network_core.specs.Serves.{waits_on};
+ghost use Rattle.network_core.specs.WorldSteps.{waits_on};
 
 use super::{Outcome, Refusal};
 use contract_verify::Judge;

@@ -6,7 +6,7 @@ use Rattle.net_model.specs.Environment.{Environment, environment, Meaning}
 use Rattle.network_core.specs.declared.steps.Outcome.{Outcome}
 use Rattle.network_core.specs.declared.steps.Step.{Step}
 use Rattle.network_core.specs.declared.steps.Step.TheVariants as step
-use Rattle.network_core.specs.Served.{Serve, ServesPairs}
+use Rattle.network_core.specs.Following.{Serve, ServesPairs}
 use Rattle.network_core.specs.Answers.{Answered, answer_of}
 use Rattle.network_core.specs.Worlds.{World, NetSeen, KeepsWorld}
 use Rattle.shell_words.specs.declared.commands.Command.{Command}
@@ -15,7 +15,7 @@ use Rattle.shell_words.specs.Script.{command_of, words_of, has_no_answer, is_rea
 use Rattle.node_shell.specs.declared.replies.Reply.{Reply}
 use Rattle.node_shell.specs.declared.replies.Reply.TheVariants.{Told}
 use Rattle.node_shell.specs.Loads.{load, work}
-use Rattle.node_shell.specs.Serve.{Doing, asking, making, going, doing_of, start_step, started_by, recorded_in, place_of, Answers, Comes, LineComes, StepComes, Makes, Serves, Leaves}
+use Rattle.node_shell.specs.Lines.{Doing, asking, making, going, doing_of, start_step, started_by, recorded_in, node_at, Answers, Comes, LineComes, StepComes, Makes, CommandReplies, Leaves}
 use Rattle.node_shell.specs.Responds.{recorded_seen, StartsNone, IsShown, StepResponds, Responds, CommandResponds, LineResponds, given}
 use Rattle.node_shell.proofs.Shown.{shown_answers, step_shown}
 
@@ -98,20 +98,20 @@ module _ {F : Type 0} (m : Meaning F) where
       (w, shows, coherent, answer_comes e w asked ws result (sym (step_shown e net w shows asked ws) ∙ is) (all_ok result (shown_answers m id net w shows coherent asked ws) shown))
 
   -- a start of a flow whose words are known
-  pub started : {E : Type 0} (old new : NetSeen) (node : ℕ) (ws : List (List ℕ)) (class : ℕ) (args : List ℕ) (result : Result Reply E) → started_by m.machine (recorded_seen m.frame_at old (place_of node)) ws ≡ Ok (class, args)
-      → KeepsWorld m old new (λ e w v. StepComes e w (step.Start (place_of node) class args) result v) → KeepsWorld m old new (λ e w v. Comes e w (command.Start node) ws result v)
+  pub started : {E : Type 0} (old new : NetSeen) (node : ℕ) (ws : List (List ℕ)) (class : ℕ) (args : List ℕ) (result : Result Reply E) → started_by m.machine (recorded_seen m.frame_at old (node_at node)) ws ≡ Ok (class, args)
+      → KeepsWorld m old new (λ e w v. StepComes e w (step.Start (node_at node) class args) result v) → KeepsWorld m old new (λ e w v. Comes e w (command.Start node) ws result v)
   started old new node ws class args result is keeps =
-      made old new (command.Start node) ws (step.Start (place_of node) class args) result (ap (λ x. start_step (place_of node) x) is) keeps
+      made old new (command.Start node) ws (step.Start (node_at node) class args) result (ap (λ x. start_step (node_at node) x) is) keeps
 
   -- words that start no flow
-  none_shown : (net : NetSeen) (node : ℕ) (ws : List (List ℕ)) (fault : WordFault) (reply : Reply) → started_by m.machine (recorded_seen m.frame_at net (place_of node)) ws ≡ Err fault → StartsNone net (place_of node) (Err fault) reply → IsShown m net (command.Start node) ws reply
-  none_shown net node ws fault reply is given = subst (λ x. StartsNone net (place_of node) x reply) (sym is) given
+  none_shown : (net : NetSeen) (node : ℕ) (ws : List (List ℕ)) (fault : WordFault) (reply : Reply) → started_by m.machine (recorded_seen m.frame_at net (node_at node)) ws ≡ Err fault → StartsNone net (node_at node) (Err fault) reply → IsShown m net (command.Start node) ws reply
+  none_shown net node ws fault reply is given = subst (λ x. StartsNone net (node_at node) x reply) (sym is) given
 
-  pub unstarted : (net : NetSeen) (node : ℕ) (ws : List (List ℕ)) (fault : WordFault) (reply : Reply) → started_by m.machine (recorded_seen m.frame_at net (place_of node)) ws ≡ Err fault → StartsNone net (place_of node) (Err fault) reply
-      → KeepsWorld m net net (λ e w v. Serves e w (command.Start node) ws reply v)
+  pub unstarted : (net : NetSeen) (node : ℕ) (ws : List (List ℕ)) (fault : WordFault) (reply : Reply) → started_by m.machine (recorded_seen m.frame_at net (node_at node)) ws ≡ Err fault → StartsNone net (node_at node) (Err fault) reply
+      → KeepsWorld m net net (λ e w v. CommandReplies e w (command.Start node) ws reply v)
   unstarted net node ws fault reply is shown id w shows coherent =
       let e = environment m id in
-      let none : doing_of m.machine (recorded_in e w) (command.Start node) ws ≡ asking = sym (step_shown e net w shows (command.Start node) ws) ∙ ap (λ x. start_step (place_of node) x) is in
+      let none : doing_of m.machine (recorded_in e w) (command.Start node) ws ≡ asking = sym (step_shown e net w shows (command.Start node) ws) ∙ ap (λ x. start_step (node_at node) x) is in
       (w, shows, coherent, subst (λ (s : Doing). Makes e w s (command.Start node) ws reply w) (sym none) (shown_answers m id net w shows coherent (command.Start node) ws reply (none_shown net node ws fault reply is shown), refl))
 
   -- ---- over any network
@@ -134,14 +134,14 @@ module _ {F : Type 0} (m : Meaning F) where
   shown_responds net asked ws (Ok reply) is h = rw is (h, refl)
   shown_responds net asked ws (Err fault) is h = rw is (tt, refl)
 
-  pub start_responds : (old new : NetSeen) (node : ℕ) (ws : List (List ℕ)) (class : ℕ) (args : List ℕ) (reply : Option Reply) → started_by m.machine (recorded_seen m.frame_at old (place_of node)) ws ≡ Ok (class, args)
-      → StepResponds m (step.Start (place_of node) class args) old reply new → CommandResponds m (command.Start node) ws old reply new
-  start_responds old new node ws class args reply is h = subst (λ x. Responds m (start_step (place_of node) x) (command.Start node) ws old reply new) (sym is) h
+  pub start_responds : (old new : NetSeen) (node : ℕ) (ws : List (List ℕ)) (class : ℕ) (args : List ℕ) (reply : Option Reply) → started_by m.machine (recorded_seen m.frame_at old (node_at node)) ws ≡ Ok (class, args)
+      → StepResponds m (step.Start (node_at node) class args) old reply new → CommandResponds m (command.Start node) ws old reply new
+  start_responds old new node ws class args reply is h = subst (λ x. Responds m (start_step (node_at node) x) (command.Start node) ws old reply new) (sym is) h
 
-  pub none_responds : (net : NetSeen) (node : ℕ) (ws : List (List ℕ)) (fault : WordFault) (reply : Reply) → started_by m.machine (recorded_seen m.frame_at net (place_of node)) ws ≡ Err fault → StartsNone net (place_of node) (Err fault) reply
+  pub none_responds : (net : NetSeen) (node : ℕ) (ws : List (List ℕ)) (fault : WordFault) (reply : Reply) → started_by m.machine (recorded_seen m.frame_at net (node_at node)) ws ≡ Err fault → StartsNone net (node_at node) (Err fault) reply
       → CommandResponds m (command.Start node) ws net (Some reply) net
   none_responds net node ws fault reply is shown =
-      subst (λ x. Responds m (start_step (place_of node) x) (command.Start node) ws net (Some reply) net) (sym is) (none_shown net node ws fault reply is shown, refl)
+      subst (λ x. Responds m (start_step (node_at node) x) (command.Start node) ws net (Some reply) net) (sym is) (none_shown net node ws fault reply is shown, refl)
 
   -- a line whose words were not read for want of memory
   pub line_unread : {E : Type 0} (net : NetSeen) (line : List ℕ) (result : Result Reply E) → IsErr result → KeepsWorld m net net (λ e w v. LineComes e w line result v)

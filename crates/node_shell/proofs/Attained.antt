@@ -5,7 +5,7 @@ use Rattle.net_model.specs.Environment.{Environment}
 use Rattle.network_core.specs.declared.refusal.Refusal.TheVariants as refusal
 use Rattle.network_core.specs.declared.steps.Step.{Step}
 use Rattle.network_core.specs.declared.steps.Outcome.{Outcome}
-use Rattle.network_core.specs.Served.{Serve, Follows}
+use Rattle.network_core.specs.Following.{Serve, Follows}
 use Rattle.network_core.specs.Worlds.{World, Coherent}
 use Rattle.network_core.specs.Acknowledged.{here, by_step}
 use Rattle.work_law.specs.Works.{WorldWorks}
@@ -18,7 +18,7 @@ use Rattle.node_shell.specs.declared.statuses.Status.{Status}
 use Rattle.node_shell.specs.declared.statuses.Status.TheVariants as status
 use Rattle.node_shell.specs.Replies.{IsRefused}
 use Rattle.node_shell.specs.Loads.{Course, GoesOver}
-use Rattle.node_shell.specs.Serve.{Doing, asking, making, going, world_states, doing_of, recorded_in, Makes, Serves, RepliesTo, Link, Leaves, RunsShort}
+use Rattle.node_shell.specs.Lines.{Doing, asking, making, going, world_states, doing_of, recorded_in, Makes, CommandReplies, RepliesTo, Link, Leaves, RunsShort}
 use Rattle.node_shell.specs.Story.{Story, begins, goes_on, CutOff, LeftOff, EndsWith, ScriptRun}
 use Rattle.node_shell.proofs.Loading.{leads_go, course_goes}
 
@@ -50,7 +50,7 @@ module _ {F : Type 0} (e : Environment F) (start : World) where
   replies_attains : (w v : World) (line : List ℕ) (reply : Reply) → Attains e start w → RepliesTo e w line reply v → Attains e start v
   replies_attains w v line reply before h = by (has_no_answer line) (is_readable line) h
     where
-      by : (blank plain : Bool) → MatchBool blank ((reply ≡ Silence) × (v ≡ w)) (MatchBool plain (Serves e w (command_of (words_of line)) (words_of line) reply v) (IsRefused refusal.Syntax reply × (v ≡ w))) → Attains e start v
+      by : (blank plain : Bool) → MatchBool blank ((reply ≡ Silence) × (v ≡ w)) (MatchBool plain (CommandReplies e w (command_of (words_of line)) (words_of line) reply v) (IsRefused refusal.Syntax reply × (v ≡ w))) → Attains e start v
       by true plain h = unmoved w v before h.1
       by false true h = makes_attains w v (doing_of e.machine (recorded_in e w) (command_of (words_of line)) (words_of line)) (command_of (words_of line)) (words_of line) reply before h
       by false false h = unmoved w v before h.1

@@ -18,7 +18,7 @@ use Rattle.flow_machine.specs.Flows.{GivesWords}
 use Rattle.flow_machine.specs.Machine.{Machine}
 use Rattle.shell_words.specs.Script.{after_hash, is_number, has_mark, mark_of}
 use Rattle.shell_words.specs.declared.commands.TxName.TheVariants as name
-use Rattle.node_shell.specs.Serve.{named_in, digits_or, put_in, named_by, started_by, recorded_by}
+use Rattle.node_shell.specs.Lines.{named_in, digits_or, put_in, named_by, started_by, recorded_by}
 use Rattle.node_shell.specs.Responds.{recorded_seen}
 
 -- ---- what the network shows that a node recorded

@@ -16,7 +16,7 @@ use Rattle.node_core.specs.Seen.{NodeSeen}
 use Rattle.network_core.specs.declared.steps.Outcome.{Outcome}
 use Rattle.network_core.specs.declared.steps.Step.{Step}
 use Rattle.network_core.specs.Drains.{Pair, with_world}
-use Rattle.network_core.specs.Served.{NetFollows, PairFollows, FollowPairs}
+use Rattle.network_core.specs.Following.{NetFollows, PairFollows, FollowPairs}
 use Rattle.network_core.specs.Worlds.{World, NodeWorld, NetSeen, Shows, ShowsJournal, KeepsWorld}
 use Rattle.network_core.proofs.KeepingCalls.{pairs_are_both}
 use Rattle.flow_workers.specs.Ends.{WorkedOn, KeepsTails}
@@ -24,7 +24,7 @@ use Rattle.shell_words.specs.declared.commands.Command.TheVariants as command
 use Rattle.node_shell.specs.declared.replies.Reply.{Reply}
 use Rattle.node_shell.specs.LedgerPrint.{vault_in}
 use Rattle.node_shell.specs.Loads.{Course, load, work, Deal, Pays, none, more, Loaded, Breaks, BreaksFirst, PaysShort, LoadedShort, Loads, WorksOrNot, GoesOver, all_but, is_paid, then_drain, issues_by, deals_of}
-use Rattle.node_shell.specs.Serve.{Comes, ended_by, ended_up, ended_in, held_from, waiting_in, world_states}
+use Rattle.node_shell.specs.Lines.{Comes, ended_by, ended_up, ended_in, held_from, waiting_in, world_states}
 use Rattle.node_shell.specs.Responds.{given, ended_seen, held_by, held_of, net_states, notary_seen}
 use Rattle.node_shell.specs.Together.{InPair, pair_states}
 use Rattle.node_shell.proofs.Loading.{paid_same, course_map}

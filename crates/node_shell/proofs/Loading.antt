@@ -5,7 +5,7 @@ use Rattle.std.specs.Option.{option_map_or}
 use Rattle.flow_machine.specs.Machine.{Machine}
 use Rattle.network_core.specs.declared.steps.Outcome.{Outcome}
 use Rattle.network_core.specs.declared.steps.Step.{Step}
-use Rattle.network_core.specs.Served.{Links, none as no_link, more as one_link, LeadTo}
+use Rattle.network_core.specs.Following.{Links, none as no_link, more as one_link, LeadTo}
 use Rattle.node_shell.specs.declared.replies.Reply.{Reply}
 use Rattle.node_shell.specs.Loads.{Course, load, work, CourseStates, Deal, Pays, none, more, Loaded, Breaks, BreaksFirst, LoadedShort, RefusesLoad, TakesLoad, Loads, GoesOver, started, is_paid, then_drain, issues_by, deals_of, load_text}
 

@@ -8,7 +8,7 @@ use Rattle.network_core.specs.declared.steps.Outcome.TheVariants as outcome
 use Rattle.network_core.specs.declared.steps.Step.{Step}
 use Rattle.network_core.specs.Worlds.{NetSeen}
 use Rattle.network_core.specs.Answers.{answer_of}
-use Rattle.network_core.specs.Served.{NetServe}
+use Rattle.network_core.specs.Following.{NetServe}
 use Rattle.network_core.proofs.Naming.{names_of, step_names}
 use Rattle.work_law.proofs.Passing.{names_stay}
 use Rattle.shell_words.specs.declared.commands.Command.{Command}
@@ -17,7 +17,7 @@ use Rattle.node_shell.specs.declared.replies.Reply.{Reply}
 use Rattle.node_shell.specs.declared.replies.Reply.TheVariants.{Silence, Told}
 use Rattle.node_shell.specs.declared.statuses.Status.{Status}
 use Rattle.node_shell.specs.declared.statuses.Status.TheVariants as status
-use Rattle.node_shell.specs.Serve.{Doing, asking, making, going, doing_of}
+use Rattle.node_shell.specs.Lines.{Doing, asking, making, going, doing_of}
 use Rattle.node_shell.specs.Responds.{net_states, recorded_seen, StepResponds, Responds, CommandResponds, LineResponds, NetLink, NetShort}
 use Rattle.node_shell.specs.Story.{Story, begins, goes_on, CutOff, LeftOff, EndsWith, ScriptRun}
 use Rattle.node_shell.proofs.Loading.{leads_go, course_goes}

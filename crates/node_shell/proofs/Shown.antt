@@ -37,7 +37,7 @@ use Rattle.shell_words.specs.declared.commands.TxName.{TxName}
 use Rattle.shell_words.specs.declared.commands.TxName.TheVariants as name
 use Rattle.node_shell.specs.declared.replies.Reply.{Reply}
 use Rattle.node_shell.specs.Replies.{IsRefused, reply_text}
-use Rattle.node_shell.specs.Serve.{AtNode, AsksFlow, AsksTx, named_in, tx_query, record_of, AsksHistory, RefusesWords, Answers, causes_in, place_of, flow_of, started_by, start_step, doing_of, recorded_by, recorded_up, recorded_in}
+use Rattle.node_shell.specs.Lines.{AtNode, AsksFlow, AsksTx, named_in, tx_query, record_of, AsksHistory, RefusesWords, Answers, causes_in, node_at, flow_of, started_by, start_step, doing_of, recorded_by, recorded_up, recorded_in}
 use Rattle.node_shell.specs.Responds.{recorded_seen, AtSeen, OfSeen, PrintsVault, PrintsBalance, PrintsBook, PrintsTx, notary_seen, StartsNone, PrintsFlows, PrintsFlow, PrintsHistory, IsShown, causes_up}
 
 -- ---- lists
@@ -96,7 +96,7 @@ module _ {F : Type 0} (e : Environment F) (net : NetSeen) (w : World) (shows : S
 
 -- what a command does depends on what the nodes recorded, and on no more of them
 pub same_step : {F : Type 0} (m : Machine F) (f g : ℕ → List (Hash32 × SignedTx)) → ((p : ℕ) → f p ≡ g p) → (asked : Command) (ws : List (List ℕ)) → doing_of m f asked ws ≡ doing_of m g asked ws
-same_step m f g same (command.Start node) ws = ap (λ recorded. start_step (place_of node) (started_by m recorded ws)) (same (place_of node))
+same_step m f g same (command.Start node) ws = ap (λ recorded. start_step (node_at node) (started_by m recorded ws)) (same (node_at node))
 same_step m f g same (command.Clock to) ws = refl
 same_step m f g same (command.Turn node pick) ws = refl
 same_step m f g same (command.Post node) ws = refl
@@ -379,15 +379,15 @@ module _ {F : Type 0} (m : Meaning F) (id : Identity) (net : NetSeen) (w : World
 
   pub shown_answers : (asked : Command) (ws : List (List ℕ)) (reply : Reply) → IsShown m net asked ws reply → Answers meant w asked ws reply
   shown_answers (command.Start node) ws reply h =
-      let p = place_of node in
+      let p = node_at node in
       subst (λ recorded. RefusesWords w p (started_by m.machine recorded ws) reply) (recorded_shown meant net w shows p)
       (start_answers meant net w shows coherent p (started_by m.machine (recorded_seen m.frame_at net p) ws) reply h)
-  shown_answers (command.Flows node) ws reply h = flows_answer meant net w shows coherent (place_of node) reply h
-  shown_answers (command.Flow node flow) ws reply h = flow_answers meant net w shows coherent (place_of node) (flow_of flow) reply h
-  shown_answers (command.Vault node) ws reply h = vault_answers meant net w shows coherent (place_of node) reply h
-  shown_answers (command.Balance node) ws reply h = balance_answers meant net w shows coherent (place_of node) reply h
+  shown_answers (command.Flows node) ws reply h = flows_answer meant net w shows coherent (node_at node) reply h
+  shown_answers (command.Flow node flow) ws reply h = flow_answers meant net w shows coherent (node_at node) (flow_of flow) reply h
+  shown_answers (command.Vault node) ws reply h = vault_answers meant net w shows coherent (node_at node) reply h
+  shown_answers (command.Balance node) ws reply h = balance_answers meant net w shows coherent (node_at node) reply h
   shown_answers command.Book ws reply h = book_answers meant net w shows coherent reply h
-  shown_answers (command.TxLine node named) ws reply h = tx_answers meant net w shows coherent (place_of node) named reply h
+  shown_answers (command.TxLine node named) ws reply h = tx_answers meant net w shows coherent (node_at node) named reply h
   shown_answers command.History ws reply h = history_answers meant net w shows coherent reply h
   shown_answers command.Quit ws reply h = h
   shown_answers command.Unknown ws reply h = h

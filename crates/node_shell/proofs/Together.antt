@@ -13,7 +13,7 @@ use Rattle.network_core.specs.declared.steps.Outcome.{Outcome}
 use Rattle.network_core.specs.declared.steps.Outcome.TheVariants as outcome
 use Rattle.network_core.specs.declared.steps.Step.{Step}
 use Rattle.network_core.specs.Drains.{Pair, with_world}
-use Rattle.network_core.specs.Served.{PairFollows}
+use Rattle.network_core.specs.Following.{PairFollows}
 use Rattle.network_core.specs.Ways.{Way, stay}
 use Rattle.network_core.specs.Worlds.{World, NetSeen, Shows, Coherent}
 use Rattle.network_core.proofs.KeepingCalls.{calls_are_ways}
@@ -29,7 +29,7 @@ use Rattle.node_shell.specs.declared.statuses.Status.{Status}
 use Rattle.node_shell.specs.declared.statuses.Status.TheVariants as status
 use Rattle.node_shell.specs.Replies.{IsRefused}
 use Rattle.node_shell.specs.Loads.{Course, load, work, GoesOver}
-use Rattle.node_shell.specs.Serve.{Doing, asking, making, going, world_states, place_of, started_by, start_step, doing_of, recorded_in, Makes, Serves, RepliesTo, Link, Leaves, RunsShort}
+use Rattle.node_shell.specs.Lines.{Doing, asking, making, going, world_states, node_at, started_by, start_step, doing_of, recorded_in, Makes, CommandReplies, RepliesTo, Link, Leaves, RunsShort}
 use Rattle.node_shell.specs.Responds.{net_states, recorded_seen, Responds, CommandResponds, LineResponds, NetLink, NetShort}
 use Rattle.node_shell.specs.Story.{Story, begins, goes_on, Answered, CutOff, LeftOff, all_lines, EndsWith, ScriptRun}
 use Rattle.node_shell.specs.Together.{pair_states, Goes, LineGoes, PairLink, PairShort, InPair, ComesBy, EndComesBy, work_asked, work_asked_by, LeadsOn, ScriptsArePassages, LinesArePassages, ScriptsAreBoth}
@@ -68,7 +68,7 @@ module _ {F : Type 0} (m : Meaning F) (id : Identity) (old : NetSeen) (w : World
 
   -- so of what words ask for: the step is the same by what the network shows and by what the world has
   served_in : (asked : Command) (ws : List (List ℕ)) (reply : Reply) (new : NetSeen) → CommandResponds m asked ws old (Some reply) new
-      → InPair e new (λ b. Serves e w asked ws reply b.world × Goes m id (doing_of m.machine (recorded_seen m.frame_at old) asked ws) (Some reply) a b)
+      → InPair e new (λ b. CommandReplies e w asked ws reply b.world × Goes m id (doing_of m.machine (recorded_seen m.frame_at old) asked ws) (Some reply) a b)
   served_in asked ws reply new h =
       let s = doing_of m.machine (recorded_seen m.frame_at old) asked ws in
       subst (λ (t : Doing). InPair e new (λ b. Makes e w t asked ws reply b.world × Goes m id s (Some reply) a b)) (step_shown e old w shows asked ws) (responds_in s asked ws reply new h)
@@ -78,7 +78,7 @@ module _ {F : Type 0} (m : Meaning F) (id : Identity) (old : NetSeen) (w : World
     where
       by : (blank plain : Bool)
           → MatchBool blank ((Some reply ≡ Some Silence) × (new ≡ old)) (MatchBool plain (CommandResponds m (command_of (words_of line)) (words_of line) old (Some reply) new) ((Some reply ≡ Some (Told (outcome.Refused refusal.Syntax))) × (new ≡ old)))
-          → InPair e new (λ b. MatchBool blank ((reply ≡ Silence) × (b.world ≡ w)) (MatchBool plain (Serves e w (command_of (words_of line)) (words_of line) reply b.world) (IsRefused refusal.Syntax reply × (b.world ≡ w)))
+          → InPair e new (λ b. MatchBool blank ((reply ≡ Silence) × (b.world ≡ w)) (MatchBool plain (CommandReplies e w (command_of (words_of line)) (words_of line) reply b.world) (IsRefused refusal.Syntax reply × (b.world ≡ w)))
           × Goes m id (doing_of m.machine (recorded_seen m.frame_at old) (if blank || not plain then Unknown else command_of (words_of line)) (words_of line)) (Some reply) a b)
       by true plain h = unmoved (λ b. ((reply ≡ Silence) × (b.world ≡ w)) × (b ≡ a)) new h.1 ((some_eq h.0, refl), refl)
       by false true h = served_in (command_of (words_of line)) (words_of line) reply new h
@@ -300,7 +300,7 @@ start_done node (Err fault) = refl
 
 done_is : {F : Type 0} (m : Machine F) (recorded : ℕ → List (Hash32 × SignedTx)) (asked : Command) (words : List (List ℕ)) → work_done (doing_of m recorded asked words) ≡ work_asked asked
 done_is m recorded (command.Clock to) words = refl
-done_is m recorded (command.Start node) words = start_done (place_of node) (started_by m (recorded (place_of node)) words)
+done_is m recorded (command.Start node) words = start_done (node_at node) (started_by m (recorded (node_at node)) words)
 done_is m recorded (command.Turn node pick) words = refl
 done_is m recorded (command.Post node) words = refl
 done_is m recorded (command.Deliver node at) words = refl

@@ -12,7 +12,7 @@ use Rattle.ledger_types.proofs.Names.{hash_exact}
 use Rattle.shell_report.specs.LedgerText.{tx_text}
 use Rattle.shell_words.specs.declared.commands.TxName.TheVariants as name
 use Rattle.node_shell.specs.LedgerPrint.{with_id}
-use Rattle.node_shell.specs.Serve.{record_of}
+use Rattle.node_shell.specs.Lines.{record_of}
 use Rattle.node_shell.specs.Responds.{IsLineOf}
 
 module _ {T : Type 0} (bytes : T → List ℕ) (recorded : List (Hash32 × SignedTx)) where

@@ -2,7 +2,7 @@ pub mod Pairs
 pub mod LedgerPrint
 pub mod Replies
 pub mod Loads
-pub mod Serve
+pub mod Lines
 pub mod Responds
 pub mod Story
 pub mod Together

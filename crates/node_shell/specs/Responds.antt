@@ -24,7 +24,7 @@ use Rattle.network_core.specs.declared.steps.Outcome.TheVariants as outcome
 use Rattle.network_core.specs.declared.steps.Step.{Step}
 use Rattle.network_core.specs.Worlds.{NetSeen, KeepsWorld}
 use Rattle.network_core.specs.Answers.{Answered, answer_of}
-use Rattle.network_core.specs.Served.{NetFollows, ServesPairs, FollowPairs}
+use Rattle.network_core.specs.Following.{NetFollows, ServesPairs, FollowPairs}
 use Rattle.flow_workers.specs.Ends.{WorkedOn}
 use Rattle.shell_words.specs.declared.commands.Command.{Command}
 use Rattle.shell_words.specs.declared.commands.Command.TheVariants as command
@@ -34,7 +34,7 @@ use Rattle.node_shell.specs.declared.replies.Reply.{Reply}
 use Rattle.node_shell.specs.declared.replies.Reply.TheVariants.{Silence, Quit, Told}
 use Rattle.node_shell.specs.Replies.{reply_text, IsRefused}
 use Rattle.node_shell.specs.Loads.{CourseStates, all_but, GoesOver}
-use Rattle.node_shell.specs.Serve.{Doing, asking, making, going, place_of, flow_of, named_in, started_by, doing_of, recorded_by, recorded_in, ended_by, RepliesTo, Leaves}
+use Rattle.node_shell.specs.Lines.{Doing, asking, making, going, node_at, flow_of, named_in, started_by, doing_of, recorded_by, recorded_in, ended_by, RepliesTo, Leaves}
 
 -- ---- answers that change nothing
 
@@ -106,13 +106,13 @@ notary_seen net = option_map_or (λ n. n.identity.notary.0) (slice_get net.nodes
 
 -- the reply to a command that asks, by what the network shows
 abbrev pub IsShown : {F : Type 0} → Meaning F → NetSeen → Command → List (List ℕ) → Reply → Type 0
-IsShown m net (command.Start node) words reply = StartsNone net (place_of node) (started_by m.machine (recorded_seen m.frame_at net (place_of node)) words) reply
-IsShown m net (command.Flows node) words reply = AtSeen net (place_of node) reply (PrintsFlows m.frame_at reply)
-IsShown m net (command.Flow node flow) words reply = AtSeen net (place_of node) reply (PrintsFlow m.frame_at (flow_of flow) reply)
-IsShown m net (command.Vault node) words reply = OfSeen net (place_of node) reply (PrintsVault m.frame_at reply)
-IsShown m net (command.Balance node) words reply = OfSeen net (place_of node) reply (PrintsBalance m.frame_at reply)
+IsShown m net (command.Start node) words reply = StartsNone net (node_at node) (started_by m.machine (recorded_seen m.frame_at net (node_at node)) words) reply
+IsShown m net (command.Flows node) words reply = AtSeen net (node_at node) reply (PrintsFlows m.frame_at reply)
+IsShown m net (command.Flow node flow) words reply = AtSeen net (node_at node) reply (PrintsFlow m.frame_at (flow_of flow) reply)
+IsShown m net (command.Vault node) words reply = OfSeen net (node_at node) reply (PrintsVault m.frame_at reply)
+IsShown m net (command.Balance node) words reply = OfSeen net (node_at node) reply (PrintsBalance m.frame_at reply)
 IsShown m net command.Book words reply = AtSeen net (notary_seen net) reply (PrintsBook m.frame_at reply)
-IsShown m net (command.TxLine node named) words reply = AtSeen net (place_of node) reply (PrintsTx m.frame_at named reply)
+IsShown m net (command.TxLine node named) words reply = AtSeen net (node_at node) reply (PrintsTx m.frame_at named reply)
 IsShown m net command.History words reply = PrintsHistory m.frame_at net reply
 IsShown m net command.Quit words reply = reply ≡ Quit
 IsShown m net command.Unknown words reply = IsRefused refusal.Syntax reply

@@ -26,7 +26,7 @@ use Rattle.network_core.specs.Drains.{with_world}
 use Rattle.node_shell.specs.Pairs.{first_disks, own_name}
 use Rattle.node_shell.specs.declared.statuses.Status.{Status}
 use Rattle.node_shell.specs.declared.statuses.Status.TheVariants as status
-use Rattle.node_shell.specs.Serve.{Link, RunsShort}
+use Rattle.node_shell.specs.Lines.{Link, RunsShort}
 use Rattle.node_shell.specs.Responds.{NetLink, NetShort}
 use Rattle.node_shell.specs.Story.{Story, ScriptRun, IsScriptStatus}
 use Rattle.node_shell.specs.Together.{PairLink, PairShort}

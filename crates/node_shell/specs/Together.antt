@@ -12,7 +12,7 @@ use Rattle.network_core.specs.declared.steps.Step.{Step}
 use Rattle.network_core.specs.Acknowledged.{Acknowledged, StandsOnce}
 use Rattle.network_core.specs.Drains.{Pair, with_world}
 use Rattle.network_core.specs.Moments.{Instant, IsChoice, IsKept}
-use Rattle.network_core.specs.Served.{PairServes, PairFollows}
+use Rattle.network_core.specs.Following.{PairServes, PairFollows}
 use Rattle.network_core.specs.Worlds.{World, NetSeen, Shows, Coherent}
 use Rattle.work_law.specs.Works.{WorldWorks}
 use Rattle.work_law.specs.Passages.{Passage, times_worked, IsPassed}
@@ -25,7 +25,7 @@ use Rattle.node_shell.specs.declared.replies.Reply.TheVariants.{Told}
 use Rattle.node_shell.specs.declared.statuses.Status.{Status}
 use Rattle.node_shell.specs.declared.statuses.Status.TheVariants as status
 use Rattle.node_shell.specs.Loads.{CourseStates, GoesOver}
-use Rattle.node_shell.specs.Serve.{Doing, asking, making, going, doing_of, recorded_in, waiting_in, RepliesTo, Leaves, Link, RunsShort}
+use Rattle.node_shell.specs.Lines.{Doing, asking, making, going, doing_of, recorded_in, waiting_in, RepliesTo, Leaves, Link, RunsShort}
 use Rattle.node_shell.specs.Responds.{net_states, recorded_seen, NetLink, NetLeft, NetShort}
 use Rattle.node_shell.specs.Story.{Story, begins, goes_on, all_lines, EndsWith, ScriptRun}
 

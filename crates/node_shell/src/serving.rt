@@ -8,7 +8,7 @@ ghost use Rattle.shell_words.specs.Script.{command_of, is_quit};
 ghost use Rattle.shell_words.specs.declared.commands.Command.TheVariants as command;
 ghost use Rattle.flow_machine.specs.Flows.{GivesWords};
 ghost use Rattle.node_shell.specs.Replies.{IsRefused, is_end};
-ghost use Rattle.node_shell.specs.Serve.{Comes, LineComes, StepComes, put_in, named_by, started_by, place_of, flow_of, frame_of, record_of, is_quit_command};
+ghost use Rattle.node_shell.specs.Lines.{Comes, LineComes, StepComes, put_in, named_by, started_by, node_at, flow_of, frame_of, record_of, is_quit_command};
 ghost use Rattle.node_shell.specs.Responds.{recorded_seen, AtSeen, PrintsFlows, PrintsFlow, OfSeen, PrintsVault, PrintsBalance, PrintsBook, PrintsTx, IsLineOf, notary_seen, PrintsHistory, StepResponds, CommandResponds, LineResponds, causes_up, given};
 
 use super::loads::load;
@@ -34,8 +34,8 @@ use std::thread::Threads;
 use tx_store::Store;
 
 /// The place of a node of this number. A number that is too great names none.
-fn place_of(node: u64) -> u8
-    ensures { result ≡ place_of node }
+fn node_at(node: u64) -> u8
+    ensures { result ≡ node_at node }
 {
     node.min(255) as u8
 }
@@ -202,7 +202,7 @@ fn start<B: Bay, F: FlowSet, J: Judge>(
     ensures count { length net.new.nodes ≡ length net.old.nodes }
     ensures goes_on { IfOk result (λ reply. is_end reply ≡ false) }
 {
-    let place = place_of(node);
+    let place = node_at(node);
     match started_by(alloc, net, place, words) {
         Ok((class, args)) => {
             let step = Step::Start {
@@ -423,32 +423,32 @@ fn serve<
         Command::Start { node } => start(alloc, net, node, words, contracts),
         Command::Turn { node, pick } => {
             let step = Step::Turn {
-                node: place_of(node),
+                node: node_at(node),
                 pick: pick_of(pick),
             };
             make(alloc, net, &step, contracts)
         }
         Command::Post { node } => {
-            let node = place_of(node);
+            let node = node_at(node);
             make(alloc, net, &Step::Post { node }, contracts)
         }
         Command::Deliver { node, place } => {
             let step = Step::Deliver {
-                node: place_of(node),
+                node: node_at(node),
                 at: frame_of(place),
             };
             make(alloc, net, &step, contracts)
         }
         Command::Repeat { node, place } => {
             let step = Step::Repeat {
-                node: place_of(node),
+                node: node_at(node),
                 at: frame_of(place),
             };
             make(alloc, net, &step, contracts)
         }
         Command::Lose { node, place } => {
             let step = Step::Lose {
-                node: place_of(node),
+                node: node_at(node),
                 at: frame_of(place),
             };
             make(alloc, net, &step, contracts)
@@ -459,7 +459,7 @@ fn serve<
             outcome,
         } => {
             let step = Step::Cut {
-                node: place_of(node),
+                node: node_at(node),
                 calls,
                 outcome,
             };
@@ -469,17 +469,17 @@ fn serve<
             alloc,
             net,
             &Step::Boot {
-                node: place_of(node),
+                node: node_at(node),
             },
             contracts,
         ),
         Command::Drain => make(alloc, net, &Step::Drain, contracts),
-        Command::Flows { node } => print_flows(alloc, net, place_of(node)),
-        Command::Flow { node, flow } => print_flow(alloc, net, place_of(node), flow_of(flow)),
-        Command::Vault { node } => print_vault(alloc, net, place_of(node)),
-        Command::Balance { node } => print_balance(alloc, net, place_of(node)),
+        Command::Flows { node } => print_flows(alloc, net, node_at(node)),
+        Command::Flow { node, flow } => print_flow(alloc, net, node_at(node), flow_of(flow)),
+        Command::Vault { node } => print_vault(alloc, net, node_at(node)),
+        Command::Balance { node } => print_balance(alloc, net, node_at(node)),
         Command::Book => print_book(alloc, net, notary_of(net)),
-        Command::TxLine { node, name } => print_tx(alloc, net, place_of(node), &name),
+        Command::TxLine { node, name } => print_tx(alloc, net, node_at(node), &name),
         Command::History => print_history(alloc, net),
         Command::Load { seed, count } => load(alloc, net, seed, count, contracts),
         Command::Workers {

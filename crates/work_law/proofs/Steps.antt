@@ -43,7 +43,7 @@ use Rattle.node_core.specs.Takes.{AcceptsAs, Responds, TakesAs, TakeAnswers, Sen
 use Rattle.network_core.specs.Answers.{IsCounted, take_sent}
 use Rattle.work_law.specs.Calls.{Turns, Settles, Takes, Sends, turn_commits, settle_commits, take_commits}
 use Rattle.work_law.specs.Works.{Stays, fell}
-use Rattle.network_core.specs.Serves.{WorldCommits, WorldFaults}
+use Rattle.network_core.specs.WorldSteps.{WorldCommits, WorldFaults}
 use Rattle.network_core.specs.Worlds.{NodeWorld, MaySpell, ShowsJournal, NodeShows, Sound}
 use Rattle.network_core.proofs.AgreeingSaid.{Says, says}
 use Rattle.network_core.proofs.AgreeingKeys.{sound_keys, found_by_key}

@@ -33,7 +33,7 @@ use Rattle.node_core.specs.Seen.{Pends}
 use Rattle.node_core.specs.Takes.{accepting, ack_to}
 use Rattle.wire_queue.specs.Wire.{IsIn}
 use Rattle.wire_queue.proofs.Wires.{in_left, in_right}
-use Rattle.network_core.specs.Serves.{WorldCommits, WorldFaults}
+use Rattle.network_core.specs.WorldSteps.{WorldCommits, WorldFaults}
 use Rattle.work_law.specs.Works.{Grows, Stays, fell}
 use Rattle.work_law.proofs.Worlds.{fell_then, grows_same, grows_one, grows_then, grows_wider, stays_same, stays_then, stays_commit, stays_fault, fell_fault}
 use Rattle.network_core.specs.Worlds.{NodeWorld, MaySpell, came_at, IsTrue, WaitsAt, AreArrived, Sound}

@@ -5,7 +5,7 @@ use Rattle.outside.specs.Faults.{Rose}
 use Rattle.net_base.specs.declared.causes.Event.{Event}
 use Rattle.session_wire.specs.Sessions.{Sent}
 use Rattle.net_model.specs.Environment.{Environment}
-use Rattle.network_core.specs.Serves.{WorldCommits, WorldFaults}
+use Rattle.network_core.specs.WorldSteps.{WorldCommits, WorldFaults}
 use Rattle.network_core.specs.Worlds.{NodeWorld}
 use Rattle.work_law.specs.Works.{Grows, Stays, fell}
 

@@ -1,7 +1,7 @@
 use Rattle.std.proofs.Common.{◌<◌, refl, sym, ◌∙◌, ap, length}
 use Rattle.std.proofs.lemmas.Option.{slice_get_read, same_Some}
 use Rattle.waiting_frames.specs.Waiting.{WaitingSeen}
-use Rattle.network_core.specs.Serves.{without}
+use Rattle.network_core.specs.WorldSteps.{without}
 use Rattle.network_core.proofs.Mailing.{parts_at, removed_is}
 use Rattle.network_core.proofs.mail.part.Goals as goal
 

@@ -1,6 +1,6 @@
 use Rattle.std.proofs.Common.{ap, ◌∙◌, sym}
 use Rattle.node_shell.specs.declared.replies.Reply.TheVariants.{Printed}
-use Rattle.node_shell.specs.Serve.{named_in}
+use Rattle.node_shell.specs.Lines.{named_in}
 use Rattle.node_shell.specs.Responds.{PrintsTx}
 use Rattle.node_shell.proofs.Shown.{found_at, seen_down, seen_up, tx_none, tx_some}
 use Rattle.node_shell.proofs.serving.print_tx.Goals as goal

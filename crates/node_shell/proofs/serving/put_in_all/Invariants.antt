@@ -1,5 +1,5 @@
 use Rattle.std.proofs.Common.{◌≡◌, ◌++◌, drop, map, string_bytes}
-use Rattle.node_shell.specs.Serve.{put_in}
+use Rattle.node_shell.specs.Lines.{put_in}
 use Rattle.node_shell.proofs.serving.put_in_all.Given as goal
 
 -- the words so far, and those of what is left with the ids put in, are all

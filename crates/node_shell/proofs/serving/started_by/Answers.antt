@@ -1,5 +1,5 @@
 use Rattle.std.proofs.Common.{◌≡◌, map, string_bytes, sym, ◌∙◌, subst, [], take, drop, length, ◌-◌}
-use Rattle.node_shell.specs.Serve.{put_in}
+use Rattle.node_shell.specs.Lines.{put_in}
 use Rattle.node_shell.specs.Responds.{recorded_seen}
 use Rattle.node_shell.proofs.Filling.{starts_as, unmarked_stay, none_put_in}
 use Rattle.node_shell.proofs.serving.started_by.Goals as goal

@@ -3,7 +3,7 @@ use Rattle.std.proofs.Common.{◌≡◌, ◌∙◌, ◌+◌, refl, arith, ap, le
 use Rattle.std.proofs.lemmas.Option.{slice_get_read}
 use Rattle.network_core.proofs.Pairing.{links_all, links_count, nets_end, nets_more, pairs_none, pairs_more, pairs_end, pairs_all, pairs_worlds, split_there}
 use Rattle.network_core.specs.Answers.{said}
-use Rattle.network_core.specs.Served.{NetServe, none}
+use Rattle.network_core.specs.Following.{NetServe, none}
 use Rattle.network_core.proofs.net.Net.apply_all.Goals as goal
 
 pub steps-init : goal.steps-init

@@ -1,6 +1,6 @@
 use Rattle.net_model.specs.Environment.{meaning}
 use Rattle.std.proofs.Common.{◌≡◌, ◌≤◌, length, take, vec_capacity, vec_len}
-use Rattle.network_core.specs.Served.{Links, NetServe, PairLinks}
+use Rattle.network_core.specs.Following.{Links, NetServe, PairLinks}
 use Rattle.network_core.specs.Drains.{KeepsPair}
 use Rattle.network_core.proofs.net.Net.apply_all.Given as goal
 

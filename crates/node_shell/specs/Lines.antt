@@ -22,7 +22,7 @@ use Rattle.network_core.specs.declared.steps.Outcome.{Outcome}
 use Rattle.network_core.specs.declared.steps.Step.{Step}
 use Rattle.network_core.specs.declared.steps.Step.TheVariants as step
 use Rattle.network_core.specs.Worlds.{World, NodeWorld, Coherent}
-use Rattle.network_core.specs.Served.{Serve, Follows}
+use Rattle.network_core.specs.Following.{Serve, Follows}
 use Rattle.work_law.specs.Works.{WorldWorks}
 use Rattle.flow_workers.specs.Ends.{KeepsTails}
 use Rattle.shell_words.specs.declared.commands.Command.{Command}
@@ -38,8 +38,8 @@ use Rattle.node_shell.specs.Loads.{Course, load, work, CourseStates, all_but, Go
 -- ---- what words ask for
 
 -- a number of a node, where it is too great the greatest that names a node's place: no network has that many
-abbrev pub place_of : ℕ → ℕ
-place_of n = min n 255
+abbrev pub node_at : ℕ → ℕ
+node_at n = min n 255
 
 -- a number of a flow, where it is too great the greatest that names a flow: no journal holds that many
 abbrev pub flow_of : ℕ → ℕ
@@ -95,14 +95,14 @@ start_step node (Err fault) = asking
 -- what a command does, by what each node recorded
 abbrev pub doing_of : {F : Type 0} → Machine F → (ℕ → List (Hash32 × SignedTx)) → Command → List (List ℕ) → Doing
 doing_of m recorded (command.Clock to) words = making (step.Clock (record { 0 = to }))
-doing_of m recorded (command.Start node) words = start_step (place_of node) (started_by m (recorded (place_of node)) words)
-doing_of m recorded (command.Turn node pick) words = making (step.Turn (place_of node) (option_map flow_of pick))
-doing_of m recorded (command.Post node) words = making (step.Post (place_of node))
-doing_of m recorded (command.Deliver node at) words = making (step.Deliver (place_of node) (frame_of at))
-doing_of m recorded (command.Repeat node at) words = making (step.Repeat (place_of node) (frame_of at))
-doing_of m recorded (command.Lose node at) words = making (step.Lose (place_of node) (frame_of at))
-doing_of m recorded (command.Cut node calls kind) words = making (step.Cut (place_of node) calls kind)
-doing_of m recorded (command.Boot node) words = making (step.Boot (place_of node))
+doing_of m recorded (command.Start node) words = start_step (node_at node) (started_by m (recorded (node_at node)) words)
+doing_of m recorded (command.Turn node pick) words = making (step.Turn (node_at node) (option_map flow_of pick))
+doing_of m recorded (command.Post node) words = making (step.Post (node_at node))
+doing_of m recorded (command.Deliver node at) words = making (step.Deliver (node_at node) (frame_of at))
+doing_of m recorded (command.Repeat node at) words = making (step.Repeat (node_at node) (frame_of at))
+doing_of m recorded (command.Lose node at) words = making (step.Lose (node_at node) (frame_of at))
+doing_of m recorded (command.Cut node calls kind) words = making (step.Cut (node_at node) calls kind)
+doing_of m recorded (command.Boot node) words = making (step.Boot (node_at node))
 doing_of m recorded command.Drain words = making step.Drain
 doing_of m recorded (command.Flows node) words = asking
 doing_of m recorded (command.Flow node flow) words = asking
@@ -213,13 +213,13 @@ AsksHistory e w reply =
 
 -- the reply to a command that asks
 abbrev pub Answers : {F : Type 0} → Environment F → World → Command → List (List ℕ) → Reply → Type 0
-Answers e w (command.Start node) words reply = RefusesWords w (place_of node) (started_by e.machine (recorded_in e w (place_of node)) words) reply
-Answers e w (command.Flows node) words reply = AtNode w (place_of node) reply (λ x. reply_text reply ≡ printed e (causes_in e w) (of_flows (place_of node)))
-Answers e w (command.Flow node flow) words reply = AtNode w (place_of node) reply (AsksFlow e w (place_of node) (flow_of flow) reply)
-Answers e w (command.Vault node) words reply = AtNode w (place_of node) reply (λ x. reply_text reply ≡ printed_ledger e (causes_in e w) (of_vault (place_of node)))
-Answers e w (command.Balance node) words reply = AtNode w (place_of node) reply (λ x. reply_text reply ≡ printed_ledger e (causes_in e w) (of_balance (place_of node)))
+Answers e w (command.Start node) words reply = RefusesWords w (node_at node) (started_by e.machine (recorded_in e w (node_at node)) words) reply
+Answers e w (command.Flows node) words reply = AtNode w (node_at node) reply (λ x. reply_text reply ≡ printed e (causes_in e w) (of_flows (node_at node)))
+Answers e w (command.Flow node flow) words reply = AtNode w (node_at node) reply (AsksFlow e w (node_at node) (flow_of flow) reply)
+Answers e w (command.Vault node) words reply = AtNode w (node_at node) reply (λ x. reply_text reply ≡ printed_ledger e (causes_in e w) (of_vault (node_at node)))
+Answers e w (command.Balance node) words reply = AtNode w (node_at node) reply (λ x. reply_text reply ≡ printed_ledger e (causes_in e w) (of_balance (node_at node)))
 Answers e w command.Book words reply = AtNode w e.notary.0 reply (λ x. reply_text reply ≡ printed_ledger e (causes_in e w) (of_book e.notary.0))
-Answers e w (command.TxLine node named) words reply = AtNode w (place_of node) reply (AsksTx e w (place_of node) named reply)
+Answers e w (command.TxLine node named) words reply = AtNode w (node_at node) reply (AsksTx e w (node_at node) named reply)
 Answers e w command.History words reply = AsksHistory e w reply
 Answers e w command.Quit words reply = reply ≡ Quit
 Answers e w command.Unknown words reply = IsRefused refusal.Syntax reply
@@ -244,14 +244,14 @@ Makes e w (going course) asked words reply v = GoesOver (world_states e) e.machi
 Makes e w asking asked words reply v = Answers e w asked words reply × (v ≡ w)
 
 -- the reply to a command with its words, and the world after it
-abbrev pub Serves : {F : Type 0} → Environment F → World → Command → List (List ℕ) → Reply → World → Type 0
-Serves e w asked words reply v = Makes e w (doing_of e.machine (recorded_in e w) asked words) asked words reply v
+abbrev pub CommandReplies : {F : Type 0} → Environment F → World → Command → List (List ℕ) → Reply → World → Type 0
+CommandReplies e w asked words reply v = Makes e w (doing_of e.machine (recorded_in e w) asked words) asked words reply v
 
 -- the reply to a line, and the world after it
 abbrev pub RepliesTo : {F : Type 0} → Environment F → World → List ℕ → Reply → World → Type 0
 RepliesTo e w line reply v =
     MatchBool (has_no_answer line) ((reply ≡ Silence) × (v ≡ w))
-    (MatchBool (is_readable line) (Serves e w (command_of (words_of line)) (words_of line) reply v) (IsRefused refusal.Syntax reply × (v ≡ w)))
+    (MatchBool (is_readable line) (CommandReplies e w (command_of (words_of line)) (words_of line) reply v) (IsRefused refusal.Syntax reply × (v ≡ w)))
 
 -- one link of a story: a line, its answer, and the world after it
 pub record Link {F : Type 0} (e : Environment F) (w : World) (line text : List ℕ) (v : World) : Type 0 where
@@ -273,7 +273,7 @@ RunsShort e w line v = Leaves e (doing_of e.machine (recorded_in e w) (asked_by 
 
 -- how a command ended: its reply, or want of memory
 abbrev pub Comes : {F E : Type 0} → Environment F → World → Command → List (List ℕ) → Result Reply E → World → Type 0
-Comes e w asked words (Ok reply) v = Serves e w asked words reply v
+Comes e w asked words (Ok reply) v = CommandReplies e w asked words reply v
 Comes e w asked words (Err fault) v = Leaves e (doing_of e.machine (recorded_in e w) asked words) w v
 
 -- how a line ended: its reply, or want of memory

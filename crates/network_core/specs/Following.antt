@@ -1,4 +1,4 @@
--- Serve: what each step makes of a world, and what it answers.
+-- What each step makes of a world, and what it answers; steps one after another; and the same of networks, alone and with the worlds that they show.
 use Rattle.std.specs.Prelude.{◌≡◌, ◌⊎◌, ◌<◌, ◌≤◌, Bool, List, [], ◌∷◌, ◌++◌, Option, Some, None, true, false}
 use Rattle.net_base.specs.declared.names.Identity.{Identity}
 use Rattle.net_model.specs.Environment.{Environment, environment, Meaning}
@@ -9,7 +9,7 @@ use Rattle.network_core.specs.declared.steps.Outcome.TheVariants as outcome
 use Rattle.network_core.specs.declared.steps.Step.{Step}
 use Rattle.network_core.specs.declared.steps.Step.TheVariants as step
 use Rattle.network_core.specs.Worlds.{World, NetSeen}
-use Rattle.network_core.specs.Serves.{WorldClock, WorldPlace, WorldStarts, WorldTurns, WorldPosts, WorldHands, LosesAt, WorldCuts, WorldBoots}
+use Rattle.network_core.specs.WorldSteps.{WorldClock, WorldPlace, WorldStarts, WorldTurns, WorldPosts, WorldHands, LosesAt, WorldCuts, WorldBoots}
 use Rattle.network_core.specs.Drains.{Pair, KeepsPair, PairDrains, WorldDrains}
 
 -- what each step makes of a world, and its outcome, none at want of memory
