@@ -1,15 +1,15 @@
 -- What the work leaves.
-use Rattle.std.proofs.Common.{◌≡◌, inl, inr, ⊎_elim, ℕ, zero, suc, Bool, false, List, [], ◌∷◌, ◌++◌, length, map, take, drop, Vec, Global, refl, sym, ap, subst, ◌∙◌, arith}
+use Rattle.std.proofs.Common.{◌≡◌, ◌+◌, ◌≤◌, inl, inr, ⊎_elim, ℕ, zero, suc, Bool, true, false, if◌then◌else◌, List, [], ◌∷◌, ◌++◌, length, map, take, drop, Vec, Global, refl, sym, ap, subst, ◌∙◌, arith, length-append}
 use Rattle.std.specs.List.{AllByRecursion}
 use lib.ListN.{take-append-drop}
 use Rattle.std.proofs.lemmas.List.{length-map}
-use Rattle.net_base.proofs.Lists.{get_beside, get_map, of_map}
+use Rattle.net_base.proofs.Lists.{all_get, get_beside, get_map, of_map}
 use Rattle.net_base.proofs.Options.{some_eq}
-use Rattle.waiting_frames.specs.Waiting.{WaitingSeen}
+use Rattle.waiting_frames.specs.Waiting.{WaitingSeen, is_waiting, joined}
 use Rattle.wire_queue.specs.declared.rule.Seen.{Seen}
 use Rattle.wire_queue.specs.Wire.{Frame, IsIn}
 use Rattle.wire_rows.specs.Rows.{Spread}
-use Rattle.waiting_heads.specs.Heads.{PutEach}
+use Rattle.waiting_heads.specs.Heads.{PutEach, joined_all}
 use Rattle.waiting_heads.proofs.Turns.{put_has}
 use Rattle.net_model.specs.Environment.{Meaning}
 use Rattle.node_core.specs.Seen.{NodeSeen, IsBy}
@@ -42,6 +42,10 @@ pub lists_each : {F : Type 0} (m : Meaning F) (now commits : ℕ) (came nodes : 
 lists_each m now commits came nodes old mid lists same w =
     let l = ap (λ (x : List (List Frame)). length x) same in
     omega (arith, l, w.lists, length-map lists (λ (v : Vec Frame Global). v.items), length-map old (λ (w : WaitingSeen). w.frames), length-map mid (λ (w : WaitingSeen). w.frames))
+
+pub few_items : (lists : List (Vec Frame Global)) → AllByRecursion (λ (v : Vec Frame Global). length v.items ≤ 1024) lists → AllByRecursion (λ (l : List Frame). length l ≤ 1024) (map (λ (v : Vec Frame Global). v.items) lists)
+few_items [] h = h
+few_items (v ∷ lists) h = (h.0, few_items lists h.1)
 
 -- ---- what was left is put before what waits
 
@@ -81,21 +85,40 @@ module _ {F : Type 0} (m : Meaning F) (now : ℕ) (came nodes : List NodeSeen) (
     sum = w.committed;
   }
 
-tails_put : (old new : List WaitingSeen) (lists : List (List Frame)) → length lists ≡ length old → PutEach lists old new → KeepsTails (frames_of old) (frames_of new)
-tails_put old new lists len put = record {
+-- no more stand first than were put there
+one_more : (x : Frame) (ys : List Frame) → length (joined x ys) ≤ length ys + 1
+one_more x ys = by (is_waiting x ys)
+  where
+    by : (b : Bool) → length (if b then ys else ys ++ x ∷ []) ≤ length ys + 1
+    by true = omega arith
+    by false = omega (arith, length-append ys (x ∷ []))
+
+joined_few : (xs ys : List Frame) → length (joined_all xs ys) ≤ length ys + length xs
+joined_few [] ys = omega arith
+joined_few (x ∷ xs) ys = omega (arith, joined_few xs (joined x ys), one_more x ys)
+
+tails_put : (old new : List WaitingSeen) (lists : List (List Frame)) → length lists ≡ length old → AllByRecursion (λ (l : List Frame). length l ≤ 1024) lists → PutEach lists old new → KeepsTails (frames_of old) (frames_of new)
+tails_put old new lists len few put = record {
   count = length-map new (λ (w : WaitingSeen). w.frames) ∙ put.count ∙ sym (length-map old (λ (w : WaitingSeen). w.frames));
   each = λ q w v at be.
       let u = of_map (λ (w : WaitingSeen). w.frames) old q w at in
       let z = of_map (λ (w : WaitingSeen). w.frames) new q v be in
       let l = get_beside old lists q u.0 (sym len) u.1 in
       let first = put.each q l.0 u.0 z.0 l.1 u.1 z.1 in
-      (first.front, sym z.2 ∙ first.is ∙ ap (λ (f : List Frame). first.front ++ drop 1024 f) u.2);
+      let all = ap (λ (f : List Frame). length f) first.once in
+      let most = all_get (λ (l : List Frame). length l ≤ 1024) lists q l.0 few l.1 in
+      (first.front, sym z.2 ∙ first.is ∙ ap (λ (f : List Frame). first.front ++ drop 1024 f) u.2, omega (arith, all, most, length-append (drop 1024 u.0.frames) first.front, joined_few l.0 (drop 1024 u.0.frames)));
 }
+
+take_few : (n : ℕ) (xs : List Frame) → length (take n xs) ≤ n
+take_few zero xs = omega arith
+take_few (suc n) [] = omega arith
+take_few (suc n) (x ∷ xs) = omega (arith, take_few n xs)
 
 tails_same : (lists : List (List Frame)) → KeepsTails lists lists
 tails_same lists = record {
   count = refl;
-  each = λ q w v at be. (take 1024 w, some_eq (sym be ∙ at) ∙ sym (take-append-drop 1024 w));
+  each = λ q w v at be. (take 1024 w, some_eq (sym be ∙ at) ∙ sym (take-append-drop 1024 w), take_few 1024 w);
 }
 
 -- ---- nothing was done
@@ -129,8 +152,8 @@ abbrev net : List NodeSeen → List (List Frame) → ℕ → NetSeen
 net nodes waiting now = record { nodes = nodes; waiting = waiting; now = now }
 
 pub worked_on : {F : Type 0} (m : Meaning F) (now : ℕ) (came nodes : List NodeSeen) (old mid new : List WaitingSeen) (lists : List (List Frame)) (commits : ℕ) → IsNet m.frame_at (net came (frames_of old) now) → frames_of mid ≡ frames_of old → Works m now came (frames_of old) nodes lists commits
-    → PutEach lists mid new → AllByRecursion (λ (n : NodeSeen). IsBy m.frame_at n.journal now) nodes → WorkedOn m (net came (frames_of old) now) (net nodes (frames_of new) now) commits false
-worked_on m now came nodes old mid new lists commits is same w put by =
+    → AllByRecursion (λ (l : List Frame). length l ≤ 1024) lists → PutEach lists mid new → AllByRecursion (λ (n : NodeSeen). IsBy m.frame_at n.journal now) nodes → WorkedOn m (net came (frames_of old) now) (net nodes (frames_of new) now) commits false
+worked_on m now came nodes old mid new lists commits is same w few put by =
     let here : Works m now came (frames_of mid) nodes lists commits = subst (λ (l : List (List Frame)). Works m now came l nodes lists commits) (sym same) w in
     let put_works = works_put m now came nodes commits mid new lists here put in
     let done : Works m now came (frames_of old) nodes (frames_of new) commits = subst (λ (l : List (List Frame)). Works m now came l nodes (frames_of new) commits) same put_works in
@@ -139,7 +162,7 @@ worked_on m now came nodes old mid new lists commits is same w put by =
       works = done;
       leads = works_coherently m now commits came nodes (frames_of old) (frames_of new) done;
       lasts = nodes_last m now came nodes commits (frames_of old) (frames_of new) done;
-      tails = subst (λ (l : List (List Frame)). KeepsTails l (frames_of new)) same (tails_put mid new lists len put);
+      tails = subst (λ (l : List (List Frame)). KeepsTails l (frames_of new)) same (tails_put mid new lists len few put);
       now = refl;
       whole = record {
         by = by;

@@ -11,10 +11,10 @@ use Rattle.wire_queue.specs.declared.rule.Seen.{Seen}
 use Rattle.wire_queue.specs.Wire.{Frame, IsIn, FromOrigins}
 use Rattle.wire_queue.proofs.Wires.{in_append, in_left, in_right, in_origins}
 use Rattle.node_core.specs.Seen.{NodeSeen}
-use Rattle.wire_rows.specs.Moves.{Moves}
+use Rattle.wire_rows.specs.Exchanges.{Exchanges}
 use Rattle.wire_rows.specs.Ends.{Joined, Drained}
 use Rattle.wire_rows.proofs.Drains.{left_in}
-use Rattle.flow_workers.specs.Desks.{Worked}
+use Rattle.flow_workers.specs.Desks.{WorkedAt}
 use Rattle.work_law.specs.Calls.{Went}
 use Rattle.flow_workers.specs.Gathers.{Gathered, Gathers}
 use Rattle.work_law.specs.Works.{Log, Source, Works, added}
@@ -41,7 +41,7 @@ source_more waited logs log q x (inr (r, one, at, to)) = inr (r, one, front logs
 
 module _ {F : Type 0} (m : Meaning F) (now : ℕ) (came : List NodeSeen) (waited : List (List Frame)) where
   -- one node more
-  pub gathered_more : (nodes : List NodeSeen) (own row new : List Seen) (parts commits some more : ℕ) (node : NodeSeen) → Gathered m now came waited nodes own parts commits → Worked m now came (length nodes) node row some → Joined own row new → more ≡ commits + some
+  pub gathered_more : (nodes : List NodeSeen) (own row new : List Seen) (parts commits some more : ℕ) (node : NodeSeen) → Gathered m now came waited nodes own parts commits → WorkedAt m now came (length nodes) node row some → Joined own row new → more ≡ commits + some
       → Gathered m now came waited (nodes ++ node ∷ []) new (parts + 1) more
   gathered_more nodes own row new parts commits some more node g w joined few = record {
     logs = g.logs ++ w.log ∷ [];
@@ -87,7 +87,7 @@ module _ {F : Type 0} (m : Meaning F) (now : ℕ) (came : List NodeSeen) (waited
       past (y ∷ xs) (suc n) x at is = past xs n x at (omega (arith, is))
 
   -- the call's own passes pull on
-  pub gathered_moves : (nodes : List NodeSeen) (own new : List Seen) (parts commits at : ℕ) (took : List Frame) → Gathered m now came waited nodes own parts commits → Moves at took [] own new → Gathered m now came waited nodes new parts commits
+  pub gathered_moves : (nodes : List NodeSeen) (own new : List Seen) (parts commits at : ℕ) (took : List Frame) → Gathered m now came waited nodes own parts commits → Exchanges at took [] own new → Gathered m now came waited nodes new parts commits
   gathered_moves nodes own new parts commits at took g moves = record {
     logs = g.logs;
     logged = g.logged;
@@ -129,11 +129,11 @@ module _ {F : Type 0} (m : Meaning F) (now : ℕ) (came : List NodeSeen) where
       let is : parts ≡ parts + length nodes = let l = ap (λ (x : List NodeSeen). length x) none in omega (arith, l) in
       subst (λ (n : ℕ). Gathered m now came waited nodes own n 0) is (subst (λ (l : List NodeSeen). Gathered m now came waited l own parts 0) (sym none) g)
 
-  pub gathers_step : (first : List Seen) (nodes later : List NodeSeen) (own row new : List Seen) (commits some more place : ℕ) (node : NodeSeen) → later ≡ nodes ++ node ∷ [] → place ≡ length nodes → Gathers m now came first nodes own commits → Worked m now came place node row some → Joined own row new → more ≡ commits + some
+  pub gathers_step : (first : List Seen) (nodes later : List NodeSeen) (own row new : List Seen) (commits some more place : ℕ) (node : NodeSeen) → later ≡ nodes ++ node ∷ [] → place ≡ length nodes → Gathers m now came first nodes own commits → WorkedAt m now came place node row some → Joined own row new → more ≡ commits + some
       → Gathers m now came first later new more
   unfolding Gathers
   gathers_step first nodes later own row new commits some more place node is at g w joined sum waited parts begins =
-      let next = gathered_more m now came waited nodes own row new (parts + length nodes) commits some more node (g waited parts begins) (subst (λ (p : ℕ). Worked m now came p node row some) at w) joined sum in
+      let next = gathered_more m now came waited nodes own row new (parts + length nodes) commits some more node (g waited parts begins) (subst (λ (p : ℕ). WorkedAt m now came p node row some) at w) joined sum in
       let len : parts + length nodes + 1 ≡ parts + length (nodes ++ node ∷ []) = omega (arith, length-append nodes (node ∷ [])) in
       subst (λ (l : List NodeSeen). Gathered m now came waited l new (parts + length l) more) (sym is) (subst (λ (n : ℕ). Gathered m now came waited (nodes ++ node ∷ []) new n more) len next)
 
@@ -150,7 +150,7 @@ module _ {F : Type 0} (m : Meaning F) (now : ℕ) (came : List NodeSeen) where
 
   -- all is put together: the nodes are out, and the inboxes were drained by passes with all shares
   pub works_all : (waited : List (List Frame)) (own mid new : List Seen) (nodes : List NodeSeen) (lists : List (List Frame)) (k commits : ℕ) → Spread waited k own → k ≤ 16 → length nodes ≡ k → length came ≡ k → length waited ≡ k → length lists ≡ k → length new ≡ k
-      → Gathers m now came own nodes mid commits → Moves 0 [] [] mid new → Drained k lists mid new → Works m now came waited nodes lists commits
+      → Gathers m now came own nodes mid commits → Exchanges 0 [] [] mid new → Drained k lists mid new → Works m now came waited nodes lists commits
   unfolding Gathers
   works_all waited own mid new nodes lists k commits spread few nodes_k came_k waited_k lists_k new_k gathers moves drained =
       let g = gathers waited (32 - k) (begun waited own k spread) in

@@ -7,7 +7,7 @@ use Rattle.wire_queue.specs.declared.inbox.InboxPass.{InboxPass}
 use Rattle.wire_queue.specs.Wire.{Frame, IsIn, fresh}
 use Rattle.wire_queue.proofs.Wires.{in_append}
 use Rattle.session_frames.specs.declared.sending.Outgoing.{Outgoing}
-use Rattle.wire_rows.specs.Moves.{Moves}
+use Rattle.wire_rows.specs.Exchanges.{Exchanges}
 use Rattle.wire_rows.proofs.Moved.{sent_left, sent_right, moves_then}
 use Rattle.net_model.specs.Environment.{Meaning}
 use Rattle.ledger_acts.specs.declared.job.Job.{Job}
@@ -20,12 +20,12 @@ use Rattle.node_core.specs.Seen.{NodeSeen, IsBy}
 use Rattle.network_core.specs.Answers.{take_sent}
 use Rattle.work_law.specs.Calls.{Turns, Settles, Takes, Sends, Went, here, by_turn, by_settle, by_take, by_send, turn_commits, settle_commits, take_commits}
 use Rattle.work_law.proofs.Lasting.{histories_last}
-use Rattle.flow_workers.specs.Desks.{Worked, Kept}
+use Rattle.flow_workers.specs.Desks.{WorkedAt, Kept}
 
 module _ {F : Type 0} (m : Meaning F) (now : ℕ) (came : List NodeSeen) (p : ℕ) where
   -- the passes went on: the frames that were pulled were taken, and those that were posted were sent
-  went_on : (took : List Frame) (sent : List Outgoing) (node next : NodeSeen) (old new : List Seen) (commits after more : ℕ) → (w : Worked m now came p node old commits) → Moves p took sent old new → after ≡ commits + more
-      → Went m now w.from next (w.log.took ++ took) (w.log.sent ++ sent) (w.log.count + more) → Worked m now came p next new after
+  went_on : (took : List Frame) (sent : List Outgoing) (node next : NodeSeen) (old new : List Seen) (commits after more : ℕ) → (w : WorkedAt m now came p node old commits) → Exchanges p took sent old new → after ≡ commits + more
+      → Went m now w.from next (w.log.took ++ took) (w.log.sent ++ sent) (w.log.count + more) → WorkedAt m now came p next new after
   went_on took sent node next old new commits after more w moves is went = record {
     from = w.from;
     came_at = w.came_at;
@@ -42,7 +42,7 @@ module _ {F : Type 0} (m : Meaning F) (now : ℕ) (came : List NodeSeen) (p : �
   }
 
   -- a call that takes and sends no frame
-  silent : (node next : NodeSeen) (seen : List Seen) (commits after more : ℕ) → (w : Worked m now came p node seen commits) → after ≡ commits + more → Went m now w.from next w.log.took w.log.sent (w.log.count + more) → Worked m now came p next seen after
+  silent : (node next : NodeSeen) (seen : List Seen) (commits after more : ℕ) → (w : WorkedAt m now came p node seen commits) → after ≡ commits + more → Went m now w.from next w.log.took w.log.sent (w.log.count + more) → WorkedAt m now came p next seen after
   silent node next seen commits after more w is went = record {
     from = w.from;
     came_at = w.came_at;
@@ -54,7 +54,7 @@ module _ {F : Type 0} (m : Meaning F) (now : ℕ) (came : List NodeSeen) (p : �
     one_share = w.one_share;
   }
 
-  pub began : (node : NodeSeen) (passes : List InboxPass) → slice_get came p ≡ Some node → AllByRecursion (λ (q : InboxPass). q.seen ≡ fresh) passes → Worked m now came p node (map (λ (q : InboxPass). q.seen) passes) 0
+  pub began : (node : NodeSeen) (passes : List InboxPass) → slice_get came p ≡ Some node → AllByRecursion (λ (q : InboxPass). q.seen ≡ fresh) passes → WorkedAt m now came p node (map (λ (q : InboxPass). q.seen) passes) 0
   began node passes at all = record {
     from = node;
     came_at = at;
@@ -70,13 +70,13 @@ module _ {F : Type 0} (m : Meaning F) (now : ℕ) (came : List NodeSeen) (p : �
       blank q s is = let found = of_map (λ (q : InboxPass). q.seen) passes q s is in sym found.2 ∙ all_get (λ (q : InboxPass). q.seen ≡ fresh) passes q found.0 all found.1
 
   -- a node commits 65,536 records at most
-  pub worked_few : (node : NodeSeen) (seen : List Seen) (commits : ℕ) → Worked m now came p node seen commits → commits ≤ 65536
+  pub worked_few : (node : NodeSeen) (seen : List Seen) (commits : ℕ) → WorkedAt m now came p node seen commits → commits ≤ 65536
   worked_few node seen commits w =
       let last = histories_last m now w.from node w.log.took w.log.sent w.log.count w.went in
       omega (arith, w.counted, last.1)
 
   -- without a call of the node
-  worked_moves : (node : NodeSeen) (old new : List Seen) (commits : ℕ) → Worked m now came p node old commits → Moves p [] [] old new → Worked m now came p node new commits
+  worked_moves : (node : NodeSeen) (old new : List Seen) (commits : ℕ) → WorkedAt m now came p node old commits → Exchanges p [] [] old new → WorkedAt m now came p node new commits
   worked_moves node old new commits w moves =
       went_on [] [] node node old new commits commits 0 w moves (omega arith)
       (subst (λ (a : List Frame). Went m now w.from node a (w.log.sent ++ []) (w.log.count + 0)) (sym (append-nil w.log.took))
@@ -86,7 +86,7 @@ module _ {F : Type 0} (m : Meaning F) (now : ℕ) (came : List NodeSeen) (p : �
       same_count : (from n : NodeSeen) (took : List Frame) (sent : List Outgoing) (count : ℕ) → Went m now from n took sent count → Went m now from n took sent (count + 0)
       same_count from n took sent count went = let is : count ≡ count + 0 = omega arith in subst (λ (c : ℕ). Went m now from n took sent c) is went
 
-  worked_send : (node : NodeSeen) (frames : List Outgoing) (old new : List Seen) (commits : ℕ) → Worked m now came p node old commits → Sends m.frame_at node (Ok frames) → Moves p [] frames old new → Worked m now came p node new commits
+  worked_send : (node : NodeSeen) (frames : List Outgoing) (old new : List Seen) (commits : ℕ) → WorkedAt m now came p node old commits → Sends m.frame_at node (Ok frames) → Exchanges p [] frames old new → WorkedAt m now came p node new commits
   worked_send node frames old new commits w sends moves =
       let is : w.log.count ≡ w.log.count + 0 = omega arith in
       went_on [] frames node node old new commits commits 0 w moves (omega arith)
@@ -109,19 +109,19 @@ module _ {F : Type 0} (m : Meaning F) (now : ℕ) (came : List NodeSeen) (p : �
     silent node next seen commits after (settle_commits answer) kept.1 is (by_settle job answer kept.1.went (subst (λ (j : ℕ). Settles m j job node answer next) same settles)),
   )
 
-  pub send_keeps : (node : NodeSeen) (frames : List Outgoing) (old new : List Seen) (commits : ℕ) → Kept m now came p node old commits → Sends m.frame_at node (Ok frames) → ((at : ℕ) → Moves at [] frames old new) → Kept m now came p node new commits
+  pub send_keeps : (node : NodeSeen) (frames : List Outgoing) (old new : List Seen) (commits : ℕ) → Kept m now came p node old commits → Sends m.frame_at node (Ok frames) → ((at : ℕ) → Exchanges at [] frames old new) → Kept m now came p node new commits
   send_keeps node frames old new commits kept sends moves = (kept.0, worked_send node frames old new commits kept.1 sends (moves p))
 
   -- nothing was pulled, or it was lost
-  pub moves_keep : (node : NodeSeen) (old new : List Seen) (commits : ℕ) → Kept m now came p node old commits → Moves p [] [] old new → Kept m now came p node new commits
+  pub moves_keep : (node : NodeSeen) (old new : List Seen) (commits : ℕ) → Kept m now came p node old commits → Exchanges p [] [] old new → Kept m now came p node new commits
   moves_keep node old new commits kept moves = (kept.0, worked_moves node old new commits kept.1 moves)
 
   -- a frame was pulled, and taken; it may have been posted again, and then the acknowledgement was posted
   pub take_keeps : (t : ℕ) → t ≡ now → (node next : NodeSeen) (bytes : Frame) (old mid then new : List Seen) (acks : List Outgoing) (commits after : ℕ) (answer : Result Taken TakeFault) → Kept m now came p node old commits → IsBy m.frame_at next.journal t
-      → Takes m t bytes node answer next → Moves p (bytes ∷ []) [] old mid → Moves p [] [] mid then → ((at : ℕ) → Moves at [] acks then new) → acks ≡ take_sent answer → after ≡ commits + take_commits answer → Kept m now came p next new after
+      → Takes m t bytes node answer next → Exchanges p (bytes ∷ []) [] old mid → Exchanges p [] [] mid then → ((at : ℕ) → Exchanges at [] acks then new) → acks ≡ take_sent answer → after ≡ commits + take_commits answer → Kept m now came p next new after
   take_keeps t same node next bytes old mid then new acks commits after answer kept by takes first again last acks_are is =
-      let moves : Moves p (bytes ∷ []) acks old new = moves_then p (bytes ∷ []) [] [] acks old then new (moves_then p (bytes ∷ []) [] [] [] old mid then first again) (last p) in (
+      let moves : Exchanges p (bytes ∷ []) acks old new = moves_then p (bytes ∷ []) [] [] acks old then new (moves_then p (bytes ∷ []) [] [] [] old mid then first again) (last p) in (
         subst (λ (j : ℕ). IsBy m.frame_at next.journal j) same by,
-        went_on (bytes ∷ []) (take_sent answer) node next old new commits after (take_commits answer) kept.1 (subst (λ (l : List Outgoing). Moves p (bytes ∷ []) l old new) acks_are moves) is
+        went_on (bytes ∷ []) (take_sent answer) node next old new commits after (take_commits answer) kept.1 (subst (λ (l : List Outgoing). Exchanges p (bytes ∷ []) l old new) acks_are moves) is
             (by_take bytes answer kept.1.went (subst (λ (j : ℕ). Takes m j bytes node answer next) same takes)),
       )

@@ -2,7 +2,7 @@
 use Rattle.std.specs.Prelude.{◌≡◌, ℕ, List, slice_get, Some}
 use Rattle.wire_queue.specs.declared.rule.Seen.{Seen}
 use Rattle.wire_queue.specs.Wire.{Frame, IsIn}
-use Rattle.wire_rows.specs.Moves.{SentTo}
+use Rattle.wire_rows.specs.Exchanges.{SentTo}
 use Rattle.net_model.specs.Environment.{Meaning}
 use Rattle.node_core.specs.Seen.{NodeSeen, IsBy}
 use Rattle.work_law.specs.Calls.{Went}
@@ -16,7 +16,7 @@ pub record DeskSeen : Type 0 where
   pub commits : ℕ
 
 -- the node at a place went on from what it came as, by calls that are answered as their clauses say; what it took and sent is what its passes pulled and posted, and it committed this many records
-pub record Worked {F : Type 0} (m : Meaning F) (now : ℕ) (came : List NodeSeen) (p : ℕ) (node : NodeSeen) (seen : List Seen) (commits : ℕ) : Type 0 where
+pub record WorkedAt {F : Type 0} (m : Meaning F) (now : ℕ) (came : List NodeSeen) (p : ℕ) (node : NodeSeen) (seen : List Seen) (commits : ℕ) : Type 0 where
   pub from : NodeSeen
   pub came_at : slice_get came p ≡ Some from
   pub log : Log
@@ -30,4 +30,4 @@ pub record Worked {F : Type 0} (m : Meaning F) (now : ℕ) (came : List NodeSeen
 
 -- and no cause of its journal is later than the moment of the call
 abbrev pub Kept : {F : Type 0} → Meaning F → ℕ → List NodeSeen → ℕ → NodeSeen → List Seen → ℕ → Type 0
-Kept m now came p node seen commits = IsBy m.frame_at node.journal now × Worked m now came p node seen commits
+Kept m now came p node seen commits = IsBy m.frame_at node.journal now × WorkedAt m now came p node seen commits

@@ -5,7 +5,7 @@ ghost use Rattle.std.specs.List.{AllByRecursion};
 ghost use Rattle.signing.specs.Marks.{keyed_mark};
 ghost use Rattle.wire_queue.specs.declared.rule.Seen.{Seen};
 ghost use Rattle.wire_queue.specs.Wire.{fresh, IsIn};
-ghost use Rattle.wire_rows.specs.Moves.{Moves};
+ghost use Rattle.wire_rows.specs.Exchanges.{Exchanges};
 ghost use Rattle.net_model.specs.Environment.{meaning};
 ghost use Rattle.ledger_acts.specs.Jobs.{IsRun};
 ghost use Rattle.node_core.specs.Seen.{IsBy};
@@ -197,7 +197,7 @@ fn post_again<R: Wait>(
     requires had { (s : Seen) → slice_get (map (λ p. p.seen) passes.old.items) at ≡ Some s
         → IsIn frame s.pulled }
     ensures of { map (λ p. p.of) passes.new.items ≡ inboxes.now }
-    ensures moves { Moves at [] [] (map (λ p. p.seen) passes.old.items)
+    ensures moves { Exchanges at [] [] (map (λ p. p.seen) passes.old.items)
         (map (λ p. p.seen) passes.new.items) }
 {
     if again {

@@ -14,4 +14,4 @@ mod turns;
 mod working;
 
 pub use turns::Plan;
-pub use working::{Worked, work};
+pub use working::{WorkDone, work};

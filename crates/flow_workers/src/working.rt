@@ -30,7 +30,7 @@ use wire_rows::drain_all;
 
 /// What a call of `work` leaves.
 #[derive(Drop)]
-pub struct Worked<D: Disk, F: FlowSet> {
+pub struct WorkDone<D: Disk, F: FlowSet> {
     /// The nodes, in the order of their places. No job is out.
     pub nodes: Vec<Node<D, F>>,
     /// The frames that wait at each node.
@@ -110,13 +110,13 @@ fn work_as<
 }
 
 /// Nothing was done, for want of memory.
-fn unworked<D: Disk, F: FlowSet>(nodes: Vec<Node<D, F>>, waiting: Vec<Waiting>) -> Worked<D, F>
+fn unworked<D: Disk, F: FlowSet>(nodes: Vec<Node<D, F>>, waiting: Vec<Waiting>) -> WorkDone<D, F>
     ensures nodes { result.nodes.items ≡ nodes.items }
     ensures waiting { result.waiting.items ≡ waiting.items }
     ensures commits { result.commits ≡ 0 }
     ensures short { result.short ≡ true }
 {
-    Worked {
+    WorkDone {
         nodes,
         waiting,
         commits: 0,
@@ -150,7 +150,7 @@ pub fn work<
     contracts: &C,
     plan: Plan,
     gate: &G,
-) -> Worked<D, F>
+) -> WorkDone<D, F>
     requires { IsNet F.reading (net_of nodes.items waiting.items now.0) }
     ensures { WorkedOn (meaning F.machine F.reading (C.judges contracts.now))
         (net_of nodes.items waiting.items now.0)
@@ -171,7 +171,7 @@ pub fn work<
             },
         ) => {
             put_each(&mut waiting, lists);
-            Worked {
+            WorkDone {
                 nodes,
                 waiting,
                 commits,

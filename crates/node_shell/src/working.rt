@@ -13,7 +13,7 @@ use super::replies::Reply;
 use super::serving::refused;
 use contract_verify::Judge;
 use flow_machine::FlowSet;
-use flow_workers::{Plan, Worked, work as work_on};
+use flow_workers::{Plan, WorkDone, work as work_on};
 use net_base::Moment;
 use network_core::{Net, NetParts, Refusal};
 use outside::{Bay, Gate};
@@ -56,7 +56,7 @@ fn work_at<
         spare,
         now,
     } = net.into_parts();
-    let Worked {
+    let WorkDone {
         nodes,
         waiting,
         commits,

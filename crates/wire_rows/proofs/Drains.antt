@@ -1,5 +1,5 @@
 -- One inbox more is drained.
-use Rattle.std.proofs.Common.{◌≤◌, ◌≡◌, ⊎_elim, ℕ, zero, suc, ◌+◌, ◌<◌, List, [], ◌∷◌, ◌++◌, length, length-append, map, Vec, Global, slice_get, Some, refl, sym, ap, subst, ◌∙◌, arith}
+use Rattle.std.proofs.Common.{◌≡◌, ⊎_elim, ℕ, zero, suc, ◌+◌, ◌<◌, List, [], ◌∷◌, ◌++◌, length, length-append, map, Vec, Global, slice_get, Some, refl, sym, ap, subst, ◌∙◌, arith}
 use Rattle.std.proofs.lemmas.Bool.{cases_eq}
 use Rattle.std.proofs.lemmas.List.{length-map}
 use Rattle.wire_rows.proofs.Joins.{map_snoc}
@@ -9,11 +9,11 @@ use Rattle.wire_queue.specs.declared.rule.Seen.{Seen}
 use Rattle.wire_queue.specs.Wire.{Frame, IsIn, FromOrigins, Settled}
 use Rattle.wire_queue.proofs.Wires.{in_right}
 use Rattle.session_frames.specs.declared.sending.Outgoing.{Outgoing}
-use Rattle.wire_rows.specs.Moves.{Moves, changed, pulled_all}
+use Rattle.wire_rows.specs.Exchanges.{Exchanges, changed, pulled_all}
 use Rattle.wire_rows.proofs.Steps.{changed_length, changed_other, changed_here}
 use Rattle.wire_rows.specs.Ends.{Drained}
 
-pub moves_any : (at other : ℕ) (took : List Frame) (sent : List Outgoing) (old new : List Seen) → Moves at took sent old new → Moves other [] sent old new
+pub moves_any : (at other : ℕ) (took : List Frame) (sent : List Outgoing) (old new : List Seen) → Exchanges at took sent old new → Exchanges other [] sent old new
 moves_any at other took sent old new h = record { count = h.count; shares = h.shares; pulled = h.pulled; posted = h.posted; taken = λ t be x has. absurd has }
 
 -- what is left was pulled

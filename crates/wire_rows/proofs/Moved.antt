@@ -10,8 +10,8 @@ use Rattle.wire_queue.specs.declared.inbox.InboxPass.{InboxPass}
 use Rattle.wire_queue.specs.Wire.{Frame, IsIn, posted, pulled_one, FromOrigins}
 use Rattle.wire_queue.proofs.Wires.{in_append, in_left, in_right, posted_from, copied_from, posted_pulled, posted_shares}
 use Rattle.session_frames.specs.declared.sending.Outgoing.{Outgoing}
-use Rattle.wire_rows.specs.Moves.{Moves}
-use Rattle.wire_rows.specs.Moves.{SentTo}
+use Rattle.wire_rows.specs.Exchanges.{Exchanges}
+use Rattle.wire_rows.specs.Exchanges.{SentTo}
 
 -- what stands in a list of which a place was set
 pub in_set : {X : Type 0} (xs : List X) (p : ℕ) (x y : X) (q : ℕ) (z : X) → slice_get xs p ≡ Some x → slice_get (slice_set xs p y) q ≡ Some z → ((q ≡ p) × (z ≡ y)) ⊎ ((q ≡ p → ⊥) × (slice_get xs q ≡ Some z))
@@ -36,7 +36,7 @@ sent_take (suc n) q x (o ∷ os) (inl here) = inl here
 sent_take (suc n) q x (o ∷ os) (inr there) = inr (sent_take n q x os there)
 
 -- the passes stay
-pub moves_same : (at : ℕ) (sent : List Outgoing) (old : List Seen) → Moves at [] sent old old
+pub moves_same : (at : ℕ) (sent : List Outgoing) (old : List Seen) → Exchanges at [] sent old old
 moves_same at sent old = record {
   count = refl;
   shares = λ q s t is be. ap (λ (z : Seen). z.shares) (some_eq (sym be ∙ is));
@@ -52,7 +52,7 @@ pub record Goes (to : ℕ) (sent : List Outgoing) (s t : Seen) : Type 0 where
   pub posted : (x : Frame) → IsIn x t.origins → IsIn x s.origins ⊎ SentTo to x sent
 
 pub moves_set : (at to : ℕ) (took : List Frame) (sent : List Outgoing) (old : List Seen) (s t : Seen) → slice_get old to ≡ Some s → Goes to sent s t → ((r : Seen) → slice_get (slice_set old to t) at ≡ Some r → (x : Frame) → IsIn x took → IsIn x r.pulled)
-    → Moves at took sent old (slice_set old to t)
+    → Exchanges at took sent old (slice_set old to t)
 moves_set at to took sent old s t there goes taken = record {
   count = set_length old to t;
   shares = λ q a b is be. ⊎_elim
@@ -72,7 +72,7 @@ moves_set at to took sent old s t there goes taken = record {
   taken = taken;
 }
 
-pub moves_then : (at : ℕ) (a b : List Frame) (sa sb : List Outgoing) (old mid new : List Seen) → Moves at a sa old mid → Moves at b sb mid new → Moves at (a ++ b) (sa ++ sb) old new
+pub moves_then : (at : ℕ) (a b : List Frame) (sa sb : List Outgoing) (old mid new : List Seen) → Exchanges at a sa old mid → Exchanges at b sb mid new → Exchanges at (a ++ b) (sa ++ sb) old new
 moves_then at a b sa sb old mid new h k = record {
   count = k.count ∙ h.count;
   shares = λ q s t is be. let m = between q s is in k.shares q m.0 t m.1 be ∙ h.shares q s m.0 is m.1;
@@ -92,7 +92,7 @@ moves_then at a b sa sb old mid new h k = record {
     between q s is = get_beside old mid q s (sym h.count) is
 
 -- fewer are said to be taken, more to be sent
-pub moves_wider : (at : ℕ) (took : List Frame) (sa sb : List Outgoing) (old new : List Seen) → ((q : ℕ) (x : Frame) → SentTo q x sa → SentTo q x sb) → Moves at took sa old new → Moves at took sb old new
+pub moves_wider : (at : ℕ) (took : List Frame) (sa sb : List Outgoing) (old new : List Seen) → ((q : ℕ) (x : Frame) → SentTo q x sa → SentTo q x sb) → Exchanges at took sa old new → Exchanges at took sb old new
 moves_wider at took sa sb old new wider h = record {
   count = h.count;
   shares = h.shares;
@@ -139,9 +139,9 @@ goes_pulled to bytes s t be = (
 -- a pass of the list moved on in its place
 pub moved_in : (at to : ℕ) (took : List Frame) (sent : List Outgoing) (passes : List InboxPass) (pass new : InboxPass) → slice_get passes to ≡ Some pass → Goes to sent pass.seen new.seen
     → ((r : Seen) → slice_get (slice_set (map (λ (p : InboxPass). p.seen) passes) to new.seen) at ≡ Some r → (x : Frame) → IsIn x took → IsIn x r.pulled)
-    → Moves at took sent (map (λ (p : InboxPass). p.seen) passes) (map (λ (p : InboxPass). p.seen) (slice_set passes to new))
+    → Exchanges at took sent (map (λ (p : InboxPass). p.seen) passes) (map (λ (p : InboxPass). p.seen) (slice_set passes to new))
 moved_in at to took sent passes pass new there goes taken =
-    subst (λ (l : List Seen). Moves at took sent (map (λ (p : InboxPass). p.seen) passes) l) (sym (map_set (λ (p : InboxPass). p.seen) passes to new))
+    subst (λ (l : List Seen). Exchanges at took sent (map (λ (p : InboxPass). p.seen) passes) l) (sym (map_set (λ (p : InboxPass). p.seen) passes to new))
     (moves_set at to took sent (map (λ (p : InboxPass). p.seen) passes) pass.seen new.seen (get_map (λ (p : InboxPass). p.seen) passes to pass there) goes taken)
 
 -- and the passes are of the same inboxes
@@ -183,7 +183,7 @@ shift [] b x = refl
 shift (y ∷ a) b x = ap (λ (l : List _). y ∷ l) (shift a b x)
 
 -- the frames so far are a front of those that are first
-pub moves_front : (at : ℕ) (so_far rest frames : List Outgoing) (n : ℕ) (old new : List Seen) → so_far ++ rest ≡ take n frames → Moves at [] so_far old new → Moves at [] frames old new
+pub moves_front : (at : ℕ) (so_far rest frames : List Outgoing) (n : ℕ) (old new : List Seen) → so_far ++ rest ≡ take n frames → Exchanges at [] so_far old new → Exchanges at [] frames old new
 moves_front at so_far rest frames n old new front moves =
     moves_wider at [] so_far frames old new (λ q x h. sent_take n q x frames (subst (λ (l : List Outgoing). SentTo q x l) front (sent_left q x so_far rest h))) moves
 

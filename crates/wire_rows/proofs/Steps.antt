@@ -8,7 +8,7 @@ use Rattle.wire_queue.specs.declared.inbox.InboxPass.{InboxPass}
 use Rattle.wire_queue.specs.Wire.{Frame, IsIn, seen, posted, pulled_one, Settled}
 use Rattle.wire_queue.proofs.Wires.{in_left, in_right}
 use Rattle.session_frames.specs.declared.sending.Outgoing.{Outgoing}
-use Rattle.wire_rows.specs.Moves.{Moves, PostedAll, PostedAt, changed, pulled_all}
+use Rattle.wire_rows.specs.Exchanges.{Exchanges, PostedAll, PostedAt, changed, pulled_all}
 use Rattle.wire_rows.proofs.Moved.{moves_same}
 
 -- ---- one place is changed
@@ -112,8 +112,8 @@ pulled_push at left pushed x old mid new is first last =
     last ∙ ap (λ (l : List Seen). changed l at (λ s. pulled_one s x)) first ∙ changed_then old at (λ s. pulled_all s left) (λ s. pulled_one s x) (λ s. pulled_all s pushed) (λ s. pulled_more left pushed x s is)
 
 -- a node that pulls these frames moves so
-pub moves_pulled : (at : ℕ) (took : List Frame) (old new : List Seen) → new ≡ changed old at (λ s. pulled_all s took) → Moves at took [] old new
-moves_pulled at took old new is = subst (λ (l : List Seen). Moves at took [] old l) (sym is) record {
+pub moves_pulled : (at : ℕ) (took : List Frame) (old new : List Seen) → new ≡ changed old at (λ s. pulled_all s took) → Exchanges at took [] old new
+moves_pulled at took old new is = subst (λ (l : List Seen). Exchanges at took [] old l) (sym is) record {
   count = changed_length old at f;
   shares = λ q s t was be. ⊎_elim
       (λ h. ap (λ (z : Seen). z.shares) h.3 ∙ ap (λ (z : Seen). z.shares) (some_eq (sym h.2 ∙ was)))
@@ -137,5 +137,5 @@ moves_pulled at took old new is = subst (λ (l : List Seen). Moves at took [] ol
     f s = pulled_all s took
 
 -- and so does one that pulls none
-pub moves_kept : (at : ℕ) (sent : List Outgoing) (old new : List Seen) → new ≡ old → Moves at [] sent old new
-moves_kept at sent old new is = subst (λ (l : List Seen). Moves at [] sent old l) (sym is) (moves_same at sent old)
+pub moves_kept : (at : ℕ) (sent : List Outgoing) (old new : List Seen) → new ≡ old → Exchanges at [] sent old new
+moves_kept at sent old new is = subst (λ (l : List Seen). Exchanges at [] sent old l) (sym is) (moves_same at sent old)

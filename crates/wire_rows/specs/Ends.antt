@@ -3,7 +3,7 @@ use Rattle.std.specs.Prelude.{◌≡◌, ℕ, ◌<◌, ◌≤◌, List, [], leng
 use Rattle.std.specs.Global.{Global}
 use Rattle.wire_queue.specs.declared.rule.Seen.{Seen}
 use Rattle.wire_queue.specs.Wire.{Frame, FromOrigins, Settled, join_of}
-use Rattle.wire_rows.specs.Moves.{pulled_all}
+use Rattle.wire_rows.specs.Exchanges.{pulled_all}
 
 -- a row of passes was joined to those of a call
 pub record Joined (own row new : List Seen) : Type 0 where

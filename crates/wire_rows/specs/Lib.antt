@@ -1,3 +1,3 @@
 pub mod Rows
-pub mod Moves
+pub mod Exchanges
 pub mod Ends

@@ -5,7 +5,7 @@ ghost use Rattle.std.specs.List.{AllByRecursion};
 ghost use Rattle.wire_queue.specs.declared.rule.Seen.{Seen};
 ghost use Rattle.wire_queue.specs.Wire.{FromOrigins, Settled};
 ghost use Rattle.wire_rows.specs.Ends.{Drained, IsRoom};
-ghost use Rattle.wire_rows.specs.Moves.{Moves, changed, pulled_all};
+ghost use Rattle.wire_rows.specs.Exchanges.{Exchanges, changed, pulled_all};
 
 use super::moving::pull_from;
 use net_base::ByteList;
@@ -62,7 +62,7 @@ pub fn drain_all<R: Wait>(
     ensures of { map (λ p. p.of) own.new.items ≡ inboxes.now }
     ensures count { length result.items ≡ length inboxes.now }
     ensures few { AllByRecursion (λ v. length v.items ≤ 1024) result.items }
-    ensures moves { (at : ℕ) → Moves at [] [] (map (λ p. p.seen) own.old.items)
+    ensures moves { (at : ℕ) → Exchanges at [] [] (map (λ p. p.seen) own.old.items)
         (map (λ p. p.seen) own.new.items) }
     ensures left { Drained (length inboxes.now) (map (λ v. v.items) result.items)
         (map (λ p. p.seen) own.old.items) (map (λ p. p.seen) own.new.items) }

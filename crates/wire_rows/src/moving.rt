@@ -4,7 +4,7 @@ ghost use Rattle.std.specs.Prelude.{◌≡◌, ℕ, [], ◌∷◌, map, take, sl
 ghost use Rattle.std.specs.Option.{option_to_list};
 ghost use Rattle.wire_queue.specs.declared.rule.Seen.{Seen};
 ghost use Rattle.wire_queue.specs.Wire.{IsIn, pulled_one, FromOrigins, Settled};
-ghost use Rattle.wire_rows.specs.Moves.{Moves, PostedAll, PostedAt, changed};
+ghost use Rattle.wire_rows.specs.Exchanges.{Exchanges, PostedAll, PostedAt, changed};
 
 use net_base::ByteList;
 use session_frames::{Outgoing, OutgoingList};
@@ -17,7 +17,7 @@ fn post_to<R: Wait>(rt: &R, inboxes: &[Inbox], passes: &mut Vec<InboxPass>, out:
     ensures of { map (λ p. p.of) passes.new.items ≡ inboxes.now }
     ensures posted { PostedAt out.to.0 out.bytes (map (λ p. p.seen) passes.old.items)
         (map (λ p. p.seen) passes.new.items) }
-    ensures moves { (at : ℕ) → Moves at [] (out ∷ []) (map (λ p. p.seen) passes.old.items)
+    ensures moves { (at : ℕ) → Exchanges at [] (out ∷ []) (map (λ p. p.seen) passes.old.items)
         (map (λ p. p.seen) passes.new.items) }
 {
     let to = out.to.0 as usize;
@@ -42,7 +42,7 @@ pub fn post_first<R: Wait>(
     ensures of { map (λ p. p.of) passes.new.items ≡ inboxes.now }
     ensures posted { PostedAll (take most frames) (map (λ p. p.seen) passes.old.items)
         (map (λ p. p.seen) passes.new.items) }
-    ensures moves { (at : ℕ) → Moves at [] frames (map (λ p. p.seen) passes.old.items)
+    ensures moves { (at : ℕ) → Exchanges at [] frames (map (λ p. p.seen) passes.old.items)
         (map (λ p. p.seen) passes.new.items) }
 {
     let mut first = frames.into_vec();
@@ -63,7 +63,7 @@ pub fn post_ack<R: Wait>(
     ensures of { map (λ p. p.of) passes.new.items ≡ inboxes.now }
     ensures posted { PostedAll (option_to_list ack) (map (λ p. p.seen) passes.old.items)
         (map (λ p. p.seen) passes.new.items) }
-    ensures moves { (at : ℕ) → Moves at [] (option_to_list ack) (map (λ p. p.seen) passes.old.items)
+    ensures moves { (at : ℕ) → Exchanges at [] (option_to_list ack) (map (λ p. p.seen) passes.old.items)
         (map (λ p. p.seen) passes.new.items) }
 {
     if let Some(out) = ack {
@@ -113,7 +113,7 @@ pub fn post_back<R: Wait>(
     ensures of { map (λ p. p.of) passes.new.items ≡ inboxes.now }
     ensures posted { PostedAt at frame (map (λ p. p.seen) passes.old.items)
         (map (λ p. p.seen) passes.new.items) }
-    ensures moves { Moves at [] [] (map (λ p. p.seen) passes.old.items)
+    ensures moves { Exchanges at [] [] (map (λ p. p.seen) passes.old.items)
         (map (λ p. p.seen) passes.new.items) }
 {
     if at >= inboxes.len() {

@@ -1,11 +1,12 @@
 -- A node's history, over any disk: what each call leaves, and how many records all committed.
-use Rattle.std.proofs.Common.{◌≡◌, ◌⊎◌, inl, inr, ℕ, ◌+◌, ◌<◌, ◌≤◌, ◌||◌, List, [], ◌∷◌, ◌++◌, Option, Some, None, Result, Ok, Err, Bool, true, false, length, nat_le, refl, sym, ap, subst, ◌∙◌, arith, append-nil, length-append}
+use Rattle.std.proofs.Common.{◌≡◌, ◌⊎◌, inl, inr, ⊎_elim, ℕ, zero, suc, ◌+◌, ◌*◌, ◌<◌, ◌≤◌, ◌||◌, List, [], ◌∷◌, ◌++◌, Option, Some, None, Result, Ok, Err, Bool, true, false, length, nat_le, refl, sym, ap, subst, ◌∙◌, arith, append-nil, length-append}
 use Rattle.std.proofs.lemmas.Bool.{true≢false}
 use Rattle.std.proofs.lemmas.Bool.Decides.{nat_tests}
 use Rattle.std.proofs.lemmas.Option.{MatchOption-at_none, MatchOption-at_some, none-some}
 use Rattle.net_base.proofs.Options.{some_eq}
-use Rattle.outside.specs.Disk.{DiskSeen, EachImage, IfTold}
+use Rattle.outside.specs.Disk.{DiskSeen, EachImage, IfTold, Burns, BurnsUpTo}
 use Rattle.outside.specs.Faults.{Rose}
+use Rattle.outside.proofs.Burning.{burns_none, burns_then, up_to}
 use Rattle.outside.proofs.Moments.{at_now, started, then, weaker}
 use Rattle.disk_journal.specs.Journal.{IsSound, IsYoung, journal_of}
 use Rattle.net_base.specs.declared.names.Identity.{Identity}
@@ -36,7 +37,7 @@ use Rattle.node_core.specs.Seen.{NodeSeen, Commits, Faults}
 use Rattle.node_core.specs.Takes.{AcceptsAs, Responds, TakesAs, TakeAnswers}
 use Rattle.node_tables.specs.Journals.{Reads}
 use Rattle.work_law.specs.Calls.{Turns, Settles, Takes, Went, here, by_turn, by_settle, by_take, by_send, turn_commits, settle_commits, take_commits}
-use Rattle.work_law.specs.Lasting.{GoesOnBy, HoldsJournal, SpellsBetween, ImagesGo, Lasts, HistoriesLast}
+use Rattle.work_law.specs.Lasting.{GoesOnBy, HoldsJournal, SpellsBetween, ImagesGo, WritesEach, Lasts, HistoriesLast}
 use Rattle.work_law.proofs.Worlds.{append_twice, grows_one, grows_same, grows_then, grows_wider, rose_later}
 
 -- ---- a disk, at every moment
@@ -159,6 +160,41 @@ images_then ca cb n k l bodies mid on told h at g = record {
       (weaker k.disk.state l.disk.state (SpellsBetween mid g.last) (SpellsBetween bodies g.last) (λ c s. between_from bodies mid g.last on.more c on.front s) (g.images (told ∙ tells)));
 }
 
+-- a disk that rested
+writes_none : (n k : NodeSeen) → k.disk ≡ n.disk → WritesEach 0 n k
+writes_none n k disk = record {
+  mid = n.disk;
+  each = burns_none n.disk n.disk refl refl;
+  power = refl;
+  powered = λ some. absurd (omega (arith, some));
+  rest = subst (BurnsUpTo 4 n.disk) (sym disk) (up_to 0 4 n.disk n.disk (omega arith) (burns_none n.disk n.disk refl refl));
+  up = λ bodies is. disk;
+}
+
+writes_rest : (ca cb : ℕ) (n k l : NodeSeen) → (l ≡ k) × (cb ≡ 0) → WritesEach ca n k → WritesEach (ca + cb) n l
+writes_rest ca cb n k l rests h =
+    let same : ca ≡ ca + cb = omega (arith, rests.1) in
+    subst (λ (c : ℕ). WritesEach c n l) same (subst (WritesEach ca n) (sym rests.0) h)
+
+either : (ca cb : ℕ) → 0 < ca + cb → (0 < ca) ⊎ (0 < cb)
+either zero cb some = inr (omega (arith, some))
+either (suc ca) cb some = inl (omega arith)
+
+writes_then : (ca cb : ℕ) (n k l : NodeSeen) (mid : List (List ℕ)) → k.journal ≡ Some mid → WritesEach ca n k → WritesEach cb k l → WritesEach (ca + cb) n l
+writes_then ca cb n k l mid at h g =
+    let is : k.disk ≡ h.mid = h.up mid at in
+    let first : Burns (4 * ca) n.disk k.disk = subst (Burns (4 * ca) n.disk) (sym is) h.each in
+    let power : k.disk.power ≡ n.disk.power = ap (λ (d : DiskSeen). d.power) is ∙ h.power in
+    let calls : 4 * ca + 4 * cb ≡ 4 * (ca + cb) = omega arith in
+    record {
+      mid = g.mid;
+      each = subst (λ (c : ℕ). Burns c n.disk g.mid) calls (burns_then (4 * ca) (4 * cb) n.disk k.disk g.mid first g.each);
+      power = g.power ∙ power;
+      powered = λ some. ⊎_elim (λ one. h.powered one) (λ two. sym power ∙ g.powered two) (either ca cb some);
+      rest = g.rest;
+      up = g.up;
+    }
+
 lasts_then : (ca cb : ℕ) (n k l : NodeSeen) → Lasts ca n k → Lasts cb k l → Lasts (ca + cb) n l
 lasts_then ca cb n k l h g = record {
   identity = g.identity ∙ h.identity;
@@ -180,6 +216,9 @@ lasts_then ca cb n k l h g = record {
   file = g.file ∙ h.file;
   attached = g.attached ∙ h.attached;
   tells = g.tells ∙ h.tells;
+  writes = up_or_down (WritesEach (ca + cb) n l) k.journal
+      (λ gone. writes_rest ca cb n k l (g.down gone) h.writes)
+      (λ mid at. writes_then ca cb n k l mid at h.writes g.writes);
   form = form_then n.identity k.identity n.disk k.disk l.disk h.identity h.tells h.form g.form;
   holds = λ held. g.holds (h.holds held);
   images = λ held bodies was. up_or_down (ImagesGo (ca + cb) bodies n l) k.journal
@@ -199,6 +238,7 @@ lasts_same n = record {
   file = refl;
   attached = refl;
   tells = refl;
+  writes = writes_none n n refl;
   form = form_same n.identity n.disk;
   holds = λ held. held;
   images = λ held bodies was. images_same n n bodies refl refl held was;
@@ -235,6 +275,7 @@ call_noted n k acked bodies is same = subst (λ (z : NodeSeen). Call 0 n z) (sym
     file = refl;
     attached = refl;
     tells = refl;
+    writes = writes_none n (record n { acked = acked }) refl;
     form = form_same n.identity n.disk;
     holds = λ held. held;
     images = λ held old was. images_same n (record n { acked = acked }) old refl refl held was;
@@ -271,6 +312,14 @@ module _ {F : Type 0} (w : Environment F) (now : ℕ) (n k : NodeSeen) (bodies :
       file = c.appended.moves.file;
       attached = c.appended.moves.attached;
       tells = c.appended.moves.tells;
+      writes = record {
+        mid = k.disk;
+        each = c.appended.power.burns;
+        power = c.appended.power.after ∙ sym c.appended.power.before;
+        powered = λ some. c.appended.power.before;
+        rest = up_to 0 4 k.disk k.disk (omega arith) (burns_none k.disk k.disk refl refl);
+        up = λ all at. refl;
+      };
       form = c.appended.form;
       holds = λ held all at tells x image. c.appended.holds.images tells x image ∙ some_eq (sym c.journal ∙ at);
       images = λ held old was.
@@ -299,6 +348,14 @@ module _ {F : Type 0} (w : Environment F) (now : ℕ) (n k : NodeSeen) (bodies :
       file = c.failing.moves.file;
       attached = c.failing.moves.attached;
       tells = c.failing.moves.tells;
+      writes = record {
+        mid = n.disk;
+        each = burns_none n.disk n.disk refl refl;
+        power = refl;
+        powered = λ some. absurd (omega (arith, some));
+        rest = c.failing.burns;
+        up = λ all at. absurd (not_both k.journal all at c.journal);
+      };
       form = c.failing.form;
       holds = λ held all at. absurd (not_both k.journal all at c.journal);
       images = λ held old was.

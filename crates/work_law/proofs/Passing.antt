@@ -234,7 +234,7 @@ module _ {F : Type 0} (m : Meaning F) (id : Identity) where
   }
 
   -- a node before the work, and its disk after it
-  record Worked (q : ℕ) (n : NodeSeen) (d : Durable) : Type 0 where
+  record AfterWork (q : ℕ) (n : NodeSeen) (d : Durable) : Type 0 where
     count : ℕ
     last : NodeSeen
     lasts : Lasts count n last
@@ -242,7 +242,7 @@ module _ {F : Type 0} (m : Meaning F) (id : Identity) where
     world : NodeWorld
     shows : NodeShows e q n world
 
-  worked : (commits : ℕ) (a b : Pair e) → PairWorks m id commits a b → (q : ℕ) (n : NodeSeen) (d : Durable) → slice_get a.net.nodes q ≡ Some n → slice_get (now_of b.net) q ≡ Some d → Worked q n d
+  worked : (commits : ℕ) (a b : Pair e) → PairWorks m id commits a b → (q : ℕ) (n : NodeSeen) (d : Durable) → slice_get a.net.nodes q ≡ Some n → slice_get (now_of b.net) q ≡ Some d → AfterWork q n d
   worked commits a b work q n d at has =
       let k = of_map (λ (z : NodeSeen). z.disk.state.now) b.net.nodes q d has in
       let on = each_lasts m a.net.now commits a.net.nodes b.net.nodes a.net.waiting b.net.waiting work.works q n k.0 at k.1 in

@@ -17,7 +17,7 @@ use Rattle.net_model.specs.Runs.{IsMatched, IsMatchedFrom, item_for, item_from, 
 use Rattle.node_tables.specs.Journals.{records_of, state_of}
 use Rattle.node_core.specs.Seen.{NodeSeen}
 use Rattle.wire_queue.specs.Wire.{Frame, IsIn}
-use Rattle.wire_rows.specs.Moves.{SentTo}
+use Rattle.wire_rows.specs.Exchanges.{SentTo}
 use Rattle.work_law.specs.Works.{Grows, Log, Source, Works, NodeWorks, WorldWorks, WorksCoherently, Stays, fell}
 use Rattle.network_core.specs.Worlds.{NodeWorld, World, MaySpell, NodeShows, Shows, Choice, states_of, came_at, WaitsAt, AreArrived, Agrees, Sound, Coherent}
 use Rattle.network_core.proofs.AgreeingNets.{Wider, wider_all, wider_arrived}

@@ -1,6 +1,6 @@
 -- What a node's history leaves as it was, over any disk.
-use Rattle.std.specs.Prelude.{◌≡◌, ℕ, ◌≤◌, true, List, ◌++◌, length, None, Some}
-use Rattle.outside.specs.Disk.{IsImage, EachImage, IfTold}
+use Rattle.std.specs.Prelude.{◌≡◌, ℕ, ◌*◌, ◌<◌, ◌≤◌, true, List, ◌++◌, length, None, Some}
+use Rattle.outside.specs.Disk.{DiskSeen, IsImage, EachImage, IfTold, Burns, BurnsUpTo}
 use Rattle.outside.specs.Faults.{Rose}
 use Rattle.disk_journal.specs.Journal.{journal_of}
 use Rattle.session_frames.specs.declared.sending.Outgoing.{Outgoing}
@@ -35,6 +35,16 @@ pub record ImagesGo (count : ℕ) (bodies : List (List ℕ)) (old new : NodeSeen
   -- at every moment since
   pub images : IfTold old.disk new.disk (λ d e. EachImage d e (SpellsBetween bodies last))
 
+-- for each record four writes and syncs were made, which left the power on, and for the one with which the node went down up to four more; without power none was committed
+pub record WritesEach (count : ℕ) (old new : NodeSeen) : Type 0 where
+  -- the disk behind the last record
+  pub mid : DiskSeen
+  pub each : Burns (4 * count) old.disk mid
+  pub power : mid.power ≡ old.disk.power
+  pub powered : 0 < count → old.disk.power ≡ true
+  pub rest : BurnsUpTo 4 mid new.disk
+  pub up : (bodies : List (List ℕ)) → new.journal ≡ Some bodies → new.disk ≡ mid
+
 -- a node went on, over any disk, and committed this many records
 pub record Lasts (count : ℕ) (old new : NodeSeen) : Type 0 where
   pub identity : new.identity ≡ old.identity
@@ -48,6 +58,7 @@ pub record Lasts (count : ℕ) (old new : NodeSeen) : Type 0 where
   pub file : new.disk.of_file ≡ old.disk.of_file
   pub attached : new.disk.attached ≡ old.disk.attached
   pub tells : new.disk.tells ≡ old.disk.tells
+  pub writes : WritesEach count old new
   -- sound images stay sound at every moment since, and those over which an opening gives no refusal stay so
   pub form : KeepsForm old.identity old.disk new.disk
   -- where each image spelt the journal, each does in the end while the node is up, and at every moment since each spells one on the way

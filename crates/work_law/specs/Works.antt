@@ -4,7 +4,7 @@ use Rattle.outside.specs.Faults.{Rose}
 use Rattle.net_base.specs.declared.names.Identity.{Identity}
 use Rattle.session_frames.specs.declared.sending.Outgoing.{Outgoing}
 use Rattle.wire_queue.specs.Wire.{Frame, IsIn}
-use Rattle.wire_rows.specs.Moves.{SentTo}
+use Rattle.wire_rows.specs.Exchanges.{SentTo}
 use Rattle.net_model.specs.Environment.{Meaning, environment}
 use Rattle.node_core.specs.Seen.{NodeSeen}
 use Rattle.network_core.specs.Worlds.{NodeWorld, World, MaySpell, Shows, Coherent}
@@ -87,9 +87,9 @@ pub record WorldWorks (commits : ℕ) (w v : World) : Type 0 where
 -- ---- the law
 
 -- from each coherent world that the nodes showed they go to a coherent world that they show
-abbrev pub LeadsOn : {F : Type 0} → Meaning F → ℕ → List NodeSeen → List (List Frame) → List NodeSeen → List (List Frame) → ℕ → Type 0
-LeadsOn m now came waited nodes waiting commits = (id : Identity) (w : World) → Shows (environment m id) (record { nodes = came; waiting = waited; now = now }) w → Coherent (environment m id) w
+abbrev pub KeepsCoherent : {F : Type 0} → Meaning F → ℕ → List NodeSeen → List (List Frame) → List NodeSeen → List (List Frame) → ℕ → Type 0
+KeepsCoherent m now came waited nodes waiting commits = (id : Identity) (w : World) → Shows (environment m id) (record { nodes = came; waiting = waited; now = now }) w → Coherent (environment m id) w
     → (v : World) × Shows (environment m id) (record { nodes = nodes; waiting = waiting; now = now }) v × Coherent (environment m id) v × WorldWorks commits w v
 
 abbrev pub WorksCoherently : (F : Type 0) → Type 0
-WorksCoherently F = (m : Meaning F) (now commits : ℕ) (came nodes : List NodeSeen) (waited waiting : List (List Frame)) → Works m now came waited nodes waiting commits → LeadsOn m now came waited nodes waiting commits
+WorksCoherently F = (m : Meaning F) (now commits : ℕ) (came nodes : List NodeSeen) (waited waiting : List (List Frame)) → Works m now came waited nodes waiting commits → KeepsCoherent m now came waited nodes waiting commits

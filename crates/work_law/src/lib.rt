@@ -16,11 +16,12 @@ pub fn works_coherently<F>()
     ensures { WorksCoherently F }
 {}
 
-/// The law of a node's history, over any disk: the node's journal goes on by the records that it committed, at most 65,536; a node that
-/// was down stays as it was; a node that was up is down only where its disk's count of faults rose; and the disk is attached as it was.
-/// Of a disk that tells its content, at every moment since the history began: sound images stay sound, and where each image spelt the
-/// journal that the node had, each spells one on the way from there to the journal that the node has in the end, or where it went down to
-/// one of the records that it committed and one more at most.
+/// The law of a node's history, over any disk: the node's journal goes on by the records that it committed, at most 65,536; a node that was
+/// down stays as it was; a node that was up is down only where its disk's count of faults rose; and the disk is attached as it was. Each
+/// record burns four of the disk's fuse, with power to the end, and one with which the node went down up to four more; without power none
+/// is committed, and no call brings power back. Of a disk that tells its content, at every moment since the history began: sound images
+/// stay sound, and where each image spelt the journal that the node had, each spells one on the way from there to the journal that the node
+/// has in the end, or where it went down to one of the records that it committed and one more at most.
 pub fn histories_last<F>()
     ensures { HistoriesLast F }
 {}

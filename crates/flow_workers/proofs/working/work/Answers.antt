@@ -1,6 +1,6 @@
 use Rattle.std.proofs.Common.{map, ap, ◌∙◌}
 use Rattle.net_model.specs.Environment.{meaning}
-use Rattle.flow_workers.proofs.Ended.{worked_on, not_worked, spread_nodes, lists_each}
+use Rattle.flow_workers.proofs.Ended.{few_items, worked_on, not_worked, spread_nodes, lists_each}
 use Rattle.flow_workers.proofs.working.work.Goals as goal
 
 pub returns-in_default : goal.returns-in_default
@@ -26,4 +26,4 @@ returns-in-Ok-work_as g c =
     let spread = spread_nodes c.args.waiting.items c.args.nodes.items (map (λ p. p.seen) c.in-Ok.stage.own.items) c.requires.each c.in-Ok.ensures.spread in
     let works = c.in-Ok-work_as.ensures.works waited spread c.requires.each in
     worked_on (meaning g.F.FlowSet.machine g.F.Spelt.reading (g.C.Judge.judges c.args.contracts.now)) c.args.now.0 c.args.nodes.items c.in-Ok-work_as.field-0.nodes.items c.args.waiting.items c.set_up.new.waiting.items c.put_each.new.waiting.items
-    (map (λ v. v.items) c.in-Ok-work_as.field-0.lists.items) c.in-Ok-work_as.field-0.commits c.requires c.set_up.ensures.frames works c.put_each.ensures c.in-Ok-work_as.ensures.by
+    (map (λ v. v.items) c.in-Ok-work_as.field-0.lists.items) c.in-Ok-work_as.field-0.commits c.requires c.set_up.ensures.frames works (few_items c.in-Ok-work_as.field-0.lists.items c.in-Ok-work_as.ensures.few) c.put_each.ensures c.in-Ok-work_as.ensures.by

@@ -1,6 +1,6 @@
 use Rattle.std.proofs.Common.{◌≡◌, ◌≤◌, ◌++◌, ℕ, [], length, map, vec_capacity}
 use Rattle.std.specs.List.{AllByRecursion}
-use Rattle.wire_rows.specs.Moves.{Moves}
+use Rattle.wire_rows.specs.Exchanges.{Exchanges}
 use Rattle.wire_rows.specs.Ends.{Drained, IsRoom}
 use Rattle.wire_rows.proofs.draining.drain_all.Given as goal
 
@@ -14,6 +14,6 @@ invariant-lists g l = record {
   count : length l.lists.items ≡ length l.yielded;
   few : AllByRecursion (λ v. length v.items ≤ 1024) l.lists.items;
   room : length l.fn.inboxes ≤ vec_capacity l.lists;
-  moves : (at : ℕ) → Moves at [] [] (map (λ p. p.seen) l.fn.own.items) (map (λ p. p.seen) l.own.items);
+  moves : (at : ℕ) → Exchanges at [] [] (map (λ p. p.seen) l.fn.own.items) (map (λ p. p.seen) l.own.items);
   left : Drained (length l.lists.items) (map (λ v. v.items) l.lists.items) (map (λ p. p.seen) l.fn.own.items) (map (λ p. p.seen) l.own.items);
 }

@@ -1,7 +1,7 @@
-use Rattle.std.proofs.Common.{◌≡◌, ◌≤◌, ◌<◌, ℕ, [], length, map, slice_get, Some, vec_capacity}
+use Rattle.std.proofs.Common.{◌≡◌, ◌≤◌, ◌<◌, length, map, slice_get, Some, vec_capacity}
 use Rattle.wire_queue.specs.declared.rule.Seen.{Seen}
 use Rattle.wire_queue.specs.Wire.{FromOrigins}
-use Rattle.wire_rows.specs.Moves.{changed, pulled_all}
+use Rattle.wire_rows.specs.Exchanges.{changed, pulled_all}
 use Rattle.wire_rows.proofs.draining.drain_one.Given as goal
 
 abbrev pub invariant-pulls : goal.invariant-pulls

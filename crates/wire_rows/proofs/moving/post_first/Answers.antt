@@ -2,7 +2,7 @@ use Rattle.std.proofs.Common.{◌≡◌, ◌++◌, ◌∷◌, [], length, map, a
 use Rattle.wire_rows.proofs.Moved.{moves_then, moves_front, shift}
 use Rattle.wire_rows.proofs.Joins.{no_length}
 use Rattle.wire_rows.proofs.Steps.{posted_push}
-use Rattle.wire_rows.specs.Moves.{PostedAll}
+use Rattle.wire_rows.specs.Exchanges.{PostedAll}
 use Rattle.wire_rows.proofs.moving.post_first.Goals as goal
 
 pub loop-out-preserved : goal.loop-out-preserved

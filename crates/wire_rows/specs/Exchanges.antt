@@ -11,7 +11,7 @@ SentTo q x [] = ⊥
 SentTo q x (o ∷ os) = ((o.to.0 ≡ q) × (o.bytes ≡ x)) ⊎ SentTo q x os
 
 -- passes, one of each inbox in the order of places, pulled the taken frames from the inbox of a place, and posted no others but those sent, and copies of what they had pulled there; they may have pulled more
-pub record Moves (at : ℕ) (took : List Frame) (sent : List Outgoing) (old new : List Seen) : Type 0 where
+pub record Exchanges (at : ℕ) (took : List Frame) (sent : List Outgoing) (old new : List Seen) : Type 0 where
   pub count : length new ≡ length old
   pub shares : (q : ℕ) (s t : Seen) → slice_get old q ≡ Some s → slice_get new q ≡ Some t → t.shares ≡ s.shares
   pub pulled : (q : ℕ) (s t : Seen) → slice_get old q ≡ Some s → slice_get new q ≡ Some t → (x : Frame) → IsIn x s.pulled → IsIn x t.pulled
