@@ -33,7 +33,7 @@ use Rattle.node_shell.specs.Story.{ScriptRun, IsScriptStatus}
 use Rattle.node_shell.specs.Together.{PairLink, PairShort, InPair}
 use Rattle.shell_words.specs.Program.{network_of_words}
 use Rattle.shell_words.specs.declared.program.NetworkWords.{NetworkWords}
-use Rattle.node_shell.specs.Runs.{over, OfNetwork, number_of_status, Plays, PlaysTogether, GoesOn, Refuses, RunsAs, IsRunStatus, journal_line, PlaysOrRefuses, RefusedWith, IsOpeningStatus, Fails, OneFails, HasCause, MisfitsAt, StaysBut, KeepsCalm, IsOpened, AfterRefusal, GivesUp, IsUnready, IsToldWhy, KeepsOwn, KeepOwn, IsPlayedStatus, IsPlayedNumber, AllStay, MadeReady, GoesOrHalts, RunsAnyhow}
+use Rattle.node_shell.specs.Runs.{over, OfNetwork, number_of_status, Plays, PlaysTogether, GoesOn, Refuses, RunsAs, journal_line, PlaysOrRefuses, RefusedWith, IsOpeningStatus, Fails, OneFails, HasCause, MisfitsAt, StaysBut, KeepsCalm, IsOpened, AfterRefusal, GivesUp, IsUnready, IsToldWhy, KeepsOwn, KeepOwn, IsRefusedStatus, IsPlayedNumber, AllStay, MadeReady, GoesOrHalts, RunsAnyhow}
 use Rattle.node_shell.proofs.Readying.{fails_since, stays_then, stay_same, stay_then}
 use Rattle.node_shell.proofs.Together.{scripts_are_both}
 use Rattle.node_shell.proofs.Attained.{story_attains, script_attains}
@@ -160,17 +160,18 @@ all_own_since f nodes notary ds ks stay own p d at =
 status_of_fault : (node : ℕ) (why : BootFault) (written0 written1 : Option (List ℕ)) (s : Status) → why ≡ boot.Fault → RefusedWith node why written0 written1 s → s ≡ status.DiskFault
 status_of_fault node why written0 written1 s is told = (subst (λ y. RefusedWith node y written0 written1 s) is told).0
 
--- the statuses of these numbers
-pub is_played : (s : Status) → IsPlayedNumber (number_of_status s) → IsPlayedStatus s
-is_played status.Finished is = tt
-is_played status.TooLong is = tt
-is_played status.ReadFault is = tt
-is_played status.BadWords is = absurd (⊎_elim (λ h. omega (arith, h)) (λ r. ⊎_elim (λ h. omega (arith, h)) (λ h. omega (arith, h)) r) is)
-is_played status.WriteFault is = absurd (⊎_elim (λ h. omega (arith, h)) (λ r. ⊎_elim (λ h. omega (arith, h)) (λ h. omega (arith, h)) r) is)
-is_played status.DiskFault is = absurd (⊎_elim (λ h. omega (arith, h)) (λ r. ⊎_elim (λ h. omega (arith, h)) (λ h. omega (arith, h)) r) is)
-is_played status.NoMemory is = absurd (⊎_elim (λ h. omega (arith, h)) (λ r. ⊎_elim (λ h. omega (arith, h)) (λ h. omega (arith, h)) r) is)
-is_played status.BadJournal is = absurd (⊎_elim (λ h. omega (arith, h)) (λ r. ⊎_elim (λ h. omega (arith, h)) (λ h. omega (arith, h)) r) is)
+-- a status that comes only once all nodes have opened is not that of an opening that was refused
+pub refused_unplayed : (s : Status) → IsRefusedStatus s → IsPlayedNumber (number_of_status s) → ⊥
+refused_unplayed status.Finished kind is = kind
+refused_unplayed status.TooLong kind is = kind
+refused_unplayed status.ReadFault kind is = kind
+refused_unplayed status.BadWords kind is = kind
+refused_unplayed status.WriteFault kind is = ⊎_elim (λ h. omega (arith, h)) (λ r. ⊎_elim (λ h. omega (arith, h)) (λ h. omega (arith, h)) r) is
+refused_unplayed status.DiskFault kind is = ⊎_elim (λ h. omega (arith, h)) (λ r. ⊎_elim (λ h. omega (arith, h)) (λ h. omega (arith, h)) r) is
+refused_unplayed status.NoMemory kind is = ⊎_elim (λ h. omega (arith, h)) (λ r. ⊎_elim (λ h. omega (arith, h)) (λ h. omega (arith, h)) r) is
+refused_unplayed status.BadJournal kind is = ⊎_elim (λ h. omega (arith, h)) (λ r. ⊎_elim (λ h. omega (arith, h)) (λ h. omega (arith, h)) r) is
 
+-- the statuses of these numbers
 pub is_disk_fault : (s : Status) → number_of_status s ≡ 6 → s ≡ status.DiskFault
 is_disk_fault status.DiskFault is = refl
 is_disk_fault status.Finished is = cc
@@ -211,16 +212,15 @@ is_write_fault status.DiskFault is = cc
 is_write_fault status.NoMemory is = cc
 is_write_fault status.BadJournal is = cc
 
--- no run ends with the status of refused words
-pub not_words : (s : Status) → IsRunStatus s → number_of_status s ≡ 2 → ⊥
-not_words status.BadWords ran is = ran
-not_words status.Finished ran is = cc
-not_words status.TooLong ran is = cc
-not_words status.ReadFault ran is = cc
-not_words status.WriteFault ran is = cc
-not_words status.DiskFault ran is = cc
-not_words status.NoMemory ran is = cc
-not_words status.BadJournal ran is = cc
+pub is_bad_words : (s : Status) → number_of_status s ≡ 2 → s ≡ status.BadWords
+is_bad_words status.BadWords is = refl
+is_bad_words status.Finished is = cc
+is_bad_words status.TooLong is = cc
+is_bad_words status.ReadFault is = cc
+is_bad_words status.WriteFault is = cc
+is_bad_words status.DiskFault is = cc
+is_bad_words status.NoMemory is = cc
+is_bad_words status.BadJournal is = cc
 
 -- the statuses of a disk that was not made ready are 6 and 7
 pub opening_number : (s : Status) (number : ℕ) → IsOpeningStatus s → number ≡ number_of_status s → (number ≡ 6) ⊎ (number ≡ 7)
@@ -521,23 +521,6 @@ module _ {F : Type 0} (m : Meaning F) (nodes : ℕ) (notary : Party) where
     why = ⊎_elim (λ (u : IsUnready ks bs written0 written1 s). inl (u.0, stay_then ds ks bs stay u.1)) (λ (t : IsToldWhy m.frame_at nodes notary ks bs written0 written1 s). inr (told_since m.frame_at nodes notary ds ks bs written0 written1 s stay t)) r.why;
   }
 
-  -- the disks were made ready, and then the nodes opened or one did not
-  ready : (ds ks bs : List DiskSeen) (w : World) (left0 left1 written0 written1 : Option (List ℕ)) (count : ℕ) (s : Status) → AllStay ds ks
-      → ((v : World) → Shows e (over e v.now ks) v → Coherent e v → PlaysOrRefuses m nodes notary v ks bs left0 left1 written0 written1 count s)
-      → Shows e (over e w.now ds) w → Coherent e w → PlaysOrRefuses m nodes notary w ds bs left0 left1 written0 written1 count s
-  ready ds ks bs w left0 left1 written0 written1 count s stay runs shows coherent =
-      let v = counted ks w in
-      let made = made_counted m nodes notary w ds ks stay shows in
-      ⊎_elim (λ (p : PlaysTogether m nodes notary v ks bs left0 left1 written0 written1 count s). inl (together_with w v ds ks bs left0 left1 written0 written1 count s made stay p))
-      (λ (r : Refuses e v ks bs left0 left1 written0 written1 count s). inr (refuses_with w v ds ks bs left0 left1 written0 written1 count s made stay r))
-      (runs v (counted_shows m nodes notary w ds ks stay shows) (made_coherent m nodes notary w v made coherent))
-
-  pub ready_at : (ds ks bs es : List DiskSeen) (w : World) (left0 left1 written0 written1 : Option (List ℕ)) (count : ℕ) (s : Status) → es ≡ bs → AllStay ds ks
-      → ((v : World) → Shows e (over e v.now ks) v → Coherent e v → PlaysOrRefuses m nodes notary v ks bs left0 left1 written0 written1 count s)
-      → Shows e (over e w.now ds) w → Coherent e w → PlaysOrRefuses m nodes notary w ds es left0 left1 written0 written1 count s
-  ready_at ds ks bs es w left0 left1 written0 written1 count s there stay runs shows coherent =
-      subst (λ x. PlaysOrRefuses m nodes notary w ds x left0 left1 written0 written1 count s) (sym there) (ready ds ks bs w left0 left1 written0 written1 count s stay runs shows coherent)
-
   pub runs_as : (w : World) (ds bs : List DiskSeen) (left0 left1 written0 written1 : Option (List ℕ)) (count counted number : ℕ) (s : Status) → number ≡ number_of_status s → counted ≡ count
       → PlaysOrRefuses m nodes notary w ds bs left0 left1 written0 written1 count s → RunsAs m nodes notary w ds bs left0 left1 written0 written1 counted number
   runs_as w ds bs left0 left1 written0 written1 count counted number s is same ran = record { status = s; is = is; ran = subst (λ n. PlaysOrRefuses m nodes notary w ds bs left0 left1 written0 written1 n s) (sym same) ran }
@@ -558,6 +541,13 @@ module _ {F : Type 0} (m : Meaning F) (nodes : ℕ) (notary : Party) where
             ran.ran;
       }
 
+  -- the same of what it handed back
+  pub runs_at : (ds ks bs es : List DiskSeen) (w : World) (left0 left1 written0 written1 : Option (List ℕ)) (count number counted told : ℕ) → es ≡ bs → told ≡ number → counted ≡ count → AllStay ds ks
+      → ((v : World) → Shows e (over e v.now ks) v → Coherent e v → RunsAs m nodes notary v ks bs left0 left1 written0 written1 count number)
+      → Shows e (over e w.now ds) w → Coherent e w → RunsAs m nodes notary w ds es left0 left1 written0 written1 counted told
+  runs_at ds ks bs es w left0 left1 written0 written1 count number counted told there is same stay runs shows coherent =
+      rw (there, is, same) (runs_since ds ks bs w left0 left1 written0 written1 count number stay runs shows coherent)
+
 -- ---- over any disks
 
 module _ {F : Type 0} (m : Meaning F) (nodes : ℕ) (notary : Party) where
@@ -572,17 +562,15 @@ module _ {F : Type 0} (m : Meaning F) (nodes : ℕ) (notary : Party) where
         why = ⊎_elim (λ (u : IsUnready ks bs written0 written1 s). inl (u.0, stay_then ds ks bs stay u.1)) (λ (t : IsToldWhy m.frame_at nodes notary ks bs written0 written1 s). inr (told_since m.frame_at nodes notary ds ks bs written0 written1 s stay t)) h.why;
       })
 
-  pub went_at : (ds ks bs es : List DiskSeen) (left0 left1 written0 written1 : Option (List ℕ)) (count counted number : ℕ) (s : Status) → es ≡ bs → AllStay ds ks → number ≡ number_of_status s → counted ≡ count
-      → GoesOrHalts m nodes notary ks bs left0 left1 written0 written1 count s → RunsAnyhow m nodes notary ds es left0 left1 written0 written1 counted number
-  went_at ds ks bs es left0 left1 written0 written1 count counted number s there stay is same ran = record {
-    status = s;
-    is = is;
-    ran = subst (λ n. GoesOrHalts m nodes notary ds es left0 left1 written0 written1 n s) (sym same) (subst (λ x. GoesOrHalts m nodes notary ds x left0 left1 written0 written1 count s) (sym there) (went_since ds ks bs left0 left1 written0 written1 count s stay ran));
-  }
-
   pub runs_anyhow_since : (ds ks bs : List DiskSeen) (left0 left1 written0 written1 : Option (List ℕ)) (count number : ℕ) → AllStay ds ks
       → RunsAnyhow m nodes notary ks bs left0 left1 written0 written1 count number → RunsAnyhow m nodes notary ds bs left0 left1 written0 written1 count number
   runs_anyhow_since ds ks bs left0 left1 written0 written1 count number stay ran = record { status = ran.status; is = ran.is; ran = went_since ds ks bs left0 left1 written0 written1 count ran.status stay ran.ran }
+
+  -- the same of what it handed back
+  pub went_at : (ds ks bs es : List DiskSeen) (left0 left1 written0 written1 : Option (List ℕ)) (count number counted told : ℕ) → es ≡ bs → told ≡ number → counted ≡ count → AllStay ds ks
+      → RunsAnyhow m nodes notary ks bs left0 left1 written0 written1 count number → RunsAnyhow m nodes notary ds es left0 left1 written0 written1 counted told
+  went_at ds ks bs es left0 left1 written0 written1 count number counted told there is same stay ran =
+      rw (there, is, same) (runs_anyhow_since ds ks bs left0 left1 written0 written1 count number stay ran)
 
   -- the disks were not made ready, or there was no memory for that
   pub went_unready : (ds es : List DiskSeen) (left written : Option (List ℕ)) (counted number : ℕ) (s : Status) → IsOpeningStatus s → AllStay ds es → number ≡ number_of_status s → counted ≡ 0

@@ -267,19 +267,7 @@ IsRefusedStatus status.WriteFault = ⊤
 IsRefusedStatus status.BadJournal = ⊤
 IsRefusedStatus other = ⊥
 
--- every status but that of refused words
-abbrev pub IsRunStatus : Status → Type 0
-IsRunStatus status.BadWords = ⊥
-IsRunStatus other = ⊤
-
--- the statuses that come only once all nodes have opened
-abbrev pub IsPlayedStatus : Status → Type 0
-IsPlayedStatus status.Finished = ⊤
-IsPlayedStatus status.TooLong = ⊤
-IsPlayedStatus status.ReadFault = ⊤
-IsPlayedStatus other = ⊥
-
--- the numbers of these statuses
+-- the numbers of the statuses that come only once all nodes have opened
 abbrev pub IsPlayedNumber : ℕ → Type 0
 IsPlayedNumber number = (number ≡ 0) ⊎ ((number ≡ 3) ⊎ (number ≡ 4))
 
@@ -424,6 +412,24 @@ pub record HasCauses {F B : Type 0} (m : Meaning F) (r : Ran B) (disks : Change 
   pub disk_fault : Ends r status.DiskFault → InMemory r.words (λ n. OneFails (2 * n.nodes) disks.old disks.new)
   pub bad_journal : Ends r status.BadJournal → InMemory r.words (λ n. ToldWhy m r (firsts n.nodes disks) n)
   pub own : IsPlayedNumber r.status → InMemory r.words (λ n. OpensOwn m (firsts n.nodes disks) n)
+
+-- A run over the nodes' own first disks, which were made ready: over such as show a coherent world it is a story, over any it went line by line or nothing
+-- was read. It is as long as its status says, which has its cause, and as many disks come back under the same names.
+pub record PlaysOwn {F B : Type 0} (m : Meaning F) (seen : B → DiskSeen) (r : Ran B) (n : NetworkWords) : Type 0 where
+  pub runs : IsStory m r (views seen r.disks) n
+  pub went : Went m r (views seen r.disks) n
+  pub words : Ends r status.BadWords → ⊥
+  pub too_long : Ends r status.TooLong ↔ (r.count ≡ 16777217)
+  pub few : r.count ≤ 16777217
+  pub read_fault : Ends r status.ReadFault → Rose r.source_faults.old r.source_faults.new
+  pub write_fault : Ends r status.WriteFault → Rose r.sink_faults.old r.sink_faults.new
+  pub disk_fault : Ends r status.DiskFault → OneFails n.nodes (map seen r.disks.old) (map seen r.disks.new)
+  pub bad_journal : Ends r status.BadJournal → ToldWhy m r (views seen r.disks) n
+  pub own : IsPlayedNumber r.status → OpensOwn m (views seen r.disks) n
+  pub count : length r.disks.new ≡ length r.disks.old
+  pub attached : attached_as (map seen r.disks.new) ≡ attached_as (map seen r.disks.old)
+  -- no count of faults of the source or the sink falls
+  pub later : (r.source_faults.old ≤ r.source_faults.new) × (r.sink_faults.old ≤ r.sink_faults.new)
 
 -- A run over disks that were made ready: over such as show a coherent world it is a story, over any it went line by line or nothing was read.
 pub record IsPlayed {F B : Type 0} (m : Meaning F) (seen : B → DiskSeen) (r : Ran B) (n : NetworkWords) : Type 0 where

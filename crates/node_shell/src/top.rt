@@ -1,10 +1,7 @@
-ghost use Rattle.std.specs.Prelude.{◌≡◌, ◌≤◌, ◌↔◌, [], length, map, string_bytes};
-ghost use Rattle.outside.specs.Faults.{Rose};
-ghost use Rattle.net_model.specs.Environment.{party, meaning};
-ghost use Rattle.node_core.specs.Disks.{attached_as};
-ghost use Rattle.network_core.specs.Worlds.{World, Shows, Coherent};
+ghost use Rattle.std.specs.Prelude.{◌≡◌, [], length, map, string_bytes};
+ghost use Rattle.net_model.specs.Environment.{meaning};
 ghost use Rattle.shell_words.specs.Program.{IsNetwork};
-ghost use Rattle.node_shell.specs.Runs.{PlaysOrRefuses, GoesOrHalts, OneFails, IsToldWhy, KeepOwn, RanReady, RanInMemory, RanInFolder, IsPlayedStatus, IsRunStatus, number_of_status, IsRun, environment_for, over};
+ghost use Rattle.node_shell.specs.Runs.{PlaysOwn, RanReady, RanInMemory, RanInFolder, number_of_status, IsRun};
 
 use super::disks::{put_back, take_first};
 use super::openings::{attach_all, refuse};
@@ -54,36 +51,16 @@ fn play<
 ) -> (Status, u64, Vec<B>)
     requires within { IsNetwork network }
     requires disks { length own.items ≡ network.nodes }
-    ensures count { length result.2.items ≡ length own.items }
-    ensures attached { attached_as (map B.seen result.2.items)
-        ≡ attached_as (map B.seen own.items) }
-    ensures runs { let e = environment_for
-        (meaning F.machine F.reading (J.judges contracts.now)) network in (w : World)
-        → Shows e (over e w.now (map B.seen own.items)) w → Coherent e w
-        → PlaysOrRefuses (meaning F.machine F.reading (J.judges contracts.now)) network.nodes
-        (party network.notary) w (map B.seen own.items) (map B.seen result.2.items)
-        (S.left source.old) (S.left source.new) (K.written sink.old)
-        (K.written sink.new) result.1 result.0 }
-    ensures went { GoesOrHalts (meaning F.machine F.reading (J.judges contracts.now)) network.nodes
-        (party network.notary) (map B.seen own.items) (map B.seen result.2.items)
-        (S.left source.old) (S.left source.new) (K.written sink.old)
-        (K.written sink.new) result.1 result.0 }
-    ensures too_long { result.0 ≡ Status.TooLong ↔ (result.1 ≡ 16777217) }
-    ensures few { result.1 ≤ 16777217 }
-    ensures own { IsPlayedStatus result.0
-        → KeepOwn F.reading network.nodes (party network.notary) (map B.seen own.items) }
-    ensures kinds { IsRunStatus result.0 }
-    ensures read_fault { result.0 ≡ Status.ReadFault
-        → Rose (S.faults source.old) (S.faults source.new) }
-    ensures disk_fault { result.0 ≡ Status.DiskFault
-        → OneFails network.nodes (map B.seen own.items) (map B.seen result.2.items) }
-    ensures bad_journal { result.0 ≡ Status.BadJournal
-        → IsToldWhy F.reading network.nodes (party network.notary) (map B.seen own.items)
-        (map B.seen result.2.items) (K.written sink.old) (K.written sink.new) Status.BadJournal }
-    ensures write_fault { result.0 ≡ Status.WriteFault
-        → Rose (K.faults sink.old) (K.faults sink.new) }
-    ensures later { (S.faults source.old ≤ S.faults source.new)
-        × (K.faults sink.old ≤ K.faults sink.new) }
+    ensures { PlaysOwn (meaning F.machine F.reading (J.judges contracts.now)) B.seen (record {
+      words = [];
+      disks = record { old = own.items; new = result.2.items };
+      left = record { old = S.left source.old; new = S.left source.new };
+      written = record { old = K.written sink.old; new = K.written sink.new };
+      source_faults = record { old = S.faults source.old; new = S.faults source.new };
+      sink_faults = record { old = K.faults sink.old; new = K.faults sink.new };
+      count = result.1;
+      status = number_of_status result.0;
+    }) network }
 {
     match Net::<B, F>::begin(alloc, network.nodes, Party(network.notary), own) {
         Ok(net) => {

@@ -1,4 +1,4 @@
-use Rattle.std.proofs.Common.{◌≡◌, inl, inr, map, length, refl, sym, ◌∙◌, ap, subst}
+use Rattle.std.proofs.Common.{◌≡◌, ℕ, inl, inr, map, length, refl, sym, ◌∙◌, ap, subst, arith}
 use Rattle.std.proofs.lemmas.List.{length-map}
 use Rattle.net_base.proofs.Lists.{map_both}
 use Rattle.net_model.specs.Environment.{meaning, party}
@@ -6,88 +6,80 @@ use Rattle.outside.specs.Disk.{DiskSeen}
 use Rattle.node_core.specs.Disks.{roomless, attached_as}
 use Rattle.node_core.specs.Seen.{NodeSeen}
 use Rattle.network_core.proofs.Naming.{names_of, begun_names, refused_names}
-use Rattle.node_shell.specs.Runs.{IsToldWhy}
+use Rattle.node_shell.specs.Story.{IsScriptStatus}
+use Rattle.node_shell.specs.Runs.{IsToldWhy, IsRefusedStatus, number_of_status}
 use Rattle.node_shell.proofs.Readying.{stay_same}
-use Rattle.node_shell.proofs.Opening.{played, refused, told_why, fault_why, boots_own}
+use Rattle.node_shell.proofs.Opening.{played, refused, told_why, fault_why, boots_own, runs_as, refused_unplayed, is_bad_words, is_too_long, is_read_fault, is_write_fault, is_disk_fault, is_bad_journal}
 use Rattle.node_shell.proofs.Naming.{script_keeps}
 use Rattle.node_shell.proofs.top.play.Goals as goal
 
-pub returns-in-Ok-clause-count : goal.returns-in-Ok-clause-count
-returns-in-Ok-clause-count g c =
-    sym (length-map c.into_disks.result.items (λ d. roomless (g.B.Disk.seen d))) ∙ ap length c.into_disks.ensures ∙ length-map c.session-end.new.net.nodes (λ n. n.disk) ∙ c.session-end.ensures.count ∙ c.in-Ok.ensures.count ∙ sym c.requires.disks
-
-pub returns-in-Ok-clause-runs : goal.returns-in-Ok-clause-runs
-returns-in-Ok-clause-runs g c w shows coherent =
-    let m = meaning g.F.FlowSet.machine g.F.Spelt.reading (g.J.Judge.judges c.args.contracts.now) in
+-- the nodes opened, and the script was played
+pub returns-in-Ok : goal.returns-in-Ok
+returns-in-Ok g c =
     let f = g.F.Spelt.reading in
+    let m = meaning g.F.FlowSet.machine f (g.J.Judge.judges c.args.contracts.now) in
     let n = c.args.network.nodes in
     let notary = party c.args.network.notary in
-    let own = map g.B.Disk.seen c.args.own.items in
-    let count : length own ≡ n = length-map c.args.own.items g.B.Disk.seen ∙ c.requires.disks in
-    let disks = sym c.into_disks.ensures ∙ sym (map_both roomless g.B.Disk.seen c.into_disks.result.items) in
-    played m n notary own (map g.B.Disk.seen c.into_disks.result.items) w c.in-Ok.net c.session-end.new.net _ _ _ _ _ _ c.session-end.ensures.kinds (boots_own f n notary own c.in-Ok.net.now c.in-Ok.net.nodes count c.in-Ok.ensures.boots) (c.in-Ok.ensures.ok (g.J.Judge.judges c.args.contracts.now)) c.in-Ok.ensures.boots c.in-Ok.ensures.waiting c.session-end.ensures.went c.session-end.ensures.ran disks shows coherent
-
-pub returns-in-Err-clause-runs : goal.returns-in-Err-clause-runs
-returns-in-Err-clause-runs g c w shows coherent =
-    let own = map g.B.Disk.seen c.args.own.items in
-    refused (meaning g.F.FlowSet.machine g.F.Spelt.reading (g.J.Judge.judges c.args.contracts.now)) c.args.network.nodes (party c.args.network.notary) own _ w c.in-Err.refused.node c.in-Err.refused.why _ _ _ _ c.requires.within.some (length-map c.args.own.items g.B.Disk.seen ∙ c.requires.disks) (c.in-Err.ensures.refused (g.J.Judge.judges c.args.contracts.now)) c.refuse-status.ensures.refused shows coherent
-
-pub returns-in-Err-clause-disk_fault : goal.returns-in-Err-clause-disk_fault
-returns-in-Err-clause-disk_fault g c is =
-    fault_why (meaning g.F.FlowSet.machine g.F.Spelt.reading (g.J.Judge.judges c.args.contracts.now)) c.args.network.nodes (party c.args.network.notary) (map g.B.Disk.seen c.args.own.items) _ c.in-Err.refused.node c.in-Err.refused.why _ _ _ (length-map c.args.own.items g.B.Disk.seen ∙ c.requires.disks) (c.in-Err.ensures.refused (g.J.Judge.judges c.args.contracts.now)) c.refuse-status.ensures.refused is
-
-pub returns-in-Err-clause-bad_journal : goal.returns-in-Err-clause-bad_journal
-returns-in-Err-clause-bad_journal g c is =
-    let f = g.F.Spelt.reading in
-    let n = c.args.network.nodes in
-    let notary = party c.args.network.notary in
-    let own = map g.B.Disk.seen c.args.own.items in
-    subst (IsToldWhy f n notary own _ _ _) is (told_why (meaning g.F.FlowSet.machine f (g.J.Judge.judges c.args.contracts.now)) n notary own _ c.in-Err.refused.node c.in-Err.refused.why _ _ _ c.requires.within.some (length-map c.args.own.items g.B.Disk.seen ∙ c.requires.disks) (c.in-Err.ensures.refused (g.J.Judge.judges c.args.contracts.now)) c.refuse-status.ensures.refused)
-
-pub returns-in-Ok-clause-own : goal.returns-in-Ok-clause-own
-returns-in-Ok-clause-own g c is =
-    boots_own g.F.Spelt.reading c.args.network.nodes (party c.args.network.notary) (map g.B.Disk.seen c.args.own.items) c.in-Ok.net.now c.in-Ok.net.nodes (length-map c.args.own.items g.B.Disk.seen ∙ c.requires.disks) c.in-Ok.ensures.boots
-
-pub returns-in-Ok-clause-went : goal.returns-in-Ok-clause-went
-returns-in-Ok-clause-went g c =
-    let own = map g.B.Disk.seen c.args.own.items in
-    inl (record {
-      ready = own;
-      made = stay_same own;
-      begun = c.in-Ok.net;
-      opened = c.in-Ok.ensures.boots;
-      quiet = c.in-Ok.ensures.waiting;
-      last = c.session-end.new.net;
-      script = c.session-end.ensures.went;
-      back = sym c.into_disks.ensures ∙ sym (map_both roomless g.B.Disk.seen c.into_disks.result.items);
-    })
-
-pub returns-in-Err-clause-went : goal.returns-in-Err-clause-went
-returns-in-Err-clause-went g c =
-    let own = map g.B.Disk.seen c.args.own.items in
-    inr (record {
-      unread = refl;
-      none = refl;
-      why = inr (told_why (meaning g.F.FlowSet.machine g.F.Spelt.reading (g.J.Judge.judges c.args.contracts.now)) c.args.network.nodes (party c.args.network.notary) own _ c.in-Err.refused.node c.in-Err.refused.why _ _ _ c.requires.within.some (length-map c.args.own.items g.B.Disk.seen ∙ c.requires.disks) (c.in-Err.ensures.refused (g.J.Judge.judges c.args.contracts.now)) c.refuse-status.ensures.refused);
-    })
-
-pub returns-in-Ok-clause-attached : goal.returns-in-Ok-clause-attached
-returns-in-Ok-clause-attached g c =
-    let m = meaning g.F.FlowSet.machine g.F.Spelt.reading (g.J.Judge.judges c.args.contracts.now) in
-    let f = g.F.Spelt.reading in
     let own = map g.B.Disk.seen c.args.own.items in
     let back = c.into_disks.result.items in
     let last = c.session-end.new.net in
-    let count : length own ≡ c.args.network.nodes = length-map c.args.own.items g.B.Disk.seen ∙ c.requires.disks in
+    let begun = c.in-Ok.ensures in
+    let end = c.session-end.ensures in
+    let s = c.session-end.result.status in
+    let count : length own ≡ n = length-map c.args.own.items g.B.Disk.seen ∙ c.requires.disks in
+    let disks = sym c.into_disks.ensures ∙ sym (map_both roomless g.B.Disk.seen back) in
+    let opens = boots_own f n notary own c.in-Ok.net.now c.in-Ok.net.nodes count begun.boots in
     let out : attached_as (map g.B.Disk.seen back) ≡ names_of last.nodes =
     map_both (λ (d : DiskSeen). d.attached) g.B.Disk.seen back ∙ sym (map_both (λ (d : DiskSeen). d.attached) (λ d. roomless (g.B.Disk.seen d)) back) ∙ ap attached_as c.into_disks.ensures ∙ map_both (λ (d : DiskSeen). d.attached) (λ (n : NodeSeen). n.disk) last.nodes in
-    out ∙ script_keeps m c.in-Ok.net _ _ _ _ _ last _ c.session-end.ensures.went ∙ begun_names f c.args.network.nodes (party c.args.network.notary) own c.in-Ok.net.now c.in-Ok.net.nodes count c.in-Ok.ensures.boots
+    record {
+      runs = λ w shows coherent. runs_as m n notary w _ _ _ _ _ _ _ _ _ s refl refl
+          (played m n notary own (map g.B.Disk.seen back) w c.in-Ok.net last _ _ _ _ _ s end.kinds opens (begun.ok (g.J.Judge.judges c.args.contracts.now)) begun.boots begun.waiting end.went end.ran disks shows coherent);
+      went = record {
+        status = s;
+        is = refl;
+        ran = inl (record { ready = own; made = stay_same own; begun = c.in-Ok.net; opened = begun.boots; quiet = begun.waiting; last = last; script = end.went; back = disks });
+      };
+      words = λ two. subst IsScriptStatus (is_bad_words s two) end.kinds;
+      too_long = (λ three. end.too_long.0 (is_too_long s three), λ full. ap number_of_status (end.too_long.1 full));
+      few = end.few;
+      read_fault = λ four. end.read_fault (is_read_fault s four);
+      write_fault = λ five. end.write_fault (is_write_fault s five);
+      disk_fault = λ six. absurd (subst IsScriptStatus (is_disk_fault s six) end.kinds);
+      bad_journal = λ eight. absurd (subst IsScriptStatus (is_bad_journal s eight) end.kinds);
+      own = λ number. opens;
+      count = sym (length-map back (λ d. roomless (g.B.Disk.seen d))) ∙ ap length c.into_disks.ensures ∙ length-map last.nodes (λ n. n.disk) ∙ end.count ∙ begun.count ∙ sym c.requires.disks;
+      attached = out ∙ script_keeps m c.in-Ok.net _ _ _ _ _ last _ end.went ∙ begun_names f n notary own c.in-Ok.net.now c.in-Ok.net.nodes count begun.boots;
+      later = end.later;
+    }
 
-pub returns-in-Err-clause-attached : goal.returns-in-Err-clause-attached
-returns-in-Err-clause-attached g c =
-    refused_names (meaning g.F.FlowSet.machine g.F.Spelt.reading (g.J.Judge.judges c.args.contracts.now)) c.args.network.nodes (party c.args.network.notary) (map g.B.Disk.seen c.args.own.items) c.in-Err.refused.node c.in-Err.refused.why _ (c.in-Err.ensures.refused (g.J.Judge.judges c.args.contracts.now))
-
-pub returns-in-Err-clause-count : goal.returns-in-Err-clause-count
-returns-in-Err-clause-count g c =
+-- a node did not open
+pub returns-in-Err : goal.returns-in-Err
+returns-in-Err g c =
+    let f = g.F.Spelt.reading in
+    let m = meaning g.F.FlowSet.machine f (g.J.Judge.judges c.args.contracts.now) in
+    let n = c.args.network.nodes in
+    let notary = party c.args.network.notary in
+    let own = map g.B.Disk.seen c.args.own.items in
+    let node = c.in-Err.refused.node in
+    let why = c.in-Err.refused.why in
+    let some = c.requires.within.some in
+    let count : length own ≡ n = length-map c.args.own.items g.B.Disk.seen ∙ c.requires.disks in
     let refusal = c.in-Err.ensures.refused (g.J.Judge.judges c.args.contracts.now) in
-    sym (length-map c.in-Err.refused.disks.items g.B.Disk.seen) ∙ refusal.count ∙ length-map c.args.own.items g.B.Disk.seen
+    let told = c.refuse-status.ensures in
+    let s = c.refuse-status.result in
+    let tells = told_why m n notary own _ node why _ _ s some count refusal told.refused in
+    record {
+      runs = λ w shows coherent. runs_as m n notary w _ _ _ _ _ _ _ _ _ s refl refl (refused m n notary own _ w node why _ _ _ s some count refusal told.refused shows coherent);
+      went = record { status = s; is = refl; ran = inr (record { unread = refl; none = refl; why = inr tells }) };
+      words = λ two. subst IsRefusedStatus (is_bad_words s two) told.kinds;
+      too_long = (λ three. absurd (subst IsRefusedStatus (is_too_long s three) told.kinds), λ full. absurd (omega (arith, full)));
+      few = omega arith;
+      read_fault = λ four. absurd (subst IsRefusedStatus (is_read_fault s four) told.kinds);
+      write_fault = λ five. told.cause (is_write_fault s five);
+      disk_fault = λ six. fault_why m n notary own _ node why _ _ s count refusal told.refused (is_disk_fault s six);
+      bad_journal = λ eight. subst (IsToldWhy f n notary own _ _ _) (is_bad_journal s eight) tells;
+      own = λ number. absurd (refused_unplayed s told.kinds number);
+      count = sym (length-map c.in-Err.refused.disks.items g.B.Disk.seen) ∙ refusal.count ∙ length-map c.args.own.items g.B.Disk.seen;
+      attached = refused_names m n notary own node why _ refusal;
+      later = (omega arith, told.later);
+    }

@@ -2,11 +2,11 @@ use Rattle.std.proofs.Common.{◌≡◌, ◌+◌, ◌*◌, length, map, drop, re
 use Rattle.net_model.specs.Environment.{meaning, party}
 use Rattle.node_shell.specs.declared.statuses.Status.TheVariants as status
 use Rattle.node_shell.specs.Pairs.{first_disks, woven}
-use Rattle.node_shell.specs.Runs.{IsPlayedNumber, number_of_status}
+use Rattle.node_shell.specs.Runs.{IsPlayedNumber}
 use Rattle.node_shell.proofs.Weaving.{woven_count}
 use Rattle.node_shell.proofs.Readying.{stay_same}
 use Rattle.node_shell.proofs.Running.{Handed, back_enough, last, last_count, last_behind, last_second, last_attached, own_stay, one_failed}
-use Rattle.node_shell.proofs.Opening.{ready_at, runs_as, is_read_fault, is_write_fault, is_too_long, is_disk_fault, is_bad_journal, is_played, not_words, all_own_since, told_at, went_at}
+use Rattle.node_shell.proofs.Opening.{runs_at, all_own_since, told_at, went_at}
 use Rattle.node_shell.proofs.Unread.{still_ends, still_played}
 use Rattle.node_shell.proofs.top.run_ready.Goals as goal
 
@@ -56,28 +56,27 @@ returns g c =
     let h : Handed seen n ready ready own rest back ends = record { few = c.requires.within.few; all = c.requires.disks; stay = stay_same (map seen ready); taken = c.take_first.ensures.woven; count = c.take_first.ensures.count; same = c.play-status.ensures.count; put = ap (λ v. v.items) c.end_with-2.ensures.1 ∙ c.put_back.ensures } in
     let end = c.end_with-2.ensures in
     let p = c.play-status.ensures in
-    let s = c.play-status.result.0 in
     let stay = own_stay seen n ready ready own rest back ends h in
     let there = last seen n ready ready own rest back ends h in
     let olds = first_disks n (map seen ready) in
     record {
       played = record {
-        story = λ w shows coherent. runs_as m n notary w _ _ _ _ _ _ _ _ _ s end.0 end.2 (ready_at m n notary olds (map seen own) (map seen back) _ w _ _ _ _ _ s there stay p.runs shows coherent);
-        went = went_at m n notary olds (map seen own) (map seen back) _ _ _ _ _ _ _ _ s there stay end.0 end.2 p.went;
-        bad_journal = λ eight. told_at f n notary olds (map seen own) (map seen back) _ _ _ status.BadJournal there stay (p.bad_journal (is_bad_journal s (sym end.0 ∙ eight)));
-        own = λ number. all_own_since f n notary olds (map seen own) stay (p.own (is_played s (subst IsPlayedNumber end.0 number)));
+        story = λ w shows coherent. runs_at m n notary olds (map seen own) (map seen back) _ w _ _ _ _ _ _ _ _ there end.0 end.2 stay p.runs shows coherent;
+        went = went_at m n notary olds (map seen own) (map seen back) _ _ _ _ _ _ _ _ _ there end.0 end.2 stay p.went;
+        bad_journal = λ eight. told_at f n notary olds (map seen own) (map seen back) _ _ _ status.BadJournal there stay (p.bad_journal (sym end.0 ∙ eight));
+        own = λ number. all_own_since f n notary olds (map seen own) stay (p.own (subst IsPlayedNumber end.0 number));
         seconds = λ q d e within at there. last_second seen n ready ready own rest back ends h q d e within at there;
         attached = last_attached seen n ready ready own rest back ends h p.attached;
       };
-      disk_fault = λ six. one_failed seen n ready ready own rest back ends h (p.disk_fault (is_disk_fault s (sym end.0 ∙ six)));
+      disk_fault = λ six. one_failed seen n ready ready own rest back ends h (p.disk_fault (sym end.0 ∙ six));
       ends = record {
-        words = λ two. not_words s p.kinds (sym end.0 ∙ two);
-        too_long = (λ three. end.2 ∙ p.too_long.0 (is_too_long s (sym end.0 ∙ three)), λ full. end.0 ∙ ap number_of_status (p.too_long.1 (sym end.2 ∙ full)));
+        words = λ two. p.words (sym end.0 ∙ two);
+        too_long = (λ three. end.2 ∙ p.too_long.0 (sym end.0 ∙ three), λ full. end.0 ∙ p.too_long.1 (sym end.2 ∙ full));
         few = omega (arith, p.few, end.2);
         disks = last_count seen n ready ready own rest back ends h;
         others = last_behind seen n ready ready own rest back ends h refl;
-        read_fault = λ four. p.read_fault (is_read_fault s (sym end.0 ∙ four));
-        write_fault = λ five. p.write_fault (is_write_fault s (sym end.0 ∙ five));
+        read_fault = λ four. p.read_fault (sym end.0 ∙ four);
+        write_fault = λ five. p.write_fault (sym end.0 ∙ five);
         later = p.later;
       };
     }
