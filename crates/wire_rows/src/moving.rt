@@ -71,8 +71,9 @@ pub fn post_ack<R: Wait>(
     }
 }
 
-/// Pulls the front frame from the inbox of a place, and no other. `None` comes only where that was empty at a step of this call, or there
-/// is none; then nothing was pulled. With every share, what was pulled is just what was posted then.
+/// Pulls the front frame from the inbox of a place, and no other. After `None` nothing was pulled: there is no such inbox, or it was empty;
+/// of a pass with every share contracts say that what was posted there is just what was pulled. With fewer shares, `None` may come at any
+/// time.
 pub fn pull_from<R: Wait>(
     rt: &R,
     inboxes: &[Inbox],
