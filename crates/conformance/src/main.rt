@@ -67,9 +67,7 @@ fn check_all<R: Print + Threads + Wait + Sync>(
 }
 
 fn main(rt: HostRuntime) -> Result<()> {
-    laws::of_the_model();
-    laws::of_the_network();
-    laws::of_work_side_by_side();
+    laws::all();
     let alloc = rt.alloc();
     let text = io::read_to_string(alloc, rt.reader())?;
     let mut contracts: Vec<BoxedContract> = Vec::new(alloc);

@@ -180,10 +180,12 @@ module _ {F : Type 0} (m : Meaning F) (id : Identity) where
   -- ---- how many times the nodes were worked on
 
   times_on : (a b c : Pair e) (one : Passage m id a b) (way : Way m id b c) → times_worked (passage_on a b c one way) ≡ times_worked one
+  unfolding passage_on
   times_on a b c (goes one) way = refl
   times_on a b c (works commits before work one) way = refl
 
   pub times_then : (a b c : Pair e) (one : Passage m id a b) (two : Passage m id b c) → times_worked (passage_then a b c one two) ≡ times_worked one + times_worked two
+  unfolding passage_then
   times_then a b c one (goes way) = let is = times_on a b c one way in omega (arith, is)
   times_then a b c one (works {b = d} commits before work way) = let is = times_then a b d one before in omega (arith, is)
 
