@@ -277,7 +277,7 @@ scripts_are_both m id a b left0 left1 written0 written1 count s run = record {
 -- ---- how often lines have the nodes worked on
 
 asked_append : (xs ys : List (List ℕ)) → work_asked_by (xs ++ ys) ≡ work_asked_by xs + work_asked_by ys
-asked_append [] ys = refl
+asked_append [] ys = omega arith
 asked_append (x ∷ xs) ys = let is = asked_append xs ys in omega (arith, is)
 
 -- a line more
@@ -381,7 +381,7 @@ module _ {F : Type 0} (m : Meaning F) (id : Identity) where
   short_passage a line b (inl l) = line_passage line None a b l.goes
   short_passage a line b (inr (text, l)) = link_passage a line text b l
 
-  pub leads_on : (most : ℕ) (a b : shown) → Few m id most a b → LeadsOn m id most a b
+  leads_on : (most : ℕ) (a b : shown) → Few m id most a b → LeadsOn m id most a b
   leads_on most a b one = record { passage = one.passage; few = one.few; kept = kept_on_passages m id a b one.passage; acknowledged = acknowledged_on_passages m id a b one.passage }
 
   -- a line more
