@@ -34,7 +34,7 @@ use Rattle.app_flows.specs.Opening.{OpensOf, see_by, called_opens}
 
 -- ---- what a call calls
 
--- for a call that no machine makes there stands a counting flow that wakes once and returns 0
+-- for a call that no machine makes there stands a counting flow that waits to wake
 abbrev pub none : Frame CountPlace Count
 none = record { at = stands.Asking Sleeping; fields = record { left = 0; all = 0 } }
 

@@ -23,11 +23,11 @@ pub type FinalityFrame = Frame<FinalityPlace, Finality, ByCall>;
 pub type Called = Beside<CountFrame, Sum<ClientFrame, Sum<ResolveFrame, FinalityFrame>>>;
 
 /// The frame of each call, before it started. For a call to give or to take, which no machine makes, there stands a counting flow that
-/// wakes once and returns 0.
+/// waits to wake; begun by a call it fails with 54.
 #[derive(Clone, Copy)]
 pub struct CallFrames;
 
-/// A counting flow that wakes once and returns 0.
+/// A counting flow that waits to wake.
 fn wakes_once() -> Called
     ensures { result ≡ of.First none }
 {

@@ -45,7 +45,8 @@ pub enum FinalityPlace {
 /// order; to each it sends the transactions that it asks for. It returns the id.
 ///
 /// It fails with 31 to 33 where the transaction is not accepted, 35 where a peer asks for what is not recorded here, 41 to 45 where the
-/// notary refuses, 50 to 52 where a session goes wrong, 62 at the 513th request, by the reason of an act that was refused, and else 54.
+/// notary refuses, 50 to 52 where a session goes wrong, 62 at the 513th request, by the reason of an act that was refused, 53 where the
+/// notary gave no answer in three tries, and else 54.
 /// What was recorded stays recorded then.
 #[derive(Drop)]
 pub struct Finality {

@@ -10,6 +10,6 @@ use Rattle.ledger_acts.specs.declared.job.Job.{Job}
 use Rattle.ledger_acts.specs.Jobs.{awaited}
 use Rattle.flow_steps.specs.Going.{flow_in}
 
--- the job that the flow of an event waits for, over the recorded transactions: none where it isn't live, or waits for none
+-- the job that the flow of an event waits for, over the recorded transactions: none where it isn't live, or waits for none; of an event that accepts an item, that of flow 0
 abbrev pub job_of : {F : Type 0} → Identity → List (Hash32 × SignedTx) → List (FlowState F) → Event → Option Job
 job_of me store flows event = option_and_then (awaited me store) (option_and_then checkpoint_of (slice_get flows (flow_in event)))

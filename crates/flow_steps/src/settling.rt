@@ -26,7 +26,7 @@ use ledger_tables::LedgerTables;
 use net_base::{Cause, Event, Identity};
 use std::alloc::{AllocError, Global};
 
-/// Whether the flow of an event waits for a job. Takes no memory.
+/// Whether the flow of an event waits for a job; of an event that accepts an item, whether flow 0 does. Takes no memory.
 pub fn awaits_job<F: FlowSet>(
     identity: &Identity,
     ledger: &LedgerTables,

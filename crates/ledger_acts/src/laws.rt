@@ -26,7 +26,7 @@ pub fn concludes_as_meant<F>()
     ensures { ConcludesAsMeant F }
 {}
 
-/// The law that a flow whose job was run goes on by its result, whatever its node did meanwhile.
+/// The law that a flow which still waits for a job that was run goes on by its result, whatever its node did meanwhile.
 pub fn settles_as_meant<F>()
     ensures { SettlesAsMeant F }
 {}

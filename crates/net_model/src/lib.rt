@@ -1,6 +1,6 @@
 //! The network machine: what a cause does to a node, which causes are a run of the network, and what is printed of it.
 //!
-//! The definitions stand in `specs/`, in this order: `Environment`, `State`, `Steps`, `Enabled`, `Runs`, `Fits`, `Left`,
+//! The definitions stand in `specs/`, in this order: `Environment`, `State`, `Steps`, `Enabled`, `Sound`, `Runs`, `Fits`, `Left`,
 //! `Tags`, `Stores`, `Books`, `Print`. Each function here without a body is a law of these definitions, which is its contract;
 //! `merge` puts the causes of all nodes into the order of their run, and `copy_cause` copies one.
 #![tactic(auto)]

@@ -54,7 +54,7 @@ pub enum Step {
         node: u8,
     },
     /// Rounds, each of turns at the nodes that are up, then of their posts, then of deliveries, in the order of places, until one commits
-    /// nothing, or a journal is full.
+    /// nothing, or a turn or a delivery meets a full journal.
     Drain,
 }
 
@@ -91,7 +91,7 @@ pub enum Outcome {
     Booted,
     /// The disk failed, and the node is down.
     Fault,
-    /// A round committed nothing, or a journal is full.
+    /// A round committed nothing, or a turn or a delivery met a full journal.
     Drained { full: bool },
     /// Nothing changed but, at a boot, the power.
     Refused { why: Refusal },

@@ -26,7 +26,7 @@ use Rattle.node_core.specs.declared.faults.SettleFault.TheVariants as settle_fau
 use Rattle.node_core.specs.Journals.{is_full}
 use Rattle.node_core.specs.Seen.{NodeSeen, Commits, Faults, TurnAnswers}
 
--- a node whose jobs are run beside it as contracts see it: the node, and the flows whose jobs are out
+-- a node whose jobs are run beside it as contracts see it: the node, and the flows that have a claim
 pub record SharedSeen : Type 0 where
   pub node : NodeSeen
   pub claims : List ℕ

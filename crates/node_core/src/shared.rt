@@ -30,7 +30,7 @@ use std::marker::Model;
 #[derive(Drop)]
 pub struct SharedNode<D: Disk, F: Spelt + Drop> {
     node: Node<D, F>,
-    // the flows whose jobs are out
+    // the flows that have a claim
     claims: Vec<u32>,
 }
 
@@ -46,7 +46,7 @@ impl<D: Disk, F: Spelt + Drop> Model for SharedNode<D, F> {
 }
 
 impl<D: Disk, F: Spelt + Drop> SharedNode<D, F> {
-    /// A node of which no job is out. Takes no memory.
+    /// A node without a claim. Takes no memory.
     pub fn new(alloc: Global, node: Node<D, F>) -> SharedNode<D, F>
         ensures node { result.node ≡ node }
         ensures claims { result.claims ≡ [] }
@@ -64,7 +64,7 @@ impl<D: Disk, F: Spelt + Drop> SharedNode<D, F> {
         &self.node
     }
 
-    /// The flows whose jobs are out; none while the node is down.
+    /// The flows that have a claim; none while the node is down.
     pub fn claims(&self) -> &[u32]
         ensures claims { result.now ≡ self.now.claims }
         ensures down { self.now.node.journal ≡ None → result.now ≡ [] }
@@ -89,7 +89,7 @@ impl<D: Disk, F: Spelt + Drop> SharedNode<D, F> {
         self.claims.clear();
     }
 
-    /// Brings the node up from its disk, as `Node::boot` does. No job is out then.
+    /// Brings the node up from its disk, as `Node::boot` does. No flow has a claim then.
     ///
     /// # Errors
     ///
@@ -182,7 +182,7 @@ impl<D: Disk, F: FlowSet> SharedNode<D, F> {
     }
 
     /// A whole turn: the job that it hands out is run here, over these contracts, and settled. Without a claim it is a turn by which the
-    /// job is run at once (`Node::turn_whole`), but that memory may run out at a full journal too.
+    /// job is run at once (`Node::turn_whole`), but that memory may run out at any time.
     ///
     /// # Errors
     ///

@@ -41,7 +41,8 @@ pub enum ResolvePlace {
 
 /// Resolving, machine 32, a subflow: in a session it asks for the ancestors of a transaction that are lacking, the last of them first,
 /// records each once its own ancestors are there, and then the transaction itself; it returns Unit. It fails with 62 where more than
-/// 256 ancestors are lacking, or where it would ask more than 512 times, and with 54 where another transaction comes than it asked for.
+/// 256 ancestors were recorded here or are lacking, or where it would ask more than 512 times, with 54 where another transaction comes
+/// than it asked for, by the reason of an act that was refused, and with 54 at any other result that was not expected.
 #[derive(Drop)]
 pub struct Resolve {
     /// The session.
@@ -52,7 +53,7 @@ pub struct Resolve {
     pub pending: IdList,
     /// How many ancestors were recorded here.
     pub done: u16,
-    /// How often it asked, 0 to 512.
+    /// How often it asked; 0 to 512 where the frame was begun here.
     pub asks: u16,
     /// The ancestor that came last.
     pub current: Option<Boxed<SignedTx>>,

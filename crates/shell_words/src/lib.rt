@@ -1,5 +1,5 @@
 //! The words of the shell: the lines of a script, their words, what the words ask for, and the words that the
-//! program is started with. The definitions stand in `specs/Script.antt` and `specs/Program.antt`.
+//! program is started with. The definitions stand in `specs/Script.antt`, `specs/Program.antt` and `specs/NamedWords.antt`.
 #![tactic(auto)]
 
 mod commands;

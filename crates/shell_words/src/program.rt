@@ -111,8 +111,8 @@ fn fault_by(error: clap::Error) -> WordsFault
 ///
 /// # Errors
 ///
-/// `Refused` exactly where `clap` refuses the words for another cause than memory, or the notary is
-/// not one of the nodes; `Memory` for want of memory.
+/// `Refused` only where `clap` refuses the words for another cause than memory, or the notary is not one of the nodes, and there nothing
+/// else comes but `Memory`.
 pub fn program_words(alloc: Global, words: &[String]) -> Result<ProgramWords, WordsFault>
     ensures network { IfOk result (λ p.
         network_of_words (map (λ s. string_bytes s) words.now) ≡ Some p.network) }

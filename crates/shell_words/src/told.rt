@@ -28,7 +28,7 @@ const COMMANDS: &str =
   deliver N I         hands the frame at place I to N
   repeat N I          hands a copy of it to N
   lose N I            drops it
-  cut N K O           takes the power of N at its K-th write from now; O (0 to 3) says what is left
+  cut N K O           takes N's power, now (K 0) or at its K-th write or sync; O (0 to 3): what is left
   boot N              gives the power back, and rebuilds N from its journal
   drain               turns, posts and delivers until nothing more happens
   flows N             tells the flows of N

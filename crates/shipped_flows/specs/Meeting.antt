@@ -49,7 +49,7 @@ talk m k p q i (suc n) x first second =
     returns_or k (after m (p i) (got y) first).1 (λ z.
     talk m k p q (i + 2) n z (after m (p (i + 1)) resumed.Sent (after m (p i) (got y) first)) (after m (q (i + 1)) resumed.Sent (after m (q i) (got x) second))))))
 
--- What begins opens a session with the party by a number, and its Init begins a flow. Once the session is open, the two come, from that number on, in as many turns to the first one's return of the count. Their places are counted from the making of the first.
+-- What begins opens a session with the party by a number, and its Init begins a flow. Once the session is open, the two come, from that number on, within as many turns to the first one's return of the count. Their places are counted from the making of the first.
 pub record Meets {F : Type 0} (m : Machine F) (to count : ℕ) (p q : ℕ → Place) (k : Key) (ping : F × Act F) : Type 0 where
   pub class : ℕ
   pub first : ℕ

@@ -1,4 +1,5 @@
-//! The flow set that the program ships: counting (class 1), ping (2), probe (10), and the echo that answers an Init of class 2.
+//! Flows of the program that touch no ledger: counting (class 1), ping (2), probe (10), and the echo that answers an Init of class 2; and
+//! a flow set of these alone.
 //!
 //! Each machine is in the form of `flow_forms`; the set is their sum.
 #![tactic(auto)]

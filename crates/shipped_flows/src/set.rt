@@ -16,7 +16,7 @@ pub type Shipped = Sum<
     >,
 >;
 
-/// None of the machines calls a subflow. For a call, which none makes, there stands a counting flow that wakes once and returns 0.
+/// None of the machines calls a subflow. For a call, which none makes, there stands a counting flow that waits to wake.
 #[derive(Clone, Copy)]
 pub struct NoCalls;
 

@@ -87,7 +87,7 @@ abbrev pub are_apart : List Lock → Bool
 are_apart locks = not (has_repeat ref_eq (map (λ l. l.reference) locks))
 
 -- these states are the party's vault over the recorded transactions and the soft locks. No id is recorded twice, each recorded transaction
--- consumes outputs of recorded ones, each lock is on one of these, and none is locked twice
+-- consumes states of recorded ones, by their ids, each lock is on such a state, and none is locked twice
 pub record IsVault (me : Party) (recorded : List (Hash32 × Tx)) (locks : List Lock) (held : List Held) : Type 0 where
   pub states : held ≡ vault_of me recorded locks
   pub once : are_once recorded ≡ true

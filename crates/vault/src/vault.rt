@@ -24,7 +24,7 @@ use std::marker::Model;
 
 /// The unconsumed states that are relevant to a party, in order of recording and then of place, each with the flow that has it
 /// soft-locked, and each within its limits. What was consumed is not kept: the list is of unconsumed states alone.
-// Each call but `new`, `make_room` and `law_keeps_limits` goes through the states; `reserve` until it has found 64 coins.
+// Each call but `new`, `party`, `make_room` and `law_keeps_limits` goes through the states; `reserve` until it has found 64 coins.
 #[derive(Drop)]
 pub struct Vault {
     party: Party,
@@ -138,7 +138,7 @@ impl Vault {
     ///
     /// # Errors
     ///
-    /// `Short` exactly where the first 64 coins are worth less than the amount, with their sum.
+    /// `Short` exactly where the first 64 coins are worth less than the amount, with their sum; `Memory`.
     pub fn reserve(
         &self,
         alloc: Global,

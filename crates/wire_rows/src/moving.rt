@@ -63,7 +63,8 @@ pub fn post_ack<R: Wait>(
     ensures of { map (λ p. p.of) passes.new.items ≡ inboxes.now }
     ensures posted { PostedAll (option_to_list ack) (map (λ p. p.seen) passes.old.items)
         (map (λ p. p.seen) passes.new.items) }
-    ensures moves { (at : ℕ) → Exchanges at [] (option_to_list ack) (map (λ p. p.seen) passes.old.items)
+    ensures moves { (at : ℕ) → Exchanges at [] (option_to_list ack)
+        (map (λ p. p.seen) passes.old.items)
         (map (λ p. p.seen) passes.new.items) }
 {
     if let Some(out) = ack {
