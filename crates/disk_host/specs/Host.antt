@@ -1,6 +1,6 @@
 -- A disk in memory or over a file, as contracts see it.
 use Rattle.std.specs.Prelude.{◌-◌, ◌^◌, ℕ, [], Option, Some, None, true, false}
-use Rattle.outside.specs.Disk.{Attached, DiskSeen, clean}
+use Rattle.outside.specs.Disk.{Attached, DiskSeen, by_itself, clean}
 use Rattle.disk_mem.specs.Mem.{MemSeen, disk_of}
 
 -- a file tells nothing of its content, is never calm, and has no fuse; no place and no number
@@ -14,7 +14,7 @@ file_view faults attached = record {
   power = true;
   fuse = None;
   of_file = true;
-  attached = attached;
+  attached = by_itself attached;
   room_end = 2 ^ 64 - 1;
   room_writes = 2 ^ 32 - 1;
 }

@@ -1,5 +1,5 @@
 ghost use Rattle.std.specs.Prelude.{◌≡◌, ◌≤◌, [], true, false, None, Some, IsNone, IsSome, IsOk, IsErrOf, OnOk, OnErr, option_map};
-ghost use Rattle.outside.specs.Disk.{clean};
+ghost use Rattle.outside.specs.Disk.{by_itself, clean};
 ghost use Rattle.outside.specs.Faults.{HasCause, Rose};
 ghost use Rattle.disk_host.specs.Host.{file_view};
 
@@ -44,7 +44,7 @@ impl<'a, R: Files<File = File>> HostDisk<'a, R> {
         ensures tells { result.tells ≡ true }
         ensures calm { (result.calm ≡ true) × (result.power ≡ true) × (result.fuse ≡ None)
             × (result.faults ≡ 0) }
-        ensures attached { result.attached ≡ None }
+        ensures attached { result.attached ≡ by_itself None }
     {
         HostDisk {
             rt,
@@ -122,9 +122,10 @@ impl<'a, R: Files<File = File>> Disk for HostDisk<'a, R> {
 impl<'a, R: Files<File = File>> Bay for HostDisk<'a, R> {
     fn attach(&mut self, alloc: Global, dir: Option<&str>, name: &str) -> Result<(), AttachFault>
         ensures file { IsSome dir.entry → OnOk result
-            (self.new ≡ file_view self.old.faults self.new.attached) }
+            (self.new ≡ file_view self.old.faults self.new.attached.own) }
         ensures done { IsNone dir.entry → IsOk result }
-        ensures attached { OnOk result (self.new.attached
+        ensures beside { self.new.attached.beside ≡ self.old.attached.beside }
+        ensures attached { OnOk result (self.new.attached.own
             ≡ Some (record { folder = option_map (λ s. s.now) dir.entry; name = name.now })) }
         ensures in_memory { IsNone dir.entry
             → self.new ≡ record self.old {

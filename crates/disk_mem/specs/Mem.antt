@@ -1,6 +1,6 @@
 -- A disk in memory, as contracts see it.
 use Rattle.std.specs.Prelude.{◌≡◌, ℕ, ◌+◌, ◌-◌, ◌*◌, ◌/◌, take, drop, ◌<◌, ◌≤◌, min, List, length, Contains, map, Vec, Option, Some, None, option_map, vec_len, vec_capacity, Bool, true, false, not, ◌&&◌}
-use Rattle.outside.specs.Disk.{Attached, DiskState, DiskSeen, Durable, IsImage, IsFilled, overwritten, written, blows}
+use Rattle.outside.specs.Disk.{Attached, by_itself, DiskState, DiskSeen, Durable, IsImage, IsFilled, overwritten, written, blows}
 use Rattle.disk_mem.specs.declared.lay.Medium.{Medium}
 use Rattle.disk_mem.specs.declared.lay.Last.{Last}
 use Rattle.disk_mem.specs.declared.lay.Fuse.{Fuse}
@@ -66,7 +66,7 @@ has_no_fuse (Some f) = false
 
 -- as every disk is seen: it tells its content, is no file, and is calm where it has power and no fuse
 abbrev pub disk_of : MemSeen → DiskSeen
-disk_of m = record { tells = true; state = m.state; faults = m.faults; calm = m.power && has_no_fuse m.fuse; power = m.power; fuse = m.fuse; of_file = false; attached = m.attached; room_end = m.room_end; room_writes = m.room_writes }
+disk_of m = record { tells = true; state = m.state; faults = m.faults; calm = m.power && has_no_fuse m.fuse; power = m.power; fuse = m.fuse; of_file = false; attached = by_itself m.attached; room_end = m.room_end; room_writes = m.room_writes }
 
 -- a write or a sync is done
 abbrev pub answers : MemSeen → Bool

@@ -1,6 +1,6 @@
 -- What a call leaves of a node's disk.
 use Rattle.std.specs.Prelude.{◌≡◌, ◌⊎◌, ℕ, ◌≤◌, List, ◌∷◌, [], ◌++◌, map, Option, true, false, None}
-use Rattle.outside.specs.Disk.{Attached, DiskState, DiskSeen, IsImage, EachImage, IfTold, CutsPower, LeavesBy}
+use Rattle.outside.specs.Disk.{Attachment, DiskState, DiskSeen, IsImage, EachImage, IfTold, CutsPower, LeavesBy}
 use Rattle.net_base.specs.declared.names.Identity.{Identity}
 use Rattle.disk_journal.specs.Journal.{IsSound, IsYoung, journal_of}
 
@@ -9,7 +9,7 @@ abbrev pub roomless : DiskSeen → DiskSeen
 roomless v = record v { room_end = 0; room_writes = 0 }
 
 -- what each of these disks is attached as
-abbrev pub attached_as : List DiskSeen → List (Option Attached)
+abbrev pub attached_as : List DiskSeen → List Attachment
 attached_as disks = map (λ d. d.attached) disks
 
 -- at every moment since the call began each image is as said, and so is what is kept, and what the disk is attached as stays; nothing is said of the images of a disk that doesn't tell

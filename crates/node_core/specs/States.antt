@@ -1,6 +1,6 @@
 -- Where a node's disk is.
 use Rattle.std.specs.Prelude.{◌≡◌, ◌⊎◌, ℕ, Bool, true, false, List, [], Option, Some, None, Result, Err, ⊤}
-use Rattle.outside.specs.Disk.{DiskSeen, clean}
+use Rattle.outside.specs.Disk.{DiskSeen, by_itself, clean}
 use Rattle.net_base.specs.declared.names.Identity.{Identity}
 use Rattle.session_table.specs.declared.resent.Item.{Item}
 use Rattle.net_model.specs.Environment.{Environment}
@@ -15,7 +15,7 @@ use Rattle.node_core.specs.Takes.{AcceptsAs}
 
 -- no disk at all
 abbrev pub no_disk : DiskSeen
-no_disk = record { tells = false; state = record { kept = []; now = clean []; past = [] }; faults = 0; calm = false; power = false; fuse = None; of_file = false; attached = None; room_end = 0; room_writes = 0 }
+no_disk = record { tells = false; state = record { kept = []; now = clean []; past = [] }; faults = 0; calm = false; power = false; fuse = None; of_file = false; attached = by_itself None; room_end = 0; room_writes = 0 }
 
 -- what contracts see of the disk, wherever it is
 abbrev pub disk_in : {D F : Type 0} → (D → DiskSeen) → State D F → DiskSeen

@@ -139,7 +139,30 @@ pub record Attached : Type 0 where
   pub folder : Option (List ℕ)
   pub name : List ℕ
 
--- a disk as contracts see it
+-- a disk by itself, as contracts see it
+pub record DiskAlone : Type 0 where
+  pub tells : Bool
+  pub state : DiskState
+  pub faults : ℕ
+  pub calm : Bool
+  pub power : Bool
+  pub fuse : Option (ℕ × ℕ)
+  pub of_file : Bool
+  -- what it was attached as last, none before that
+  pub attached : Option Attached
+  pub room_end : ℕ
+  pub room_writes : ℕ
+
+-- what a disk was attached as last, none before that; and of the first of two disks the second one, which stands beside it
+pub record Attachment : Type 0 where
+  pub own : Option Attached
+  pub beside : Option DiskAlone
+
+-- of a disk that has none beside it
+abbrev pub by_itself : Option Attached → Attachment
+by_itself own = record { own = own; beside = None }
+
+-- a disk as contracts see it, and what stands beside it
 pub record DiskSeen : Type 0 where
   -- it tells its content; of a file's content nothing is known
   pub tells : Bool
@@ -151,11 +174,19 @@ pub record DiskSeen : Type 0 where
   -- at this write or sync from now, counted from 1, the power goes, with this outcome
   pub fuse : Option (ℕ × ℕ)
   pub of_file : Bool
-  -- what it was attached as last, none before that
-  pub attached : Option Attached
+  -- what it was attached as, and the disk beside it
+  pub attached : Attachment
   -- this number of writes that end at or below this place have room
   pub room_end : ℕ
   pub room_writes : ℕ
+
+-- a disk without what stands beside it
+abbrev pub alone : DiskSeen → DiskAlone
+alone v = record { tells = v.tells; state = v.state; faults = v.faults; calm = v.calm; power = v.power; fuse = v.fuse; of_file = v.of_file; attached = v.attached.own; room_end = v.room_end; room_writes = v.room_writes }
+
+-- the first of two disks, with the second one beside it
+abbrev pub with_beside : DiskSeen → DiskAlone → DiskSeen
+with_beside first second = record first { attached = record { own = first.attached.own; beside = Some second } }
 
 -- what a read gives, and without power what it will give; nothing of a disk that doesn't tell
 pub record Kept (v : DiskSeen) (bytes : List ℕ) : Type 0 where

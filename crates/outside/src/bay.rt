@@ -26,13 +26,15 @@ pub struct NoFuse;
 pub trait Bay: Disk {
     /// Makes the disk ready: the file of this name in a folder, or, where there is no folder, the disk in memory as it is.
     ///
-    /// After `Ok` contracts see what it was attached as: the folder, if there is one, and the name. Without a folder nothing
-    /// else changes but the count of faults. With one the disk may tell nothing from then on, and may be calm no longer; a
+    /// After `Ok` contracts see what it was attached as: the folder, if there is one, and the name. What stands beside it stays
+    /// as it was. Without a folder nothing else changes but the count of faults. With one the disk may tell nothing from then on, and may be calm no longer; a
     /// disk that told nothing doesn't begin to tell. A refusal leaves all but the count of faults, which rises at
     /// [`AttachFault::Failed`] alone.
     fn attach(&mut self, alloc: Global, dir: Option<&str>, name: &str) -> Result<(), AttachFault>
-        ensures attached { OnOk result ((Self.seen self.new).attached
+        ensures attached { OnOk result ((Self.seen self.new).attached.own
             ≡ Some (record { folder = option_map (λ s. s.now) dir.entry; name = name.now })) }
+        ensures beside { (Self.seen self.new).attached.beside
+            ≡ (Self.seen self.old).attached.beside }
         ensures in_memory { IsNone dir.entry
             → Self.seen self.new ≡ record (Self.seen self.old) {
               faults = (Self.seen self.new).faults;

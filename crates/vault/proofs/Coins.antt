@@ -79,8 +79,8 @@ picked_is token amount states coins list n is same p =
     ap (least_prefix amount) (sym is)
     ∙ least_picked coins amount n (omega (arith, p.there, same_length list coins same)) (omega (arith, p.enough, same_worth list coins n same)) (λ m lt. omega (arith, p.least m lt, same_worth list coins m same))
 
-pub short_is : (token : Token) (amount : ℕ) (states coins : List Held) (list : List Coin) (have : ℕ) → coins ≡ take 64 (coins_of token states) → map (λ c. c.amount) list ≡ map worth coins → have ≡ worth_of (candidates list) → have < amount → (reserved token amount states ≡ None) × (have ≡ reservable token states)
+pub short_is : (token : Token) (amount : ℕ) (states coins : List Held) (list : List Coin) (have : ℕ) → coins ≡ take 64 (coins_of token states) → map (λ c. c.amount) list ≡ map worth coins → have ≡ worth_of (candidates list) → have < amount → (reserved token amount states ≡ None) × (have ≡ reservable token states) × (have < amount)
 short_is token amount states coins list have is same sum short =
     let whole : take 64 coins ≡ coins = ap (take 64) is ∙ take-take 64 64 (coins_of token states) (omega arith) ∙ sym is in
     let all : have ≡ sum_by worth coins = sum ∙ same_worth list coins 64 same ∙ ap (sum_by worth) whole in
-    (ap (least_prefix amount) (sym is) ∙ least_short coins amount (omega (arith, all, short)), all ∙ ap (sum_by worth) is)
+    (ap (least_prefix amount) (sym is) ∙ least_short coins amount (omega (arith, all, short)), all ∙ ap (sum_by worth) is, short)
