@@ -1,6 +1,6 @@
 -- Where a fact of all ledgers holds: of every coherent world, at every moment of a way, and after every line of a script.
 use Rattle.std.specs.Prelude.{ℕ, List, map}
-use Rattle.disk_journal.specs.Journal.{journal_of}
+use Rattle.node_core.specs.Disks.{Image, spelt}
 use Rattle.net_base.specs.declared.names.Identity.{Identity}
 use Rattle.net_base.specs.Names.{IsIdentity}
 use Rattle.net_model.specs.Environment.{Environment, environment, Meaning}
@@ -24,4 +24,4 @@ InWorlds m fact = (id : Identity) (w : World) (lists : List (List (List ℕ))) �
 
 -- it holds at every moment of a way, whichever images power cuts leave of the disks
 abbrev pub OnWays : {F : Type 0} → Meaning F → Fact F → Type 0
-OnWays m fact = (id : Identity) (a b : Pair (environment m id)) (way : Way m id a b) (s : Instant) (images : List (List ℕ)) → IsIdentity id → IsOn way s → IsChoice s images → fact (environment m id) (map journal_of images)
+OnWays m fact = (id : Identity) (a b : Pair (environment m id)) (way : Way m id a b) (s : Instant) (images : List Image) → IsIdentity id → IsOn way s → IsChoice s images → fact (environment m id) (map spelt images)

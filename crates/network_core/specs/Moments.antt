@@ -1,11 +1,12 @@
 -- What power cuts may leave of all disks of a network at every moment of a call.
 use Rattle.std.specs.Prelude.{◌≡◌, ℕ, List, ◌∷◌, [], ◌++◌, length, map, drop, slice_get, Contains, Some}
-use Rattle.outside.specs.Disk.{DiskState, Durable, IsImage, moment}
-use Rattle.disk_journal.specs.Journal.{IsSound, journal_of}
+use Rattle.outside.specs.Disk.{DiskState, Durable, moment}
+use Rattle.disk_journal.specs.Journal.{IsSound}
 use Rattle.net_base.specs.declared.causes.Cause.{Cause}
 use Rattle.net_model.specs.Environment.{Environment}
 use Rattle.net_model.specs.Runs.{IsFaithful}
 use Rattle.node_tables.specs.Journals.{records_of, causes_of}
+use Rattle.node_core.specs.Disks.{Image, MayLeave, IsSoundly, spelt}
 use Rattle.node_core.specs.Seen.{NodeSeen}
 use Rattle.network_core.specs.Worlds.{NetSeen}
 
@@ -38,22 +39,22 @@ pub record OneMoves (old new : NetSeen) : Type 0 where
 -- ---- what is said of an instant
 
 -- one image of each disk
-pub record IsChoice (s : Instant) (images : List (List ℕ)) : Type 0 where
+pub record IsChoice (s : Instant) (images : List Image) : Type 0 where
   pub count : length images ≡ length s
-  pub each : (q : ℕ) (d : Durable) (c : List ℕ) → slice_get s q ≡ Some d → slice_get images q ≡ Some c → IsImage d c
+  pub each : (q : ℕ) (d : Durable) (c : Image) → slice_get s q ≡ Some d → slice_get images q ≡ Some c → MayLeave d c
 
 -- the causes of an image begin with those of an image that the node's disk had then
-abbrev pub Begins : {F : Type 0} → Environment F → NodeSeen → List ℕ → Type 0
-Begins e n c = (b : List ℕ) × IsImage n.disk.state.now b × (rest : List Cause) × (causes_of e.frame_at (journal_of c) ≡ causes_of e.frame_at (journal_of b) ++ rest)
+abbrev pub Begins : {F : Type 0} → Environment F → NodeSeen → Image → Type 0
+Begins e n c = (b : Image) × MayLeave n.disk.state.now b × (rest : List Cause) × (causes_of e.frame_at (spelt c) ≡ causes_of e.frame_at (spelt b) ++ rest)
 
 -- every image of the node's disk is sound
 abbrev pub AreSound : NodeSeen → Type 0
-AreSound n = (c : List ℕ) → IsImage n.disk.state.now c → IsSound n.identity c
+AreSound n = IsSoundly n.identity n.disk
 
 -- Whichever images power cuts leave at an instant, one of each disk, their journals are those of one run; the causes of each begin with those
 -- that an image of its disk spelt in the old network; and where each of a node's images was sound there, each is.
 pub record IsKept {F : Type 0} (e : Environment F) (old : NetSeen) (s : Instant) : Type 0 where
   pub count : length s ≡ length old.nodes
-  pub faithful : (images : List (List ℕ)) → IsChoice s images → IsFaithful e (map (records_of e.frame_at) (map journal_of images))
-  pub begins : (q : ℕ) (n : NodeSeen) (d : Durable) (c : List ℕ) → slice_get old.nodes q ≡ Some n → slice_get s q ≡ Some d → IsImage d c → Begins e n c
-  pub sound : (q : ℕ) (n : NodeSeen) (d : Durable) (c : List ℕ) → slice_get old.nodes q ≡ Some n → AreSound n → slice_get s q ≡ Some d → IsImage d c → IsSound n.identity c
+  pub faithful : (images : List Image) → IsChoice s images → IsFaithful e (map (records_of e.frame_at) (map spelt images))
+  pub begins : (q : ℕ) (n : NodeSeen) (d : Durable) (c : Image) → slice_get old.nodes q ≡ Some n → slice_get s q ≡ Some d → MayLeave d c → Begins e n c
+  pub sound : (q : ℕ) (n : NodeSeen) (d : Durable) (c : Image) → slice_get old.nodes q ≡ Some n → AreSound n → slice_get s q ≡ Some d → MayLeave d c → IsSound n.identity c

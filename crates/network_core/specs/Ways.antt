@@ -1,12 +1,12 @@
 -- Ways of networks and of the worlds that they show, and all that power cuts may leave on a way.
 use Rattle.std.specs.Prelude.{◌≡◌, ◌⊎◌, ⊤, ℕ, Bool, List, map, slice_get, Option, Some}
 use Rattle.outside.specs.Disk.{Durable}
-use Rattle.disk_journal.specs.Journal.{journal_of}
 use Rattle.net_base.specs.declared.causes.Cause.{Cause}
 use Rattle.net_base.specs.declared.names.Identity.{Identity}
 use Rattle.net_model.specs.Environment.{environment, Meaning}
 use Rattle.net_model.specs.Runs.{merged}
 use Rattle.node_tables.specs.Journals.{causes_of}
+use Rattle.node_core.specs.Disks.{Image, spelt}
 use Rattle.node_core.specs.Seen.{NodeSeen}
 use Rattle.network_core.specs.declared.steps.Outcome.{Outcome}
 use Rattle.network_core.specs.declared.steps.Step.{Step}
@@ -79,5 +79,5 @@ WaysMoveOneByOne F = (m : Meaning F) (id : Identity) (a b : Pair (environment m 
 
 -- what is acknowledged as a way begins stands once in the merged journals at every moment on it, whichever images power cuts leave
 abbrev pub AcknowledgedAtAllMoments : (F : Type 0) → Type 0
-AcknowledgedAtAllMoments F = (m : Meaning F) (id : Identity) (a b : Pair (environment m id)) (way : Way m id a b) (s : Instant) → IsOn way s → (images : List (List ℕ)) → IsChoice s images
-    → (p : ℕ) (cause : Cause) → Acknowledged (environment m id) a.world p cause → StandsOnce (p, cause) (merged (map (causes_of m.frame_at) (map journal_of images)))
+AcknowledgedAtAllMoments F = (m : Meaning F) (id : Identity) (a b : Pair (environment m id)) (way : Way m id a b) (s : Instant) → IsOn way s → (images : List Image) → IsChoice s images
+    → (p : ℕ) (cause : Cause) → Acknowledged (environment m id) a.world p cause → StandsOnce (p, cause) (merged (map (causes_of m.frame_at) (map spelt images)))

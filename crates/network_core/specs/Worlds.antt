@@ -2,7 +2,6 @@
 use Rattle.std.specs.Prelude.{◌≡◌, ◌⊎◌, ℕ, ◌≤◌, Bool, true, false, List, length, map, slice_get, Option, Some, None, option_and_then}
 use Rattle.std.specs.Option.{option_map_or}
 use Rattle.std.specs.List.{AllByRecursion}
-use Rattle.outside.specs.Disk.{IsImage}
 use Rattle.net_base.specs.declared.names.Identity.{Identity}
 use Rattle.net_base.specs.declared.names.Key.{Key}
 use Rattle.session_wire.specs.Frames.{IsFrame, frame}
@@ -10,11 +9,11 @@ use Rattle.session_wire.specs.Sessions.{Session, session_of}
 use Rattle.session_wire.specs.declared.frame.Frame.{Frame}
 use Rattle.session_wire.specs.declared.frame.Frame.TheVariants.{Message, Ack}
 use Rattle.session_frames.specs.Sending.{addressee}
-use Rattle.disk_journal.specs.Journal.{IsYoung, journal_of}
 use Rattle.net_model.specs.Environment.{Environment, environment, identity, Meaning}
 use Rattle.net_model.specs.State.{NodeState}
 use Rattle.net_model.specs.Runs.{IsLocal, IsMatched, IsFaithful, network_of, item_from}
 use Rattle.node_tables.specs.Journals.{records_of, state_of, causes_of}
+use Rattle.node_core.specs.Disks.{EachLeft, IsOpenable, kept_journal, spelt}
 use Rattle.node_core.specs.Seen.{NodeSeen}
 
 -- what contracts see of a network
@@ -64,14 +63,14 @@ ShowsJournal (Some bodies) x = (x.up ≡ true) × (x.journal ≡ bodies) × (x.o
 pub record NodeShows {F : Type 0} (e : Environment F) (p : ℕ) (n : NodeSeen) (x : NodeWorld) : Type 0 where
   pub identity_is : n.identity ≡ identity e p
   pub tells : n.disk.tells ≡ true
-  pub images : (c : List ℕ) → IsImage n.disk.state.now c → MaySpell x (journal_of c)
-  pub kept : journal_of n.disk.state.kept ≡ x.journal
+  pub images : EachLeft n.disk (λ c. MaySpell x (spelt c))
+  pub kept : kept_journal n.disk ≡ x.journal
   pub journal : ShowsJournal n.journal x
   pub counts : x.faults ≡ n.disk.faults
   pub calm_is : x.calm ≡ n.disk.calm
   pub file_is : x.file ≡ n.disk.of_file
   pub acked_is : x.acked ≡ n.acked
-  pub opens : x.openable ≡ true → (c : List ℕ) → IsImage n.disk.state.now c → IsYoung n.identity c
+  pub opens : x.openable ≡ true → IsOpenable n.identity n.disk
 
 -- a network stands in the world as this, node by node
 pub record Shows {F : Type 0} (e : Environment F) (net : NetSeen) (w : World) : Type 0 where

@@ -1,8 +1,45 @@
--- What a call leaves of a node's disk.
+-- What is on a node's disks, and what a call leaves of them.
 use Rattle.std.specs.Prelude.{◌≡◌, ◌⊎◌, ℕ, ◌≤◌, List, ◌∷◌, [], ◌++◌, map, Option, true, false, None}
-use Rattle.outside.specs.Disk.{Attachment, DiskState, DiskSeen, IsImage, EachImage, IfTold, CutsPower, LeavesBy}
+use Rattle.outside.specs.Disk.{Attachment, Durable, DiskState, DiskSeen, IsImage, EachImage, IfTold, CutsPower, LeavesBy}
 use Rattle.net_base.specs.declared.names.Identity.{Identity}
 use Rattle.disk_journal.specs.Journal.{IsSound, IsYoung, journal_of}
+
+-- ---- how all above a journal speaks of what is on a node's disks: what a power cut may leave of them, which journal that spells, and whether an opening
+-- takes it
+
+-- what a power cut leaves of a node's disks: the bytes of the one that the journal is on
+abbrev pub Image : Type 0
+Image = List ℕ
+
+-- at this moment a power cut may leave this
+abbrev pub MayLeave : Durable → Image → Type 0
+MayLeave moment c = IsImage moment c
+
+-- the journal that an image spells, body by body
+abbrev pub spelt : Image → List (List ℕ)
+spelt c = journal_of c
+
+-- whatever a power cut leaves now is so
+abbrev pub EachLeft : DiskSeen → (Image → Type 0) → Type 0
+EachLeft disk P = (c : Image) → MayLeave disk.state.now c → P c
+
+-- at every moment since, whatever a power cut might have left was so
+abbrev pub EachSince : DiskSeen → DiskSeen → (DiskState → Image → Type 0) → Type 0
+EachSince old new P = IfTold old new (λ d e. EachImage d e (P d))
+
+-- the journal that the disks keep
+abbrev pub kept_journal : DiskSeen → List (List ℕ)
+kept_journal disk = spelt disk.state.kept
+
+-- whatever a power cut leaves now is a sound journal of this node, or one that is not begun
+abbrev pub IsSoundly : Identity → DiskSeen → Type 0
+IsSoundly id disk = EachLeft disk (IsSound id)
+
+-- and no opening of the node refuses it
+abbrev pub IsOpenable : Identity → DiskSeen → Type 0
+IsOpenable id disk = EachLeft disk (IsYoung id)
+
+-- ---- what a call leaves
 
 -- a disk as contracts see it, without its room
 abbrev pub roomless : DiskSeen → DiskSeen
@@ -13,17 +50,17 @@ abbrev pub attached_as : List DiskSeen → List Attachment
 attached_as disks = map (λ d. d.attached) disks
 
 -- at every moment since the call began each image is as said, and so is what is kept, and what the disk is attached as stays; nothing is said of the images of a disk that doesn't tell
-pub record Moves (old new : DiskSeen) (may : DiskState → List ℕ → Type 0) : Type 0 where
+pub record Moves (old new : DiskSeen) (may : DiskState → Image → Type 0) : Type 0 where
   pub file : new.of_file ≡ old.of_file
   pub attached : new.attached ≡ old.attached
   pub tells : new.tells ≡ old.tells
   pub later : old.faults ≤ new.faults
-  pub images : IfTold old new (λ d e. EachImage d e (may d))
+  pub images : EachSince old new may
   pub kept : IfTold old new (λ d e. may d e.kept)
 
 -- where each image was so, each is so at every moment since
-abbrev pub KeepsImages : (List ℕ → Type 0) → DiskSeen → DiskSeen → Type 0
-KeepsImages P old new = IfTold old new (λ d e. ((c : List ℕ) → IsImage d.now c → P c) → EachImage d e P)
+abbrev pub KeepsImages : (Image → Type 0) → DiskSeen → DiskSeen → Type 0
+KeepsImages P old new = IfTold old new (λ d e. ((c : Image) → MayLeave d.now c → P c) → EachImage d e P)
 
 -- sound images stay sound, and those over which an opening gives no refusal stay so
 pub record KeepsForm (id : Identity) (old new : DiskSeen) : Type 0 where
@@ -32,17 +69,17 @@ pub record KeepsForm (id : Identity) (old new : DiskSeen) : Type 0 where
 
 -- each image is sound and spells these bodies, and so does what is kept
 pub record Holds (id : Identity) (disk : DiskSeen) (bodies : List (List ℕ)) : Type 0 where
-  pub sound : disk.tells ≡ true → (c : List ℕ) → IsImage disk.state.now c → IsSound id c
-  pub images : disk.tells ≡ true → (c : List ℕ) → IsImage disk.state.now c → journal_of c ≡ bodies
-  pub kept : disk.tells ≡ true → journal_of disk.state.kept ≡ bodies
+  pub sound : disk.tells ≡ true → IsSoundly id disk
+  pub images : disk.tells ≡ true → EachLeft disk (λ c. spelt c ≡ bodies)
+  pub kept : disk.tells ≡ true → kept_journal disk ≡ bodies
 
 -- an image spells the old bodies, or these with one more
-abbrev pub OldOrMore : List (List ℕ) → List ℕ → DiskState → List ℕ → Type 0
-OldOrMore bodies body d c = (journal_of c ≡ bodies) ⊎ (journal_of c ≡ bodies ++ body ∷ [])
+abbrev pub OldOrMore : List (List ℕ) → List ℕ → DiskState → Image → Type 0
+OldOrMore bodies body d c = (spelt c ≡ bodies) ⊎ (spelt c ≡ bodies ++ body ∷ [])
 
 -- a power cut leaves one of the images
-abbrev pub OneOf : DiskState → List ℕ → Type 0
-OneOf d c = IsImage d.now c
+abbrev pub OneOf : DiskState → Image → Type 0
+OneOf d c = MayLeave d.now c
 
 -- the power went now, and nothing else changed but that; what was pending is left as the outcome says
 pub record CutsNow (outcome : ℕ) (old new : DiskSeen) : Type 0 where

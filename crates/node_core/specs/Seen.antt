@@ -1,6 +1,6 @@
 -- What contracts see of a node, and what its calls answer.
 use Rattle.std.specs.Prelude.{◌≡◌, ◌⊎◌, ℕ, zero, suc, ◌+◌, ◌<◌, ◌≤◌, true, false, MatchOption, List, [], ◌∷◌, ◌++◌, length, map, Option, Some, None, Result, Ok, Err, IsOk, IfSome, ⊤}
-use Rattle.outside.specs.Disk.{DiskSeen, IfTold, IsImage, LeavesBy, Burns, BurnsUpTo}
+use Rattle.outside.specs.Disk.{DiskSeen, IfTold, LeavesBy, Burns, BurnsUpTo}
 use Rattle.outside.specs.Faults.{Rose}
 use Rattle.net_base.specs.declared.names.Identity.{Identity}
 use Rattle.net_base.specs.declared.causes.Event.{Event}
@@ -13,7 +13,7 @@ use Rattle.net_model.specs.Environment.{Environment}
 use Rattle.net_model.specs.State.{Record, Effect}
 use Rattle.net_model.specs.Steps.{place, body_in, stamp_in, node_step, next_cause}
 use Rattle.net_model.specs.Enabled.{picked}
-use Rattle.disk_journal.specs.Journal.{JournalSeen, IsReady, IsYoung, WasSpelt, journal_of, is_unformatted, formatted, opening_calls, refusal, placed}
+use Rattle.disk_journal.specs.Journal.{JournalSeen, IsReady, WasSpelt, is_unformatted, formatted, opening_calls, refusal, placed}
 use Rattle.disk_journal.specs.declared.fault.OpenFault.{OpenFault}
 use Rattle.disk_journal.specs.declared.fault.OpenFault.TheVariants as open_fault
 use Rattle.flow_records.specs.declared.step.Step.{Step}
@@ -38,7 +38,7 @@ use Rattle.node_core.specs.declared.faults.TurnFault.TheVariants as turn_fault
 use Rattle.node_core.specs.declared.faults.Turned.{Turned}
 use Rattle.node_core.specs.declared.faults.Turned.TheVariants as turned
 use Rattle.node_core.specs.Journals.{bytes_of, is_full}
-use Rattle.node_core.specs.Disks.{roomless, Moves, KeepsForm, Holds, OldOrMore, OneOf}
+use Rattle.node_core.specs.Disks.{roomless, spelt, kept_journal, IsOpenable, Moves, KeepsForm, Holds, OldOrMore, OneOf}
 
 -- a node that is up as contracts see it
 pub record UpSeen : Type 0 where
@@ -67,7 +67,7 @@ pub record Tied (id : Identity) (journal : JournalSeen) (bodies : List (List ℕ
   pub ready : IsReady journal
   pub counted : journal.count ≡ length bodies
   pub ended : journal.length ≡ 17 + bytes_of bodies
-  pub kept : journal.disk.tells ≡ true → journal_of journal.disk.state.kept ≡ bodies
+  pub kept : journal.disk.tells ≡ true → kept_journal journal.disk ≡ bodies
 
 -- ---- commits
 
@@ -211,10 +211,10 @@ pub record Opens (id : Identity) (old new : DiskSeen) (list : List (ℕ × List 
   pub form : KeepsForm id old new
   pub holds : Holds id new (map (λ x. x.1) list)
   pub few : length list ≤ 65536
-  pub told : old.tells ≡ true → list ≡ placed 16 (journal_of old.state.kept)
+  pub told : old.tells ≡ true → list ≡ placed 16 (kept_journal old)
   pub format : old.tells ≡ true → refusal id old.state.kept ≡ None
   pub left : IfTold old new (λ d e. e.kept ≡ formatted id d.kept)
-  pub same : IfTold old new (λ d e. journal_of e.kept ≡ journal_of d.kept)
+  pub same : IfTold old new (λ d e. spelt e.kept ≡ spelt d.kept)
   pub calm : old.calm ≡ true → new.calm ≡ true
   pub power : (old.power ≡ true) × (new.power ≡ true)
   -- a fuse that ends within its writes and syncs fails it
@@ -249,7 +249,7 @@ GaveUp _ = ⊥
 pub record Unbooted {F : Type 0} (frame_at : Reads F) (id : Identity) (old : DiskSeen) (why : BootFault) (new : DiskSeen) : Type 0 where
   pub moves : Moves old new WasSpelt
   pub form : KeepsForm id old new
-  pub same : (why ≡ boot_fault.Fault → ⊥) → IfTold old new (λ d e. journal_of e.kept ≡ journal_of d.kept)
+  pub same : (why ≡ boot_fault.Fault → ⊥) → IfTold old new (λ d e. spelt e.kept ≡ spelt d.kept)
   pub bytes : (why ≡ boot_fault.Fault → ⊥) → IfTold old new (λ d e. is_unformatted d.kept ≡ false → e.kept ≡ d.kept)
   pub calm : old.calm ≡ true → new.calm ≡ true
   -- no call of it brings power back, and a refusal that is no fault leaves it on
@@ -258,7 +258,7 @@ pub record Unbooted {F : Type 0} (frame_at : Reads F) (id : Identity) (old : Dis
   -- such a refusal comes after one sync, but where the records that were read don't fit
   pub burns : (why ≡ boot_fault.Fault → ⊥) → Burns 1 old new ⊎ Unfit frame_at id old why new
   pub cause : Unopened id old why new ⊎ Unfit frame_at id old why new
-  pub begun : old.tells ≡ true → ((c : List ℕ) → IsImage old.state.now c → IsYoung id c) → GaveUp why ⊎ Unfit frame_at id old why new
+  pub begun : old.tells ≡ true → IsOpenable id old → GaveUp why ⊎ Unfit frame_at id old why new
 
 -- a boot gave this list of bodies, each a record that fits
 pub record Booted {F : Type 0} (frame_at : Reads F) (id : Identity) (old new : DiskSeen) (list : List (ℕ × List ℕ)) : Type 0 where

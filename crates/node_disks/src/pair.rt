@@ -14,9 +14,9 @@ pub struct NodeDisks<D: Disk> {
 }
 
 impl<D: Disk> Disk for NodeDisks<D> {
-    ghost use Rattle.outside.specs.Disk.{alone, with_beside};
+    ghost use Rattle.node_disks.specs.Pair.{pair_seen};
 
-    ghost seen = { λ p. with_beside (D.seen p.first) (alone (D.seen p.second)) };
+    ghost seen = { pair_seen D.seen };
 
     fn length(&mut self) -> Result<u64, Failed> {
         self.first.length()

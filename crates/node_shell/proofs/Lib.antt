@@ -10,7 +10,7 @@ pub mod Asked
 pub mod Filling
 pub mod Together
 pub mod Attained
-pub mod Weaving
+pub mod Fronts
 pub mod Readying
 pub mod Running
 pub mod Resting

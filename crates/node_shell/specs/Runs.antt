@@ -1,14 +1,14 @@
 -- A whole run: how the network opened, and how the script went.
-use Rattle.std.specs.Prelude.{◌≡◌, ◌⊎◌, ◌↔◌, ℕ, ◌+◌, ◌*◌, ◌<◌, ◌≤◌, drop, List, [], ◌∷◌, ◌++◌, length, map, Option, Some, None, codes, decimal, true, false, slice_get, ⊤}
+use Rattle.std.specs.Prelude.{◌≡◌, ◌⊎◌, ◌↔◌, ℕ, ◌<◌, ◌≤◌, take, drop, List, [], ◌∷◌, ◌++◌, length, map, Option, Some, None, codes, decimal, true, false, slice_get, ⊤}
 use Rattle.std.specs.Io.KnownBytes.{Appends}
-use Rattle.outside.specs.Disk.{DiskSeen, IfTold, IsImage}
+use Rattle.outside.specs.Disk.{DiskAlone, DiskSeen, IfTold}
 use Rattle.outside.specs.Faults.{Rose}
 use Rattle.net_base.specs.declared.causes.Cause.{Cause}
 use Rattle.net_base.specs.declared.names.Identity.{Identity}
 use Rattle.net_base.specs.declared.values.Party.{Party}
 use Rattle.shell_words.specs.declared.program.NetworkWords.{NetworkWords}
 use Rattle.shell_words.specs.Program.{network_of_words, dir_of_words}
-use Rattle.disk_journal.specs.Journal.{WasSpelt, journal_of, placed, is_unformatted, formatted, refusal}
+use Rattle.disk_journal.specs.Journal.{WasSpelt, placed, is_unformatted, formatted, refusal}
 use Rattle.disk_journal.specs.declared.fault.OpenFault.TheVariants as open_fault
 use Rattle.net_model.specs.Environment.{Environment, environment, party, Meaning}
 use Rattle.net_model.specs.Runs.{IsFaithful, network_of, merged}
@@ -18,12 +18,12 @@ use Rattle.node_core.specs.declared.faults.BootFault.{BootFault}
 use Rattle.node_core.specs.declared.faults.BootFault.TheVariants as boot
 use Rattle.network_core.specs.Worlds.{World, NodeWorld, NetSeen, MaySpell, Shows, AreOpenable, Coherent, Choice}
 use Rattle.node_core.specs.Seen.{NodeSeen}
-use Rattle.node_core.specs.Disks.{roomless, attached_as}
+use Rattle.node_core.specs.Disks.{Image, MayLeave, kept_journal, spelt, roomless, attached_as}
 use Rattle.network_core.specs.Begins.{member, nodes_over, net_over, Begun, BootsUpTo}
 use Rattle.network_core.specs.Acknowledged.{Acknowledged, StandsOnce}
 use Rattle.work_law.specs.Passages.{Attains}
 use Rattle.network_core.specs.Drains.{with_world}
-use Rattle.node_shell.specs.Pairs.{first_disks, own_name}
+use Rattle.node_shell.specs.Names.{own_name, name_beside, faults_beside, calm_beside}
 use Rattle.node_shell.specs.declared.statuses.Status.{Status}
 use Rattle.node_shell.specs.declared.statuses.Status.TheVariants as status
 use Rattle.node_shell.specs.Lines.{Link, RunsShort}
@@ -46,7 +46,7 @@ number_of_status status.BadJournal = 8
 abbrev pub environment_for : {F : Type 0} → Meaning F → NetworkWords → Environment F
 environment_for m n = environment m (member n.nodes (party n.notary) 0)
 
--- the network whose nodes are down over these disks, the first one of each node, at a moment
+-- the network whose nodes are down over their disks, at a moment
 abbrev pub over : {F : Type 0} → Environment F → ℕ → List DiskSeen → NetSeen
 over e now disks = net_over e.nodes e.notary now disks
 
@@ -68,7 +68,7 @@ pub record Rests {F : Type 0} (e : Environment F) (disks : List DiskSeen) (w : W
 
 -- where a disk tells its content, no opening of this node refuses it: it keeps no begun journal, or a sound one of the node's own whose records fit
 abbrev pub KeepsOwn : {F : Type 0} → Reads F → Identity → DiskSeen → Type 0
-KeepsOwn frame_at id disk = disk.tells ≡ true → (refusal id disk.state.kept ≡ None) × (misfit frame_at id.notary id.nodes id.party (placed 16 (journal_of disk.state.kept)) ≡ None)
+KeepsOwn frame_at id disk = disk.tells ≡ true → (refusal id disk.state.kept ≡ None) × (misfit frame_at id.notary id.nodes id.party (placed 16 (kept_journal disk)) ≡ None)
 
 -- no opening of one of these nodes refuses its disk
 abbrev pub KeepOwn : {F : Type 0} → Reads F → ℕ → Party → List DiskSeen → Type 0
@@ -125,70 +125,103 @@ LeavesFewer w v = (p : ℕ) (x y : NodeWorld) (l : List (List ℕ)) → slice_ge
 abbrev pub KeepsJournals : World → World → Type 0
 KeepsJournals w v = (p : ℕ) (x y : NodeWorld) → slice_get w.nodes p ≡ Some x → slice_get v.nodes p ≡ Some y → y.journal ≡ x.journal
 
--- a disk is as before but for its count of faults, which has not fallen, and what it is attached as
+-- a node's first disk is as before but for its count of faults, which has not fallen, and what it is attached as
 abbrev pub StaysBut : DiskSeen → DiskSeen → Type 0
 StaysBut old new = (new ≡ record old { faults = new.faults; attached = new.attached }) × (old.faults ≤ new.faults)
 
--- each of the disks is as before but for its count of faults, which has not fallen, and what it is attached as
+-- and so is its second one
+abbrev pub StaysBeside : Option DiskAlone → Option DiskAlone → Type 0
+StaysBeside None new = new ≡ None
+StaysBeside (Some old) None = ⊥
+StaysBeside (Some old) (Some new) = (new ≡ record old { faults = new.faults; attached = new.attached }) × (old.faults ≤ new.faults)
+
+-- each node's first disk is as before but for its count of faults, which has not fallen, and what it is attached as
 pub record AllStay (old new : List DiskSeen) : Type 0 where
   pub count : length new ≡ length old
   pub each : (p : ℕ) (d e : DiskSeen) → slice_get old p ≡ Some d → slice_get new p ≡ Some e → StaysBut d e
 
--- no disk's count of faults has fallen
+-- and so is each node's second one
+abbrev pub SecondsStay : List DiskSeen → List DiskSeen → Type 0
+SecondsStay old new = (p : ℕ) (d e : DiskSeen) → slice_get old p ≡ Some d → slice_get new p ≡ Some e → StaysBeside d.attached.beside e.attached.beside
+
+-- no count of faults has fallen, of a node's first disk or of its second one
 pub record NoneFalls (old new : List DiskSeen) : Type 0 where
   pub count : length new ≡ length old
-  pub each : (p : ℕ) (d e : DiskSeen) → slice_get old p ≡ Some d → slice_get new p ≡ Some e → d.faults ≤ e.faults
+  pub each : (p : ℕ) (d e : DiskSeen) → slice_get old p ≡ Some d → slice_get new p ≡ Some e → (d.faults ≤ e.faults) × (faults_beside d ≤ faults_beside e)
 
 -- what making disks ready leaves of them: in memory each is as before but for its count of faults and what it is attached as, and in a folder no count has fallen
 abbrev pub StayIn : Option (List ℕ) → List DiskSeen → List DiskSeen → Type 0
-StayIn None old new = AllStay old new
+StayIn None old new = AllStay old new × SecondsStay old new
 StayIn (Some path) old new = NoneFalls old new
 
--- the disks before a place are attached under their own names, in this folder or in memory, and all others as they were before
-pub record AreNamed (folder : Option (List ℕ)) (place : ℕ) (old new : List DiskSeen) : Type 0 where
-  pub own : (p : ℕ) (e : DiskSeen) → p < place → slice_get new p ≡ Some e → e.attached ≡ Some (own_name folder p)
-  pub rest : (p : ℕ) (d e : DiskSeen) → place ≤ p → slice_get old p ≡ Some d → slice_get new p ≡ Some e → e.attached ≡ d.attached
+-- both disks of a node are attached under their own names, in this folder or in memory
+abbrev pub HasNames : Option (List ℕ) → ℕ → DiskSeen → Type 0
+HasNames folder node new = (new.attached.own ≡ Some (own_name folder node false)) × (name_beside new ≡ Some (own_name folder node true))
 
--- of the first disks, as many as there are nodes, those before some place are attached under their own names, and no others
-abbrev pub StopsNaming : Option (List ℕ) → ℕ → List DiskSeen → List DiskSeen → Type 0
-StopsNaming folder count old new = (place : ℕ) × (place < count) × AreNamed folder place old new
+-- the first one alone is, and the second one as it was before
+abbrev pub HasFirstName : Option (List ℕ) → ℕ → DiskSeen → DiskSeen → Type 0
+HasFirstName folder node old new = (new.attached.own ≡ Some (own_name folder node false)) × (name_beside new ≡ name_beside old)
+
+-- both are attached as they were before
+abbrev pub KeepsNames : DiskSeen → DiskSeen → Type 0
+KeepsNames old new = (new.attached.own ≡ old.attached.own) × (name_beside new ≡ name_beside old)
+
+-- both disks of each node before a place are attached under their own names, in this folder or in memory, and all others as they were before
+pub record AreNamed (folder : Option (List ℕ)) (place : ℕ) (old new : List DiskSeen) : Type 0 where
+  pub own : (p : ℕ) (e : DiskSeen) → p < place → slice_get new p ≡ Some e → HasNames folder p e
+  pub rest : (p : ℕ) (d e : DiskSeen) → place ≤ p → slice_get old p ≡ Some d → slice_get new p ≡ Some e → KeepsNames d e
+
+-- of the nodes' disks, in order, those before some disk are attached under their own names, and no others
+pub record StopsNaming (folder : Option (List ℕ)) (nodes : ℕ) (old new : List DiskSeen) : Type 0 where
+  pub place : ℕ
+  pub within : place < nodes
+  pub own : (p : ℕ) (e : DiskSeen) → p < place → slice_get new p ≡ Some e → HasNames folder p e
+  pub here : (d e : DiskSeen) → slice_get old place ≡ Some d → slice_get new place ≡ Some e → KeepsNames d e ⊎ HasFirstName folder place d e
+  pub rest : (p : ℕ) (d e : DiskSeen) → place < p → slice_get old p ≡ Some d → slice_get new p ≡ Some e → KeepsNames d e
 
 -- the attaching stopped at a disk of the nodes, for a disk that failed or for want of memory, or did not begin: nothing was read, and the disks are left
 -- as making them ready leaves them
 pub record StopsAttaching (folder : Option (List ℕ)) (nodes : ℕ) (old new : List DiskSeen) (count number : ℕ) : Type 0 where
-  pub named : StopsNaming folder (2 * nodes) old new ⊎ (new ≡ old)
+  pub named : StopsNaming folder nodes old new ⊎ (new ≡ old)
   pub stay : StayIn folder old new
   pub none : count ≡ 0
   pub status_is : (number ≡ 6) ⊎ (number ≡ 7)
 
 -- both disks of each node are attached under their own names, in this folder or in memory, and all others as they were before; or the attaching stopped
 abbrev pub NamesDisks : Option (List ℕ) → ℕ → List DiskSeen → List DiskSeen → ℕ → ℕ → Type 0
-NamesDisks folder nodes old new count number = AreNamed folder (2 * nodes) old new ⊎ StopsAttaching folder nodes old new count number
+NamesDisks folder nodes old new count number = AreNamed folder nodes old new ⊎ StopsAttaching folder nodes old new count number
 
--- the count of faults of a disk rose, and the disk was not calm
+-- the count of faults of a node's first disk rose, and the disk was not calm
 pub record Fails (old new : DiskSeen) : Type 0 where
   pub rose : Rose old.faults new.faults
   pub uneasy : old.calm ≡ true → ⊥
 
--- one of the first of these disks, as many as there are nodes, failed
-pub record OneFails (count : ℕ) (old new : List DiskSeen) : Type 0 where
-  pub place : ℕ
-  pub own : place < count
-  pub before : DiskSeen
-  pub after : DiskSeen
-  pub at : slice_get old place ≡ Some before
-  pub now : slice_get new place ≡ Some after
-  pub fails : Fails before after
+-- and so of its second one
+pub record FailsBeside (old new : DiskSeen) : Type 0 where
+  pub rose : Rose (faults_beside old) (faults_beside new)
+  pub uneasy : calm_beside old ≡ true → ⊥
 
--- the count of faults of one of the first of these disks, as many as there are nodes, rose
-pub record OneRises (count : ℕ) (old new : List DiskSeen) : Type 0 where
+-- of one of the first of these nodes it is so
+pub record One (P : DiskSeen → DiskSeen → Type 0) (count : ℕ) (old new : List DiskSeen) : Type 0 where
   pub place : ℕ
   pub own : place < count
   pub before : DiskSeen
   pub after : DiskSeen
   pub at : slice_get old place ≡ Some before
   pub now : slice_get new place ≡ Some after
-  pub rose : Rose before.faults after.faults
+  pub is : P before after
+
+-- the first disk of one of these nodes failed
+abbrev pub OneFails : ℕ → List DiskSeen → List DiskSeen → Type 0
+OneFails count old new = One Fails count old new
+
+-- the first or the second disk of one of them failed
+abbrev pub SomeFails : ℕ → List DiskSeen → List DiskSeen → Type 0
+SomeFails count old new = One (λ d e. Fails d e ⊎ FailsBeside d e) count old new
+
+-- the count of faults of the first or the second disk of one of them rose
+abbrev pub SomeRises : ℕ → List DiskSeen → List DiskSeen → Type 0
+SomeRises count old new = One (λ d e. Rose d.faults e.faults ⊎ Rose (faults_beside d) (faults_beside e)) count old new
 
 -- a disk's count of faults has not fallen, and if it was calm it is so
 abbrev pub KeepsCalm : DiskSeen → DiskSeen → Type 0
@@ -196,17 +229,17 @@ KeepsCalm old new = (old.faults ≤ new.faults) × (old.calm ≡ true → new.ca
 
 -- a node's journal was opened: its disk keeps what it kept, with a journal begun where there was none, and every image spells the journal that was kept
 abbrev pub IsOpened : Identity → DiskSeen → DiskSeen → Type 0
-IsOpened id old new = IfTold old new (λ d e. (e.kept ≡ formatted id d.kept) × ((c : List ℕ) → IsImage e.now c → journal_of c ≡ journal_of d.kept))
+IsOpened id old new = IfTold old new (λ d e. (e.kept ≡ formatted id d.kept) × ((c : Image) → MayLeave e.now c → spelt c ≡ spelt d.kept))
 
 -- what a refused opening leaves of its node's disk: every image spells a journal that an image spelt before; and but for a fault the disk keeps the
 -- same journal, and the same bytes where one was begun and finished
 abbrev pub AfterRefusal : BootFault → DiskSeen → DiskSeen → Type 0
-AfterRefusal why old new = IfTold old new (λ d e. ((c : List ℕ) → IsImage e.now c → WasSpelt d c)
-    × ((why ≡ boot.Fault → ⊥) → (journal_of e.kept ≡ journal_of d.kept) × (is_unformatted d.kept ≡ false → e.kept ≡ d.kept)))
+AfterRefusal why old new = IfTold old new (λ d e. ((c : Image) → MayLeave e.now c → WasSpelt d c)
+    × ((why ≡ boot.Fault → ⊥) → (spelt e.kept ≡ spelt d.kept) × (is_unformatted d.kept ≡ false → e.kept ≡ d.kept)))
 
 -- these bytes are those of a journal of this node whose records do not fit, the first of them at that place
-abbrev pub MisfitsAt : {F : Type 0} → Reads F → Identity → List ℕ → ℕ → Type 0
-MisfitsAt frame_at id bytes at = (refusal id bytes ≡ None) × (misfit frame_at id.notary id.nodes id.party (placed 16 (journal_of bytes)) ≡ Some at)
+abbrev pub MisfitsAt : {F : Type 0} → Reads F → Identity → Image → ℕ → Type 0
+MisfitsAt frame_at id bytes at = (refusal id bytes ≡ None) × (misfit frame_at id.notary id.nodes id.party (placed 16 (spelt bytes)) ≡ Some at)
 
 -- why the first opening of a node over a disk was refused: the disk failed; or memory ran out; or it keeps no sound journal of the node's, or
 -- one whose records do not fit, and then it keeps the same bytes as before
@@ -356,9 +389,9 @@ Ends r s = r.status ≡ number_of_status s
 abbrev pub views : {B : Type 0} → (B → DiskSeen) → Change (List B) → Change (List DiskSeen)
 views seen disks = record { old = map seen disks.old; new = map seen disks.new }
 
--- of these the first one of each node
-abbrev pub firsts : ℕ → Change (List DiskSeen) → Change (List DiskSeen)
-firsts nodes disks = record { old = first_disks nodes disks.old; new = first_disks nodes disks.new }
+-- of these the nodes' own
+abbrev pub of_nodes : ℕ → Change (List DiskSeen) → Change (List DiskSeen)
+of_nodes nodes disks = record { old = take nodes disks.old; new = take nodes disks.new }
 
 -- this holds of the network that the words ask for, where they ask for one
 abbrev pub OfNetwork : List (List ℕ) → (NetworkWords → Type 0) → Type 0
@@ -372,7 +405,7 @@ InMemory words P = dir_of_words words ≡ None → OfNetwork words P
 abbrev pub InFolder : List (List ℕ) → (NetworkWords → Type 0) → Type 0
 InFolder words P = (path : List ℕ) → dir_of_words words ≡ Some path → OfNetwork words P
 
--- where the nodes' first disks show a coherent world, the script is a story that begins in it, or a node did not open
+-- where the nodes' disks show a coherent world, the script is a story that begins in it, or a node did not open
 abbrev pub IsStory : {F B : Type 0} → Meaning F → Ran B → Change (List DiskSeen) → NetworkWords → Type 0
 IsStory m r disks n = (w : World) → Shows (environment_for m n) (over (environment_for m n) w.now disks.old) w → Coherent (environment_for m n) w
     → RunsAs m n.nodes (party n.notary) w disks.old disks.new r.left.old r.left.new r.written.old r.written.new r.count r.status
@@ -383,11 +416,11 @@ Went m r disks n = RunsAnyhow m n.nodes (party n.notary) disks.old disks.new r.l
 
 -- the disks behind those of the nodes are handed back as they were
 abbrev pub KeepsOthers : {B : Type 0} → Change (List B) → NetworkWords → Type 0
-KeepsOthers disks n = drop (2 * n.nodes) disks.new ≡ drop (2 * n.nodes) disks.old
+KeepsOthers disks n = drop n.nodes disks.new ≡ drop n.nodes disks.old
 
 -- the second disk of each node is as it was but for its count of faults and its name
 abbrev pub KeepsSeconds : Change (List DiskSeen) → NetworkWords → Type 0
-KeepsSeconds disks n = (p : ℕ) (d e : DiskSeen) → p < n.nodes → slice_get disks.old (2 * p + 1) ≡ Some d → slice_get disks.new (2 * p + 1) ≡ Some e → StaysBut d e
+KeepsSeconds disks n = (p : ℕ) (d e : DiskSeen) → p < n.nodes → slice_get disks.old p ≡ Some d → slice_get disks.new p ≡ Some e → StaysBeside d.attached.beside e.attached.beside
 
 -- nothing was read or written, and the disks are as they were
 pub record IsUntouched {B : Type 0} (r : Ran B) : Type 0 where
@@ -396,24 +429,24 @@ pub record IsUntouched {B : Type 0} (r : Ran B) : Type 0 where
   pub left : r.left.new ≡ r.left.old
   pub written : r.written.new ≡ r.written.old
 
--- an opening was refused and told, the first of the nodes on these first disks
+-- an opening was refused and told, the first of the nodes on these disks
 abbrev pub ToldWhy : {F B : Type 0} → Meaning F → Ran B → Change (List DiskSeen) → NetworkWords → Type 0
 ToldWhy m r disks n = IsToldWhy m.frame_at n.nodes (party n.notary) disks.old disks.new r.written.old r.written.new status.BadJournal
 
--- no opening refuses what these first disks keep
+-- no opening refuses what these disks keep
 abbrev pub OpensOwn : {F : Type 0} → Meaning F → Change (List DiskSeen) → NetworkWords → Type 0
 OpensOwn m disks n = KeepOwn m.frame_at n.nodes (party n.notary) disks.old
 
 -- Why the run ended so: 4 and 5 come only where the source or the sink failed. In memory 6 comes only where a disk failed that was not calm, 8 only where
--- the first disk of some node keeps no journal that the node can open, which was told; and where the script was read no opening refuses what its disk keeps.
+-- the disk of some node keeps no journal that the node can open, which was told; and where the script was read no opening refuses what its disk keeps.
 pub record HasCauses {F B : Type 0} (m : Meaning F) (r : Ran B) (disks : Change (List DiskSeen)) : Type 0 where
   pub read_fault : Ends r status.ReadFault → Rose r.source_faults.old r.source_faults.new
   pub write_fault : Ends r status.WriteFault → Rose r.sink_faults.old r.sink_faults.new
-  pub disk_fault : Ends r status.DiskFault → InMemory r.words (λ n. OneFails (2 * n.nodes) disks.old disks.new)
-  pub bad_journal : Ends r status.BadJournal → InMemory r.words (λ n. ToldWhy m r (firsts n.nodes disks) n)
-  pub own : IsPlayedNumber r.status → InMemory r.words (λ n. OpensOwn m (firsts n.nodes disks) n)
+  pub disk_fault : Ends r status.DiskFault → InMemory r.words (λ n. SomeFails n.nodes disks.old disks.new)
+  pub bad_journal : Ends r status.BadJournal → InMemory r.words (λ n. ToldWhy m r (of_nodes n.nodes disks) n)
+  pub own : IsPlayedNumber r.status → InMemory r.words (λ n. OpensOwn m (of_nodes n.nodes disks) n)
 
--- A run over the nodes' own first disks, which were made ready: over such as show a coherent world it is a story, over any it went line by line or nothing
+-- A run over the nodes' own disks, which were made ready: over such as show a coherent world it is a story, over any it went line by line or nothing
 -- was read. It is as long as its status says, which has its cause, and as many disks come back under the same names.
 pub record PlaysOwn {F B : Type 0} (m : Meaning F) (seen : B → DiskSeen) (r : Ran B) (n : NetworkWords) : Type 0 where
   pub runs : IsStory m r (views seen r.disks) n
@@ -433,21 +466,21 @@ pub record PlaysOwn {F B : Type 0} (m : Meaning F) (seen : B → DiskSeen) (r : 
 
 -- A run over disks that were made ready: over such as show a coherent world it is a story, over any it went line by line or nothing was read.
 pub record IsPlayed {F B : Type 0} (m : Meaning F) (seen : B → DiskSeen) (r : Ran B) (n : NetworkWords) : Type 0 where
-  pub story : IsStory m r (firsts n.nodes (views seen r.disks)) n
-  pub went : Went m r (firsts n.nodes (views seen r.disks)) n
-  pub bad_journal : Ends r status.BadJournal → ToldWhy m r (firsts n.nodes (views seen r.disks)) n
-  pub own : IsPlayedNumber r.status → OpensOwn m (firsts n.nodes (views seen r.disks)) n
+  pub story : IsStory m r (of_nodes n.nodes (views seen r.disks)) n
+  pub went : Went m r (of_nodes n.nodes (views seen r.disks)) n
+  pub bad_journal : Ends r status.BadJournal → ToldWhy m r (of_nodes n.nodes (views seen r.disks)) n
+  pub own : IsPlayedNumber r.status → OpensOwn m (of_nodes n.nodes (views seen r.disks)) n
   pub seconds : KeepsSeconds (views seen r.disks) n
   -- each is attached as it was
   pub attached : attached_as (map seen r.disks.new) ≡ attached_as (map seen r.disks.old)
 
--- How a run ends for which the words were taken: 3 is exactly a script that is too long, 4 and 5 come only where the source or the sink failed, the 32 disks come
+-- How a run ends for which the words were taken: 3 is exactly a script that is too long, 4 and 5 come only where the source or the sink failed, the disks of 16 nodes come
 -- back, those behind the nodes' as they were, and no count of faults of the source or the sink falls.
 pub record EndsWell {B : Type 0} (r : Ran B) (n : NetworkWords) : Type 0 where
   pub words : Ends r status.BadWords → ⊥
   pub too_long : Ends r status.TooLong ↔ (r.count ≡ 16777217)
   pub few : r.count ≤ 16777217
-  pub disks : length r.disks.new ≡ 32
+  pub disks : length r.disks.new ≡ 16
   pub others : KeepsOthers r.disks n
   pub read_fault : Ends r status.ReadFault → Rose r.source_faults.old r.source_faults.new
   pub write_fault : Ends r status.WriteFault → Rose r.sink_faults.old r.sink_faults.new
@@ -456,16 +489,16 @@ pub record EndsWell {B : Type 0} (r : Ran B) (n : NetworkWords) : Type 0 where
 -- a run over disks that were made ready, and why it ended so
 pub record RanReady {F B : Type 0} (m : Meaning F) (seen : B → DiskSeen) (r : Ran B) (n : NetworkWords) : Type 0 where
   pub played : IsPlayed m seen r n
-  pub disk_fault : Ends r status.DiskFault → OneFails (2 * n.nodes) (map seen r.disks.old) (map seen r.disks.new)
+  pub disk_fault : Ends r status.DiskFault → SomeFails n.nodes (map seen r.disks.old) (map seen r.disks.new)
   pub ends : EndsWell r n
 
 -- a run in memory, in which the disks are made ready first, and why it ended so
 pub record RanInMemory {F B : Type 0} (m : Meaning F) (seen : B → DiskSeen) (r : Ran B) (n : NetworkWords) : Type 0 where
-  pub story : IsStory m r (firsts n.nodes (views seen r.disks)) n
-  pub went : Went m r (firsts n.nodes (views seen r.disks)) n
-  pub disk_fault : Ends r status.DiskFault → OneFails (2 * n.nodes) (map seen r.disks.old) (map seen r.disks.new)
-  pub bad_journal : Ends r status.BadJournal → ToldWhy m r (firsts n.nodes (views seen r.disks)) n
-  pub own : IsPlayedNumber r.status → OpensOwn m (firsts n.nodes (views seen r.disks)) n
+  pub story : IsStory m r (of_nodes n.nodes (views seen r.disks)) n
+  pub went : Went m r (of_nodes n.nodes (views seen r.disks)) n
+  pub disk_fault : Ends r status.DiskFault → SomeFails n.nodes (map seen r.disks.old) (map seen r.disks.new)
+  pub bad_journal : Ends r status.BadJournal → ToldWhy m r (of_nodes n.nodes (views seen r.disks)) n
+  pub own : IsPlayedNumber r.status → OpensOwn m (of_nodes n.nodes (views seen r.disks)) n
   pub seconds : KeepsSeconds (views seen r.disks) n
   pub named : NamesDisks None n.nodes (map seen r.disks.old) (map seen r.disks.new) r.count r.status
   pub ends : EndsWell r n
@@ -475,7 +508,7 @@ pub record RunsOverFiles {F B : Type 0} (m : Meaning F) (seen : B → DiskSeen) 
   pub ready : List B
   pub none_falls : NoneFalls (map seen r.disks.old) (map seen ready)
   pub played : IsPlayed m seen (record r { disks = record r.disks { old = ready } }) n
-  pub disk_fault : Ends r status.DiskFault → OneRises (2 * n.nodes) (map seen r.disks.old) (map seen r.disks.new)
+  pub disk_fault : Ends r status.DiskFault → SomeRises n.nodes (map seen r.disks.old) (map seen r.disks.new)
 
 -- a run over the files of a folder, in which the disks are made ready first, and why it ended so
 pub record RanInFolder {F B : Type 0} (m : Meaning F) (seen : B → DiskSeen) (path : List ℕ) (r : Ran B) (n : NetworkWords) : Type 0 where
@@ -486,11 +519,11 @@ pub record RanInFolder {F B : Type 0} (m : Meaning F) (seen : B → DiskSeen) (p
 -- A run. In memory, over disks that show a coherent world it is a story (`story`), over any disks it went line by line or nothing was read (`went`), each
 -- status has its cause (`causes`), and the second disks stay as they were; over files this holds of the disks once they were made ready (`files`). 2 comes
 -- only where the words are refused (`words`), which leaves everything untouched, and is the status then unless memory ran out (`refused`); 3 is exactly a script
--- that is too long (`too_long`). The 32 disks come back in order, those of the nodes under their names, and those behind them as they were. No count of
+-- that is too long (`too_long`). The disks of 16 nodes come back in order, those of the run's nodes under their names, and those behind them as they were. No count of
 -- faults of the source or the sink falls.
 pub record IsRun {F B : Type 0} (m : Meaning F) (seen : B → DiskSeen) (r : Ran B) : Type 0 where
-  pub story : InMemory r.words (λ n. IsStory m r (firsts n.nodes (views seen r.disks)) n)
-  pub went : InMemory r.words (λ n. Went m r (firsts n.nodes (views seen r.disks)) n)
+  pub story : InMemory r.words (λ n. IsStory m r (of_nodes n.nodes (views seen r.disks)) n)
+  pub went : InMemory r.words (λ n. Went m r (of_nodes n.nodes (views seen r.disks)) n)
   pub causes : HasCauses m r (views seen r.disks)
   pub seconds : InMemory r.words (KeepsSeconds (views seen r.disks))
   pub files : InFolder r.words (RunsOverFiles m seen r)
@@ -499,7 +532,7 @@ pub record IsRun {F B : Type 0} (m : Meaning F) (seen : B → DiskSeen) (r : Ran
   pub untouched : network_of_words r.words ≡ None → IsUntouched r
   pub too_long : Ends r status.TooLong ↔ (r.count ≡ 16777217)
   pub few : r.count ≤ 16777217
-  pub disks : length r.disks.new ≡ 32
+  pub disks : length r.disks.new ≡ 16
   pub others : OfNetwork r.words (KeepsOthers r.disks)
   pub named : OfNetwork r.words (λ n. NamesDisks (dir_of_words r.words) n.nodes (views seen r.disks).old (views seen r.disks).new r.count r.status)
   pub later : (r.source_faults.old ≤ r.source_faults.new) × (r.sink_faults.old ≤ r.sink_faults.new)

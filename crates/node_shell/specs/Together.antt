@@ -1,12 +1,12 @@
 -- Stories of networks together with the worlds that they show, and what a whole script comes by.
 use Rattle.std.proofs.Common.{inl, inr}
 use Rattle.std.specs.Prelude.{◌≡◌, ◌⊎◌, ℕ, ◌+◌, ◌≤◌, List, [], ◌∷◌, map, Option, Some, None, false}
-use Rattle.disk_journal.specs.Journal.{journal_of}
 use Rattle.net_base.specs.declared.causes.Cause.{Cause}
 use Rattle.net_base.specs.declared.names.Identity.{Identity}
 use Rattle.net_model.specs.Environment.{Environment, environment, Meaning}
 use Rattle.net_model.specs.Runs.{merged}
 use Rattle.node_tables.specs.Journals.{causes_of}
+use Rattle.node_core.specs.Disks.{Image, spelt}
 use Rattle.network_core.specs.declared.steps.Outcome.{Outcome}
 use Rattle.network_core.specs.declared.steps.Step.{Step}
 use Rattle.network_core.specs.Acknowledged.{Acknowledged, StandsOnce}
@@ -126,8 +126,8 @@ pub record LeadsOn {F : Type 0} (m : Meaning F) (id : Identity) (most : ℕ) (a 
   pub passage : Passage m id a b
   pub few : times_worked passage ≤ most
   pub kept : (s : Instant) → IsPassed passage s → IsKept (environment m id) a.net s
-  pub acknowledged : (s : Instant) → IsPassed passage s → (images : List (List ℕ)) → IsChoice s images → (p : ℕ) (cause : Cause)
-      → Acknowledged (environment m id) a.world p cause → StandsOnce (p, cause) (merged (map (causes_of m.frame_at) (map journal_of images)))
+  pub acknowledged : (s : Instant) → IsPassed passage s → (images : List Image) → IsChoice s images → (p : ℕ) (cause : Cause)
+      → Acknowledged (environment m id) a.world p cause → StandsOnce (p, cause) (merged (map (causes_of m.frame_at) (map spelt images)))
 
 -- a passage leads through the whole script, and one to and one on from all that it comes by
 pub record IsOnePassage {F : Type 0} (m : Meaning F) (id : Identity) (most : ℕ) (a b : Pair (environment m id))

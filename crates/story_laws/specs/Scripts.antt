@@ -1,6 +1,6 @@
 -- What holds throughout a script.
 use Rattle.std.specs.Prelude.{ℕ, ◌≤◌, List, map, Option}
-use Rattle.disk_journal.specs.Journal.{journal_of}
+use Rattle.node_core.specs.Disks.{Image, spelt}
 use Rattle.net_base.specs.declared.names.Identity.{Identity}
 use Rattle.net_model.specs.Environment.{environment, party, Meaning}
 use Rattle.network_core.specs.Begins.{member}
@@ -19,7 +19,7 @@ use Rattle.ledger_laws.specs.Places.{Fact}
 pub record Throughout {F : Type 0} (m : Meaning F) (fact : Fact F) (id : Identity) (most : ℕ) (a b : Pair (environment m id)) (passes : Pair (environment m id) → Type 0) : Type 0 where
   pub passage : Passage m id a b
   pub few : times_worked passage ≤ most
-  pub moments : (s : Instant) (images : List (List ℕ)) → IsPassed passage s → IsChoice s images → fact (environment m id) (map journal_of images)
+  pub moments : (s : Instant) (images : List Image) → IsPassed passage s → IsChoice s images → fact (environment m id) (map spelt images)
   pub worlds : (u : Pair (environment m id)) (lists : List (List (List ℕ))) → passes u → Choice u.world lists → fact (environment m id) lists
 
 -- the identity by which the network of these words is known

@@ -1,11 +1,10 @@
 -- What a node's history leaves as it was, over any disk.
 use Rattle.std.specs.Prelude.{◌≡◌, ℕ, ◌*◌, ◌<◌, ◌≤◌, true, List, ◌++◌, length, None, Some}
-use Rattle.outside.specs.Disk.{DiskSeen, IsImage, EachImage, IfTold, Burns, BurnsUpTo}
+use Rattle.outside.specs.Disk.{DiskSeen, Burns, BurnsUpTo}
 use Rattle.outside.specs.Faults.{Rose}
-use Rattle.disk_journal.specs.Journal.{journal_of}
 use Rattle.session_frames.specs.declared.sending.Outgoing.{Outgoing}
 use Rattle.net_model.specs.Environment.{Meaning}
-use Rattle.node_core.specs.Disks.{KeepsForm}
+use Rattle.node_core.specs.Disks.{Image, EachLeft, EachSince, KeepsForm, spelt}
 use Rattle.node_core.specs.Seen.{NodeSeen}
 use Rattle.work_law.specs.Calls.{Went}
 use Rattle.work_law.specs.Works.{Grows}
@@ -18,14 +17,14 @@ pub record GoesOnBy (count : ℕ) (old new : List (List ℕ)) : Type 0 where
 
 -- while the node is up each image of its disk spells its journal; nothing is said of a disk that doesn't tell
 abbrev pub HoldsJournal : NodeSeen → Type 0
-HoldsJournal n = (bodies : List (List ℕ)) → n.journal ≡ Some bodies → n.disk.tells ≡ true → (c : List ℕ) → IsImage n.disk.state.now c → journal_of c ≡ bodies
+HoldsJournal n = (bodies : List (List ℕ)) → n.journal ≡ Some bodies → n.disk.tells ≡ true → EachLeft n.disk (λ c. spelt c ≡ bodies)
 
 -- an image spells a journal on the way from one to another
-pub record SpellsBetween (first last : List (List ℕ)) (c : List ℕ) : Type 0 where
+pub record SpellsBetween (first last : List (List ℕ)) (c : Image) : Type 0 where
   pub more : List (List ℕ)
-  pub on : journal_of c ≡ first ++ more
+  pub on : spelt c ≡ first ++ more
   pub rest : List (List ℕ)
-  pub to : last ≡ journal_of c ++ rest
+  pub to : last ≡ spelt c ++ rest
 
 -- how far the images of a node's disk went since it was up with this journal: to the one that it has while it is up, and where it went down by one record more at most than it committed
 pub record ImagesGo (count : ℕ) (bodies : List (List ℕ)) (old new : NodeSeen) : Type 0 where
@@ -33,7 +32,7 @@ pub record ImagesGo (count : ℕ) (bodies : List (List ℕ)) (old new : NodeSeen
   pub is_last : (all : List (List ℕ)) → new.journal ≡ Some all → last ≡ all
   pub grows : Grows count 1 bodies last
   -- at every moment since
-  pub images : IfTold old.disk new.disk (λ d e. EachImage d e (SpellsBetween bodies last))
+  pub images : EachSince old.disk new.disk (λ d. SpellsBetween bodies last)
 
 -- for each record four writes and syncs were made, which left the power on, and for the one with which the node went down up to four more; without power none was committed
 pub record WritesEach (count : ℕ) (old new : NodeSeen) : Type 0 where

@@ -1,11 +1,11 @@
 -- What leads from a network with its world to another one where nodes are worked on side by side in between.
 use Rattle.std.specs.Prelude.{◌≡◌, ◌⊎◌, ℕ, suc, List, map}
-use Rattle.disk_journal.specs.Journal.{journal_of}
 use Rattle.net_base.specs.declared.causes.Cause.{Cause}
 use Rattle.net_base.specs.declared.names.Identity.{Identity}
 use Rattle.net_model.specs.Environment.{Environment, environment, Meaning}
 use Rattle.net_model.specs.Runs.{merged}
 use Rattle.node_tables.specs.Journals.{causes_of}
+use Rattle.node_core.specs.Disks.{Image, spelt}
 use Rattle.network_core.specs.Acknowledged.{Reaches, Acknowledged, StandsOnce}
 use Rattle.network_core.specs.Drains.{Pair}
 use Rattle.network_core.specs.Moments.{Instant, IsChoice, IsKept}
@@ -62,5 +62,5 @@ KeptOnPassages F = (m : Meaning F) (id : Identity) (a b : Pair (environment m id
 
 -- and what is acknowledged as it begins stands once in the merged journals
 abbrev pub AcknowledgedOnPassages : (F : Type 0) → Type 0
-AcknowledgedOnPassages F = (m : Meaning F) (id : Identity) (a b : Pair (environment m id)) (passage : Passage m id a b) (s : Instant) → IsPassed passage s → (images : List (List ℕ)) → IsChoice s images
-    → (p : ℕ) (cause : Cause) → Acknowledged (environment m id) a.world p cause → StandsOnce (p, cause) (merged (map (causes_of m.frame_at) (map journal_of images)))
+AcknowledgedOnPassages F = (m : Meaning F) (id : Identity) (a b : Pair (environment m id)) (passage : Passage m id a b) (s : Instant) → IsPassed passage s → (images : List Image) → IsChoice s images
+    → (p : ℕ) (cause : Cause) → Acknowledged (environment m id) a.world p cause → StandsOnce (p, cause) (merged (map (causes_of m.frame_at) (map spelt images)))

@@ -1,12 +1,10 @@
-use Rattle.std.proofs.Common.{◌≡◌, ◌+◌, ◌≤◌, length, vec_capacity}
-use Rattle.node_shell.specs.Pairs.{woven}
+use Rattle.std.proofs.Common.{◌≡◌, ◌+◌, ◌≤◌, ◌++◌, length, vec_capacity}
 use Rattle.node_shell.proofs.disks.put_back.Given as goal
 
 -- those that are left, put back too, give what all give
 abbrev pub invariant-nodes : goal.invariant-nodes
 invariant-nodes g l =
-    (woven l.own.items l.disks.items ≡ woven l.fn.own.items l.fn.disks.items) ×
-    (length l.own.items ≤ length l.disks.items) ×
+    (l.own.items ++ l.disks.items ≡ l.fn.own.items ++ l.fn.disks.items) ×
     (length l.own.items + length l.disks.items ≤ vec_capacity l.disks)
 
 abbrev pub decreases-nodes : goal.decreases-nodes
