@@ -1,5 +1,6 @@
 -- Runs of the whole network, and which journals are those of a run.
 use Rattle.std.specs.Prelude.{◌≡◌, ℕ, ◌+◌, ◌<◌, ◌==◌, ◌&&◌, ◌||◌, get_or, List, [], ◌∷◌, ◌++◌, Option, Some, None, Bool, true, false, if◌then◌else◌, IsSome, length, map, max, option_map, option_and_then, nat_lt, replicate, slice_get, slice_set, take, ⊤, ◌↔◌}
+use Rattle.std.specs.Borrow.{Bor}
 use Rattle.std.specs.List.{AllByRecursion}
 use Rattle.net_base.specs.declared.names.Key.{Key}
 use Rattle.net_base.specs.declared.causes.Cause.{Cause}
@@ -95,6 +96,10 @@ at_node p xs = map (λ x. (p, x)) xs
 -- the causes of a node and those of the nodes behind it as one list
 abbrev pub merged_with : ℕ → List Cause → List (ℕ × Cause) → List (ℕ × Cause)
 merged_with p causes later = merge_two (is_before stamp_of) (at_node p causes) later
+
+-- causes that are lent, each with its node
+abbrev pub lent : List (ℕ × Bor Cause) → List (ℕ × Cause)
+lent causes = map (λ x. (x.0, x.1.now)) causes
 
 -- the network after the causes of all journals, where they are a run
 unfoldable pub network_of : {F : Type 0} → Environment F → List (List Cause) → Option (List (NodeState F))

@@ -2,7 +2,7 @@
 //!
 //! The definitions stand in `specs/`, in this order: `Environment`, `State`, `Steps`, `Enabled`, `Sound`, `Runs`, `Fits`, `Left`,
 //! `Tags`, `Stores`, `Books`, `Print`. Each function here without a body is a law of these definitions, which is its contract;
-//! `merge` puts the causes of all nodes into the order of their run, and `copy_cause` copies one.
+//! `merge` lends the causes of all nodes in the order of their run.
 #![tactic(auto)]
 
 mod laws;
@@ -13,4 +13,4 @@ pub use laws::{
     items_stay, left_falls, merges_each, merges_in_order, notary_tags_hold, prefixes_are_runs,
     stamps_rise, step_is_its_effect, steps_fit, stored_is_signed, stores_hold,
 };
-pub use ordering::{copy_cause, merge};
+pub use ordering::merge;
