@@ -4,6 +4,7 @@ use anyhow::{Context, Result, bail, ensure};
 use app_flows::AppFlow;
 use contract_verify::ContractBook;
 use disk_mem::MemDisk;
+use node_disks::NodeDisks;
 use node_shell::run;
 use outside::{Bay, Disk, MemSink, MemSource, NoGate};
 use std::alloc::{AllocError, Global};
@@ -19,17 +20,20 @@ const ROOM: usize = 4_194_304;
 #[derive(Drop)]
 pub struct Stage<'a> {
     name: &'a str,
-    disks: Vec<MemDisk>,
+    disks: Vec<NodeDisks<MemDisk>>,
     failing_reads: Vec<u64>,
     failing_writes: Vec<u64>,
     played: Option<Played>,
 }
 
 /// The disks of a run, all empty.
-fn empty_disks(alloc: Global) -> Result<Vec<MemDisk>, AllocError> {
+fn empty_disks(alloc: Global) -> Result<Vec<NodeDisks<MemDisk>>, AllocError> {
     let mut disks = Vec::new(alloc);
-    for _ in 0..32u8 {
-        disks.push(MemDisk::new(alloc))?;
+    for _ in 0..16u8 {
+        disks.push(NodeDisks {
+            first: MemDisk::new(alloc),
+            second: MemDisk::new(alloc),
+        })?;
     }
     Ok(disks)
 }
@@ -106,10 +110,23 @@ impl<'a> Stage<'a> {
         Ok(())
     }
 
+    /// The disk at a place: node `n` has those at `2n` and `2n + 1`.
+    fn disk_at(&mut self, place: usize) -> Result<&mut MemDisk> {
+        let own = self
+            .disks
+            .get_mut(place / 2)
+            .context("no disk at that place")?;
+        if place % 2 == 0 {
+            Ok(&mut own.first)
+        } else {
+            Ok(&mut own.second)
+        }
+    }
+
     /// The disk whose place stands in a section's first line.
     fn disk(&mut self, values: &str) -> Result<&mut MemDisk> {
         let place = values.parse::<usize>()?;
-        self.disks.get_mut(place).context("no disk at that place")
+        self.disk_at(place)
     }
 
     /// Cuts the power of a disk, now or at one of its next writes and syncs.
@@ -119,10 +136,7 @@ impl<'a> Stage<'a> {
             bail!("a cut has a place, a number of calls and an outcome")
         };
         ensure!(*outcome <= 3, "no outcome of that number");
-        let disk = self
-            .disks
-            .get_mut(*place as usize)
-            .context("no disk at that place")?;
+        let disk = self.disk_at(*place as usize)?;
         disk.cut_power(*calls, *outcome as u8)
             .ok()
             .context("no cut")
@@ -143,7 +157,7 @@ impl<'a> Stage<'a> {
         let mut source = MemSource::new(script.as_bytes().to_vec(alloc)?, reads);
         let mut answers = MemSink::new(alloc, ROOM, writes)?;
         let disks = mem::replace(&mut self.disks, Vec::new(alloc));
-        ensure!(disks.len() == 32, "no case is under way");
+        ensure!(disks.len() == 16, "no case is under way");
         let ended = run::<_, _, _, _, AppFlow, _, _>(
             rt,
             alloc,

@@ -4,11 +4,11 @@
 //! they are in memory.
 #![tactic(auto)]
 
-ghost use Rattle.std.specs.Prelude.{◌≡◌, ◌⊎◌, IfOk, length, map, string_bytes, All, [], true, None};
+ghost use Rattle.std.specs.Prelude.{◌≡◌, ◌⊎◌, IfOk, length, map, string_bytes, All};
 ghost use Rattle.std.specs.IoError.{error_kind};
 ghost use Rattle.std.specs.declared.io.ErrorKind.TheVariants.{OutOfMemory};
-ghost use Rattle.outside.specs.Disk.{DiskSeen, clean};
 ghost use Rattle.outside.specs.Faults.{Rose};
+ghost use Rattle.corda_net.specs.Disks.{IsEmpty, AreEmpty};
 ghost use Rattle.shell_words.specs.Program.{network_of_words};
 
 use app_flows::AppFlow;
@@ -16,6 +16,7 @@ use cash_contract::Cash;
 use contract_verify::{BoxedContract, ContractBook};
 use disk_host::{HostDisk, StdSink, StdSource};
 use flow_machine::FlowSet;
+use node_disks::NodeDisks;
 use node_shell::run;
 use outside::{Bay, NoGate, Sink, Source};
 use shell_words::{Told, text_told, told_of};
@@ -51,26 +52,32 @@ fn status_of(fault: &io::Error) -> u8
 
 /// An empty disk in memory.
 fn empty_disk<'a, R: Files<File = File>>(alloc: Global, rt: &'a R) -> HostDisk<'a, R>
-    ensures { (result.state ≡ record { kept = []; now = clean []; past = [] })
-        × (result.calm ≡ true) × (result.power ≡ true) × (result.fuse ≡ None)
-        × (result.faults ≡ 0) }
+    ensures { IsEmpty result }
 {
     HostDisk::new(alloc, rt)
+}
+
+/// The two disks of a node, empty and in memory.
+fn empty_pair<'a, R: Files<File = File>>(alloc: Global, rt: &'a R) -> NodeDisks<HostDisk<'a, R>>
+    ensures { AreEmpty result }
+{
+    NodeDisks {
+        first: empty_disk(alloc, rt),
+        second: empty_disk(alloc, rt),
+    }
 }
 
 /// The disks of a run, all empty and in memory. A run opens those that it uses as files where the words name a folder.
 fn empty_disks<'a, R: Files<File = File>>(
     alloc: Global,
     rt: &'a R,
-) -> Result<Vec<HostDisk<'a, R>>, AllocError>
-    ensures count { IfOk result (λ disks. length disks.items ≡ 32) }
-    ensures empty { IfOk result (λ disks.
-        All (λ (d : DiskSeen). (d.state ≡ record { kept = []; now = clean []; past = [] })
-        × (d.calm ≡ true) × (d.power ≡ true) × (d.fuse ≡ None) × (d.faults ≡ 0)) disks.items) }
+) -> Result<Vec<NodeDisks<HostDisk<'a, R>>>, AllocError>
+    ensures count { IfOk result (λ disks. length disks.items ≡ 16) }
+    ensures empty { IfOk result (λ disks. All AreEmpty disks.items) }
 {
     let mut disks = Vec::new(alloc);
-    'disks: for _ in 0..32u8 {
-        disks.push(empty_disk(alloc, rt))?;
+    'disks: for _ in 0..16u8 {
+        disks.push(empty_pair(alloc, rt))?;
     }
     Ok(disks)
 }
@@ -99,9 +106,9 @@ fn run_shipped<
     words: &[String],
     source: &mut S,
     sink: &mut K,
-    disks: Vec<B>,
+    disks: Vec<NodeDisks<B>>,
 ) -> Result<u8, AllocError>
-    requires { length disks.items ≡ 32 }
+    requires { length disks.items ≡ 16 }
     ensures words { IfOk result (λ status. status ≡ 2
         → network_of_words (map (λ s. string_bytes s) words.now) ≡ None) }
     ensures refused { IfOk result (λ status. network_of_words (map (λ s. string_bytes s) words.now)

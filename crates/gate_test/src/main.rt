@@ -13,6 +13,7 @@ use contract_verify::{BoxedContract, ContractBook, Judge};
 use disk_mem::MemDisk;
 use flow_machine::FlowSet;
 use hold::Hold;
+use node_disks::NodeDisks;
 use node_shell::run;
 use outside::{Bay, Gate, MemSink, MemSource, Sink, Source};
 use std::alloc::{AllocError, Global};
@@ -37,10 +38,13 @@ fn words(alloc: Global) -> Result<Vec<String>, AllocError> {
 }
 
 /// Empty disks of a run.
-fn disks(alloc: Global) -> Result<Vec<MemDisk>, AllocError> {
+fn disks(alloc: Global) -> Result<Vec<NodeDisks<MemDisk>>, AllocError> {
     let mut disks = Vec::new(alloc);
-    for _ in 0..32u8 {
-        disks.push(MemDisk::new(alloc))?;
+    for _ in 0..16u8 {
+        disks.push(NodeDisks {
+            first: MemDisk::new(alloc),
+            second: MemDisk::new(alloc),
+        })?;
     }
     Ok(disks)
 }
@@ -60,11 +64,11 @@ fn run_with<
     words: &[String],
     source: &mut S,
     sink: &mut K,
-    disks: Vec<B>,
+    disks: Vec<NodeDisks<B>>,
     contracts: &J,
     gate: &G,
 ) -> u8
-    requires { length disks.items ≡ 32 }
+    requires { length disks.items ≡ 16 }
 {
     let ended = run::<R, S, K, B, F, J, G>(rt, alloc, words, source, sink, disks, contracts, gate);
     ended.status
@@ -82,7 +86,7 @@ fn is_played<F: FlowSet + Send + Sync, R: Threads + Wait + Sync>(
     let script = SCRIPT.as_bytes().to_vec(alloc)?;
     let mut source = MemSource::new(script, Vec::new(alloc));
     let mut answers = MemSink::new(alloc, ROOM, Vec::new(alloc))?;
-    if disks.len() != 32 {
+    if disks.len() != 16 {
         return Ok(false);
     }
     let words = words.as_slice();

@@ -83,13 +83,6 @@ module _ {F : Type 0} (f : Reads F) where
       let rest = flat_map (held_of f) (drop (suc i) ns) in
       append_assoc held own rest ∙ ap (λ (m : List Held). held ++ (m ++ rest)) is ∙ ap (λ (l : List Held). held ++ l) (sym (ap (flat_map (held_of f)) (drop_get ns i n at) ∙ flat_map-cons (held_of f) n (drop (suc i) ns)))
 
--- whether a node is up, as it says
-pub up_is : {X : Type 0} (b : Bool) (journal : Option X) → ((IsTrue b → IsSome journal) × (IsSome journal → IsTrue b)) → b ≡ is_some journal
-up_is true (Some x) h = refl
-up_is false None h = refl
-up_is true None h = let e : false ≡ true = h.0 refl in cc
-up_is false (Some x) h = let e : false ≡ true = h.1 refl in cc
-
 module _ {F : Type 0} (e : Environment F) (net : NetSeen) (w : World) (shows : Shows e net w) where
   up_shown : list_all (λ (x : NodeWorld). x.up) w.nodes ≡ list_all (λ (n : NodeSeen). is_some n.journal) net.nodes
   up_shown = all_up_shown e.frame_at net.nodes w.nodes shows.count (shows_each e net w shows)

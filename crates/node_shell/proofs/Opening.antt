@@ -245,7 +245,7 @@ is_bad_journal status.NoMemory is = cc
 
 -- a making ready before changes no cause
 cause_since : {F : Type 0} (f : Reads F) (id : Identity) (why : BootFault) (d k b : DiskSeen) → k ≡ record d { faults = k.faults; attached = k.attached } → d.faults ≤ k.faults → HasCause f id k why b → HasCause f id d why b
-cause_since f id boot.Fault d k b same later h = fails_since d k b same later h
+cause_since f id boot.Fault d k b same later h = fails_since d k b (same, later) h
 cause_since f id boot.Memory d k b same later h = tt
 cause_since f id boot.NotAJournal d k b same later h = λ tells.
     subst (λ (x : DiskSeen). (refusal id x.state.kept ≡ Some open_fault.NotAJournal) × (b.state.kept ≡ x.state.kept)) same (h (ap (λ (x : DiskSeen). x.tells) same ∙ tells))
@@ -432,7 +432,7 @@ module _ {F : Type 0} (m : Meaning F) (nodes : ℕ) (notary : Party) where
       (λ (p : (why ≡ boot.Memory) × (node ≡ 0) × (bs ≡ ds)). absurd (no_memory (subst (λ y. RefusedWith node y written0 written1 status.DiskFault) p.0 so).0))
       (λ (q : Stopped ds node why bs).
       let within = slice_get_within ds node q.0 q.2 in
-      record { place = node; own = omega (arith, within, count); before = q.0; after = q.1; at = q.2; now = q.3; fails = told_of_fault m.frame_at (member nodes notary node) why q.0 q.1 node written0 written1 (boot_cause m.frame_at (member nodes notary node) why q.0 q.1 q.4.3) so })
+      record { place = node; own = omega (arith, within, count); before = q.0; after = q.1; at = q.2; now = q.3; is = told_of_fault m.frame_at (member nodes notary node) why q.0 q.1 node written0 written1 (boot_cause m.frame_at (member nodes notary node) why q.0 q.1 q.4.3) so })
       r.refused
 
   pub refused : (ds bs : List DiskSeen) (w : World) (node : ℕ) (why : BootFault) (left written0 written1 : Option (List ℕ)) (s : Status) → 0 < nodes → length ds ≡ nodes

@@ -6,8 +6,8 @@ use Rattle.net_model.specs.Environment.{Meaning, party}
 use Rattle.node_core.specs.Disks.{attached_as}
 use Rattle.shell_words.specs.declared.program.NetworkWords.{NetworkWords}
 use Rattle.node_shell.specs.declared.statuses.Status.{Status}
-use Rattle.node_shell.specs.Runs.{Ran, IsStory, Went, ToldWhy, OpensOwn, KeepsSeconds, KeepsOthers, IsPlayed, EndsWell, AllStay, IsOpeningStatus, IsPlayedNumber, number_of_status, firsts, views}
-use Rattle.node_shell.proofs.Readying.{stay_same, first_stay}
+use Rattle.node_shell.specs.Runs.{Ran, IsStory, Went, ToldWhy, OpensOwn, KeepsSeconds, KeepsOthers, IsPlayed, EndsWell, AllStay, SecondsStay, IsOpeningStatus, IsPlayedNumber, number_of_status, of_nodes, views}
+use Rattle.node_shell.proofs.Readying.{stay_same, seconds_same, first_stay}
 use Rattle.node_shell.proofs.Opening.{unready, runs_as, went_unready, opening_number}
 
 -- a run that read and wrote nothing
@@ -39,7 +39,7 @@ module _ {F B : Type 0} (m : Meaning F) (seen : B → DiskSeen) (words : List (L
   abbrev which : (number ≡ 6) ⊎ (number ≡ 7)
   which = opening_number s number is equal
 
-  pub still_ends : length es ≡ 32 → KeepsOthers r.disks n → EndsWell r n
+  pub still_ends : length es ≡ 16 → KeepsOthers r.disks n → EndsWell r n
   still_ends all others = record {
     words = λ h. no_other 2 number (inl (omega arith)) which h;
     too_long = (λ h. absurd (no_other 3 number (inl (omega arith)) which h), λ h. absurd (omega (arith, none, h)));
@@ -52,22 +52,22 @@ module _ {F B : Type 0} (m : Meaning F) (seen : B → DiskSeen) (words : List (L
   }
 
   module _ (stay : AllStay (map seen ds) (map seen es)) where
-    pub still_story : IsStory m r (firsts n.nodes (views seen r.disks)) n
+    pub still_story : IsStory m r (of_nodes n.nodes (views seen r.disks)) n
     still_story = λ w shows coherent.
         runs_as m n.nodes (party n.notary) w _ _ _ _ _ _ _ _ _ s equal none
         (unready m n.nodes (party n.notary) _ _ w _ _ s is (first_stay n.nodes (map seen ds) (map seen es) stay) shows coherent)
 
-    pub still_went : Went m r (firsts n.nodes (views seen r.disks)) n
+    pub still_went : Went m r (of_nodes n.nodes (views seen r.disks)) n
     still_went = went_unready m n.nodes (party n.notary) _ _ _ _ _ _ s is (first_stay n.nodes (map seen ds) (map seen es) stay) equal none
 
-    pub still_told : (number ≡ 8) → ToldWhy m r (firsts n.nodes (views seen r.disks)) n
+    pub still_told : (number ≡ 8) → ToldWhy m r (of_nodes n.nodes (views seen r.disks)) n
     still_told h = absurd (no_other 8 number (inr (omega arith)) which h)
 
-    pub still_own : IsPlayedNumber number → OpensOwn m (firsts n.nodes (views seen r.disks)) n
+    pub still_own : IsPlayedNumber number → OpensOwn m (of_nodes n.nodes (views seen r.disks)) n
     still_own h = absurd (not_played number which h)
 
-    pub still_seconds : KeepsSeconds (views seen r.disks) n
-    still_seconds = λ p d e within at there. stay.each (2 * p + 1) d e at there
+  pub still_seconds : SecondsStay (map seen ds) (map seen es) → KeepsSeconds (views seen r.disks) n
+  still_seconds stay = λ p d e within at there. stay p d e at there
 
   -- and left each disk as it was
   pub still_played : es ≡ ds → IsPlayed m seen r n
@@ -78,6 +78,6 @@ module _ {F B : Type 0} (m : Meaning F) (seen : B → DiskSeen) (words : List (L
         went = still_went stay;
         bad_journal = still_told stay;
         own = still_own stay;
-        seconds = still_seconds stay;
+        seconds = still_seconds (subst (λ l. SecondsStay (map seen ds) (map seen l)) (sym same) (seconds_same (map seen ds)));
         attached = ap (λ l. attached_as (map seen l)) same;
       }

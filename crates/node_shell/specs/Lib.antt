@@ -1,4 +1,4 @@
-pub mod Pairs
+pub mod Names
 pub mod LedgerPrint
 pub mod Replies
 pub mod Loads

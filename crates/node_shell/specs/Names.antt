@@ -1,5 +1,6 @@
 -- The names of a node's two disks, and what contracts see of the second one, which stands beside the first.
-use Rattle.std.specs.Prelude.{ℕ, List, ◌++◌, codes, decimal, Bool, true, false, Option, option_map_or, option_and_then}
+use Rattle.std.specs.Prelude.{ℕ, List, ◌++◌, codes, decimal, Bool, true, false, Option, option_and_then}
+use Rattle.std.specs.Option.{option_map_or}
 use Rattle.outside.specs.Disk.{Attached, DiskSeen}
 
 -- the letter of a node's disk

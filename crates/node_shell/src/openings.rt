@@ -1,13 +1,15 @@
 //! How a run begins: the disks are made ready, and a first opening that was refused is told.
 
-ghost use Rattle.std.specs.Prelude.{◌≡◌, ◌≤◌, ◌*◌, length, drop, map, option_map, IfErr, IsErrOf, IfOk, OnOk, OnErr, Some, None, string_bytes};
+ghost use Rattle.std.specs.Prelude.{◌≡◌, ◌⊎◌, ◌≤◌, length, drop, map, option_map, IfErr, IsErrOf, IfOk, OnOk, OnErr, Some, None, string_bytes};
 ghost use Rattle.outside.specs.Faults.{Rose};
-ghost use Rattle.node_shell.specs.Runs.{journal_line, RefusedWith, IsOpeningStatus, IsRefusedStatus, Fails, OneFails, OneRises, StaysBut, StayIn, NoneFalls, AreNamed, StopsNaming};
-ghost use Rattle.node_shell.specs.Pairs.{letter_of, disk_name, own_name};
+ghost use Rattle.node_disks.specs.Pair.{pair_seen};
+ghost use Rattle.node_shell.specs.Runs.{journal_line, RefusedWith, IsOpeningStatus, IsRefusedStatus, Fails, FailsBeside, SomeFails, SomeRises, StaysBut, StaysBeside, StayIn, NoneFalls, HasNames, HasFirstName, KeepsNames, AreNamed, StopsNaming};
+ghost use Rattle.node_shell.specs.Names.{letter_of, disk_name, own_name, faults_beside};
 
 use super::statuses::Status;
 use super::streams::write_all;
 use node_core::BootFault;
+use node_disks::NodeDisks;
 use outside::{AttachFault, Bay, Failed, Sink};
 use std::alloc::{AllocError, Global};
 
@@ -27,18 +29,19 @@ fn disk_name(alloc: Global, node: usize, second: bool) -> Result<String, AllocEr
     Ok(name)
 }
 
-/// Makes the disk at a place ready under its own name, in a folder or in memory.
+/// Makes a node's first or second disk ready under its own name, in a folder or in memory.
 fn attach<B: Bay>(
     alloc: Global,
     dir: Option<&str>,
     disk: &mut B,
-    place: usize,
+    node: usize,
+    second: bool,
 ) -> Result<(), Status>
     ensures stays { option_map (λ s. s.now) dir.entry ≡ None
         → StaysBut (B.seen disk.old) (B.seen disk.new) }
     ensures later { (B.seen disk.old).faults ≤ (B.seen disk.new).faults }
-    ensures named { OnOk result ((B.seen disk.new).attached
-        ≡ Some (own_name (option_map (λ s. s.now) dir.entry) place)) }
+    ensures named { OnOk result ((B.seen disk.new).attached.own
+        ≡ Some (own_name (option_map (λ s. s.now) dir.entry) node second)) }
     ensures unnamed { OnErr result ((B.seen disk.new).attached ≡ (B.seen disk.old).attached) }
     ensures kinds { IfErr result IsOpeningStatus }
     ensures cause { option_map (λ s. s.now) dir.entry ≡ None → IsErrOf result Status.DiskFault
@@ -46,7 +49,7 @@ fn attach<B: Bay>(
     ensures rose { IsErrOf result Status.DiskFault
         → Rose (B.seen disk.old).faults (B.seen disk.new).faults }
 {
-    let Ok(name) = disk_name(alloc, place / 2, place % 2 == 1) else {
+    let Ok(name) = disk_name(alloc, node, second) else {
         return Err(Status::NoMemory);
     };
     match disk.attach(alloc, dir, name.as_str()) {
@@ -99,32 +102,70 @@ pub fn refuse<K: Sink>(alloc: Global, sink: &mut K, node: u8, why: BootFault) ->
     }
 }
 
+/// Makes both disks of a node ready, the first one first, in a folder or in memory.
+fn attach_both<B: Bay>(
+    alloc: Global,
+    dir: Option<&str>,
+    disks: &mut NodeDisks<B>,
+    node: usize,
+) -> Result<(), Status>
+    ensures stays { option_map (λ s. s.now) dir.entry ≡ None
+        → StaysBut (pair_seen B.seen disks.old) (pair_seen B.seen disks.new)
+        × StaysBeside (pair_seen B.seen disks.old).attached.beside
+        (pair_seen B.seen disks.new).attached.beside }
+    ensures later { ((pair_seen B.seen disks.old).faults ≤ (pair_seen B.seen disks.new).faults)
+        × (faults_beside (pair_seen B.seen disks.old)
+        ≤ faults_beside (pair_seen B.seen disks.new)) }
+    ensures named { OnOk result (HasNames (option_map (λ s. s.now) dir.entry) node
+        (pair_seen B.seen disks.new)) }
+    ensures half { OnErr result (KeepsNames (pair_seen B.seen disks.old)
+        (pair_seen B.seen disks.new)
+        ⊎ HasFirstName (option_map (λ s. s.now) dir.entry) node (pair_seen B.seen disks.old)
+        (pair_seen B.seen disks.new)) }
+    ensures kinds { IfErr result IsOpeningStatus }
+    ensures cause { option_map (λ s. s.now) dir.entry ≡ None → IsErrOf result Status.DiskFault
+        → Fails (pair_seen B.seen disks.old) (pair_seen B.seen disks.new)
+        ⊎ FailsBeside (pair_seen B.seen disks.old) (pair_seen B.seen disks.new) }
+    ensures rose { IsErrOf result Status.DiskFault
+        → Rose (pair_seen B.seen disks.old).faults (pair_seen B.seen disks.new).faults
+        ⊎ Rose (faults_beside (pair_seen B.seen disks.old))
+        (faults_beside (pair_seen B.seen disks.new)) }
+{
+    match attach(alloc, dir, &mut disks.first, node, false) {
+        Err(status) => Err(status),
+        Ok(()) => attach(alloc, dir, &mut disks.second, node, true),
+    }
+}
+
 /// Makes both disks of each of this many nodes ready, in order, in a folder or in memory.
 pub fn attach_all<B: Bay>(
     alloc: Global,
     dir: Option<&str>,
-    disks: &mut Vec<B>,
+    disks: &mut Vec<NodeDisks<B>>,
     nodes: usize,
 ) -> Result<(), Status>
     requires few { nodes ≤ 16 }
-    requires disks { 2 * nodes ≤ length disks.old.items }
-    ensures stay { StayIn (option_map (λ s. s.now) dir.entry) (map B.seen disks.old.items)
-        (map B.seen disks.new.items) }
-    ensures none_falls { NoneFalls (map B.seen disks.old.items) (map B.seen disks.new.items) }
-    ensures named { OnOk result (AreNamed (option_map (λ s. s.now) dir.entry) (2 * nodes)
-        (map B.seen disks.old.items) (map B.seen disks.new.items)) }
-    ensures stopped { OnErr result (StopsNaming (option_map (λ s. s.now) dir.entry) (2 * nodes)
-        (map B.seen disks.old.items) (map B.seen disks.new.items)) }
-    ensures rest { drop (2 * nodes) disks.new.items ≡ drop (2 * nodes) disks.old.items }
+    requires disks { nodes ≤ length disks.old.items }
+    ensures stay { StayIn (option_map (λ s. s.now) dir.entry)
+        (map (pair_seen B.seen) disks.old.items) (map (pair_seen B.seen) disks.new.items) }
+    ensures none_falls { NoneFalls (map (pair_seen B.seen) disks.old.items)
+        (map (pair_seen B.seen) disks.new.items) }
+    ensures named { OnOk result (AreNamed (option_map (λ s. s.now) dir.entry) nodes
+        (map (pair_seen B.seen) disks.old.items) (map (pair_seen B.seen) disks.new.items)) }
+    ensures stopped { OnErr result (StopsNaming (option_map (λ s. s.now) dir.entry) nodes
+        (map (pair_seen B.seen) disks.old.items) (map (pair_seen B.seen) disks.new.items)) }
+    ensures rest { drop nodes disks.new.items ≡ drop nodes disks.old.items }
     ensures kinds { IfErr result IsOpeningStatus }
     ensures cause { option_map (λ s. s.now) dir.entry ≡ None → IsErrOf result Status.DiskFault
-        → OneFails (2 * nodes) (map B.seen disks.old.items) (map B.seen disks.new.items) }
+        → SomeFails nodes (map (pair_seen B.seen) disks.old.items)
+        (map (pair_seen B.seen) disks.new.items) }
     ensures rose { IsErrOf result Status.DiskFault
-        → OneRises (2 * nodes) (map B.seen disks.old.items) (map B.seen disks.new.items) }
+        → SomeRises nodes (map (pair_seen B.seen) disks.old.items)
+        (map (pair_seen B.seen) disks.new.items) }
 {
-    'places: for place in 0..2 * nodes {
-        let disk = &mut disks[place];
-        match attach(alloc, dir, disk, place) {
+    'nodes: for node in 0..nodes {
+        let own = &mut disks[node];
+        match attach_both(alloc, dir, own, node) {
             Ok(()) => {}
             Err(status) => return Err(status),
         }

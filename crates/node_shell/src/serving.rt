@@ -17,13 +17,13 @@ use super::working::work;
 use contract_verify::Judge;
 use flow_machine::{FlowSet, WordFault};
 use flow_workers::Plan;
-use net_base::{ByteList, CauseList, Moment};
+use net_base::{ByteList, Cause, Moment};
 use network_core::{Net, Outcome, Refusal, Step};
 use node_core::Node;
 use outside::{Bay, Gate};
 use shell_report::{
-    balance_text, book_text, copy_causes, flow_text, flows_text, history_text, tx_text_at,
-    tx_text_of, vault_text,
+    balance_text, book_text, flow_text, flows_text, history_text, tx_text_at, tx_text_of,
+    vault_text,
 };
 use shell_words::{
     Command, TxName, command_of, has_mark, has_no_answer, is_readable, mark_of, words_of,
@@ -364,12 +364,12 @@ fn print_tx<B: Bay, F: FlowSet>(
     }
 }
 
-/// The causes of all nodes' journals; `None` where a node is down.
-fn all_causes<B: Bay, F: FlowSet>(
+/// The causes of all nodes' journals, lent by the nodes; `None` where a node is down.
+fn all_causes<'a, B: Bay, F: FlowSet>(
     alloc: Global,
-    nodes: &[Node<B, F>],
-) -> Result<Option<Vec<CauseList>>, AllocError>
-    ensures { IfOk result (λ r. option_map (λ lists. lists.items) r
+    nodes: &'a [Node<B, F>],
+) -> Result<Option<Vec<&'a [Cause]>>, AllocError>
+    ensures { IfOk result (λ r. option_map (λ lists. map (λ l. l.now) lists.items) r
         ≡ causes_up F.reading nodes.now) }
 {
     let mut lists = Vec::with_capacity(alloc, nodes.len())?;
@@ -377,7 +377,7 @@ fn all_causes<B: Bay, F: FlowSet>(
         let Some(causes) = node.causes() else {
             return Ok(None);
         };
-        lists.push(copy_causes(alloc, causes)?)?;
+        lists.push(causes)?;
     }
     Ok(Some(lists))
 }

@@ -1,5 +1,6 @@
 ghost use Rattle.std.specs.Prelude.{◌≡◌, [], length, map, string_bytes};
 ghost use Rattle.net_model.specs.Environment.{meaning};
+ghost use Rattle.node_disks.specs.Pair.{pair_seen};
 ghost use Rattle.shell_words.specs.Program.{IsNetwork};
 ghost use Rattle.node_shell.specs.Runs.{PlaysOwn, RanReady, RanInMemory, RanInFolder, number_of_status, IsRun};
 
@@ -11,6 +12,7 @@ use contract_verify::Judge;
 use flow_machine::FlowSet;
 use net_base::Party;
 use network_core::Net;
+use node_disks::NodeDisks;
 use outside::{Bay, Gate, Sink, Source};
 use shell_words::{NetworkWords, WordsFault, program_words};
 use std::alloc::Global;
@@ -24,13 +26,13 @@ pub struct Ended<B: Bay> {
     /// and 5 after a write that failed; 6 where a disk failed before the script; 7 for want of memory; 8 where the first opening of some
     /// node found no sound journal of its own.
     pub status: u8,
-    /// The disks, in the order in which they were handed in.
-    pub disks: Vec<B>,
+    /// The disks of all nodes, in the order in which they were handed in.
+    pub disks: Vec<NodeDisks<B>>,
     /// How many bytes the source gave.
     pub bytes_read: u64,
 }
 
-/// Plays the script over the nodes on their first disks, and gives the disks back.
+/// Plays the script over the nodes on their disks, and gives the disks back.
 fn play<
     R: Threads + Wait + Sync,
     S: Source,
@@ -90,13 +92,13 @@ fn run_ready<
     network: NetworkWords,
     source: &mut S,
     sink: &mut K,
-    disks: Vec<B>,
+    disks: Vec<NodeDisks<B>>,
     contracts: &J,
     gate: &G,
 ) -> Ended<B>
     requires within { IsNetwork network }
-    requires disks { length disks.items ≡ 32 }
-    ensures { RanReady (meaning F.machine F.reading (J.judges contracts.now)) B.seen (record {
+    requires disks { length disks.items ≡ 16 }
+    ensures { RanReady (meaning F.machine F.reading (J.judges contracts.now)) (pair_seen B.seen) (record {
       words = [];
       disks = record { old = disks.items; new = result.disks.items };
       left = record { old = S.left source.old; new = S.left source.new };
@@ -113,7 +115,7 @@ fn run_ready<
         return end_with(Status::NoMemory, disks, 0);
     };
     take_first(&mut disks, &mut own, nodes);
-    let (status, bytes_read, own) = play::<R, S, K, B, F, J, G>(
+    let (status, bytes_read, own) = play::<R, S, K, NodeDisks<B>, F, J, G>(
         rt, alloc, source, sink, network, own, contracts, gate,
     );
     put_back(&mut disks, own);
@@ -135,13 +137,13 @@ fn run_in_memory<
     network: NetworkWords,
     source: &mut S,
     sink: &mut K,
-    disks: Vec<B>,
+    disks: Vec<NodeDisks<B>>,
     contracts: &J,
     gate: &G,
 ) -> Ended<B>
     requires within { IsNetwork network }
-    requires disks { length disks.items ≡ 32 }
-    ensures { RanInMemory (meaning F.machine F.reading (J.judges contracts.now)) B.seen (record {
+    requires disks { length disks.items ≡ 16 }
+    ensures { RanInMemory (meaning F.machine F.reading (J.judges contracts.now)) (pair_seen B.seen) (record {
       words = [];
       disks = record { old = disks.items; new = result.disks.items };
       left = record { old = S.left source.old; new = S.left source.new };
@@ -177,13 +179,13 @@ fn run_at_path<
     network: NetworkWords,
     source: &mut S,
     sink: &mut K,
-    disks: Vec<B>,
+    disks: Vec<NodeDisks<B>>,
     contracts: &J,
     gate: &G,
 ) -> Ended<B>
     requires within { IsNetwork network }
-    requires disks { length disks.items ≡ 32 }
-    ensures { RanInFolder (meaning F.machine F.reading (J.judges contracts.now)) B.seen dir.now
+    requires disks { length disks.items ≡ 16 }
+    ensures { RanInFolder (meaning F.machine F.reading (J.judges contracts.now)) (pair_seen B.seen) dir.now
         (record {
           words = [];
           disks = record { old = disks.items; new = result.disks.items };
@@ -220,13 +222,13 @@ fn run_in_folder<
     network: NetworkWords,
     source: &mut S,
     sink: &mut K,
-    disks: Vec<B>,
+    disks: Vec<NodeDisks<B>>,
     contracts: &J,
     gate: &G,
 ) -> Ended<B>
     requires within { IsNetwork network }
-    requires disks { length disks.items ≡ 32 }
-    ensures { RanInFolder (meaning F.machine F.reading (J.judges contracts.now)) B.seen
+    requires disks { length disks.items ≡ 16 }
+    ensures { RanInFolder (meaning F.machine F.reading (J.judges contracts.now)) (pair_seen B.seen)
         (string_bytes dir) (record {
           words = [];
           disks = record { old = disks.items; new = result.disks.items };
@@ -254,8 +256,8 @@ fn run_in_folder<
 /// Runs a script over a network of 1 to 16 nodes, line by line, and writes the answers.
 ///
 /// The words are `--nodes n`, with 1 to 16, `--notary n`, with 0 to 15 and below the number of nodes, and `--dir path`, each at most once
-/// and in any order; without them there are two nodes, node 0 is the notary, and the disks are in memory. Of the 32 disks node `n` has
-/// disks `2n` and `2n + 1`, which are made ready as `node-n.a` and `node-n.b`, in the folder that `--dir` names or in memory; its journal
+/// and in any order; without them there are two nodes, node 0 is the notary, and the disks are in memory. Of the disks of 16 nodes node `n`
+/// has those at place `n`, which are made ready as `node-n.a` and `node-n.b`, in the folder that `--dir` names or in memory; its journal
 /// is on the first. All disks are made ready in order, and then the nodes are opened in order. The contracts are those by which the nodes verify transactions. A script has at most 16,777,216 bytes. Each line
 /// of it is a command, which has one answer line or, a query or a load, several; a blank line, one that begins with `#` and `quit` have none. The
 /// frames that wait when it ends are not kept.
@@ -285,12 +287,12 @@ pub fn run<
     words: &[String],
     source: &mut S,
     sink: &mut K,
-    disks: Vec<B>,
+    disks: Vec<NodeDisks<B>>,
     contracts: &J,
     gate: &G,
 ) -> Ended<B>
-    requires { length disks.items ≡ 32 }
-    ensures run { IsRun (meaning F.machine F.reading (J.judges contracts.now)) B.seen (record {
+    requires { length disks.items ≡ 16 }
+    ensures run { IsRun (meaning F.machine F.reading (J.judges contracts.now)) (pair_seen B.seen) (record {
       words = map (λ s. string_bytes s) words.now;
       disks = record { old = disks.items; new = result.disks.items };
       left = record { old = S.left source.old; new = S.left source.new };
@@ -319,7 +321,7 @@ pub fn run<
 }
 
 /// The end of a run.
-fn end_with<B: Bay>(status: Status, disks: Vec<B>, bytes_read: u64) -> Ended<B>
+fn end_with<B: Bay>(status: Status, disks: Vec<NodeDisks<B>>, bytes_read: u64) -> Ended<B>
     ensures { (result.status ≡ number_of_status status) × (result.disks ≡ disks)
         × (result.bytes_read ≡ bytes_read) }
 {

@@ -1,10 +1,10 @@
 //! The history of the network.
 
-ghost use Rattle.std.specs.Prelude.{◌≡◌, ◌≤◌, IfOk, string_bytes, length};
-ghost use Rattle.net_model.specs.Runs.{merged};
+ghost use Rattle.std.specs.Prelude.{◌≡◌, ◌≤◌, IfOk, string_bytes, length, map};
+ghost use Rattle.net_model.specs.Runs.{merged, lent};
 ghost use Rattle.net_model.specs.Print.{event_line, history_line, history_lines, history_text};
 
-use net_base::{Cause, CauseList, Event};
+use net_base::{Cause, Event};
 use net_model::merge;
 use std::alloc::{AllocError, Global};
 use std::fmt::Write;
@@ -48,8 +48,8 @@ fn history_line(alloc: Global, node: u8, cause: &Cause) -> Result<String, AllocE
 }
 
 // A line for each cause.
-fn history_lines(alloc: Global, causes: &[(u8, Cause)]) -> Result<String, AllocError>
-    ensures { IfOk result (λ text. string_bytes text ≡ history_lines causes.now) }
+fn history_lines(alloc: Global, causes: &[(u8, &Cause)]) -> Result<String, AllocError>
+    ensures { IfOk result (λ text. string_bytes text ≡ history_lines (lent causes.now)) }
 {
     let mut out = String::new(alloc);
     for (node, cause) in causes {
@@ -59,14 +59,16 @@ fn history_lines(alloc: Global, causes: &[(u8, Cause)]) -> Result<String, AllocE
     Ok(out)
 }
 
-/// A line for each cause of all nodes, in their one order, or the line `none`. The list at place p is that of node p.
+/// A line for each cause of all nodes, in their one order, or the line `none`. The list at place p is that of node p. Copies no
+/// cause.
 ///
 /// # Errors
 ///
 /// `AllocError` for want of memory.
-pub fn history_text(alloc: Global, lists: &[CauseList]) -> Result<String, AllocError>
+pub fn history_text(alloc: Global, lists: &[&[Cause]]) -> Result<String, AllocError>
     requires few { length lists.now ≤ 16 }
-    ensures { IfOk result (λ text. string_bytes text ≡ history_text (merged lists.now)) }
+    ensures { IfOk result (λ text. string_bytes text
+        ≡ history_text (merged (map (λ l. l.now) lists.now))) }
 {
     let causes = merge(alloc, lists)?;
     if causes.len() == 0 {

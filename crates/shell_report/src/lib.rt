@@ -1,11 +1,10 @@
 //! What is printed of a node and of the network: its flows, one flow, and the causes of all nodes; its vault and balances, a notary's
-//! book, and one transaction. And copies of causes.
+//! book, and one transaction.
 //!
 //! The texts are those that `net_model` defines (`Print`), and for the ledger those of `specs/LedgerText.antt`.
 #![tactic(auto)]
 
 mod balances;
-mod copies;
 mod entries;
 mod flows;
 mod history;
@@ -14,7 +13,6 @@ mod states;
 mod transactions;
 
 pub use balances::{balance_text, totals_text};
-pub use copies::copy_causes;
 pub use entries::book_text;
 pub use flows::{flow_text, flows_text};
 pub use history::history_text;

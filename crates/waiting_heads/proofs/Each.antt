@@ -13,9 +13,6 @@ pub record Put (lists : List (List Frame)) (old new : List WaitingSeen) : Type 0
   pub each : (q : ℕ) (frames : List Frame) (w v : WaitingSeen) → slice_get lists q ≡ Some frames → slice_get old q ≡ Some w → slice_get new q ≡ Some v → PutFirst frames (drop 1024 w.frames) v.frames
   pub rest : (q : ℕ) → length lists ≤ q → slice_get new q ≡ slice_get old q
 
-pub put_none : (old : List WaitingSeen) → Put [] old old
-put_none old = record { count = refl; each = λ q frames w v at there here. cc; rest = λ q past. refl }
-
 below : {X : Type 0} (xs : List X) (q : ℕ) (x : X) → slice_get xs q ≡ Some x → q < length xs
 below [] q x at = cc
 below (y ∷ xs) zero x at = omega arith
@@ -41,9 +38,6 @@ put_next lists later old mid new frames at w v is here put there now puts = reco
       let other : q ≡ at → ⊥ = λ same. absurd (omega (arith, same, here, past, len, more)) in
       ap (λ (l : List WaitingSeen). slice_get l q) now ∙ get_other mid at v q other ∙ put.rest q (omega (arith, past, len, more));
 }
-
-pub put_all : (lists : List (List Frame)) (old new : List WaitingSeen) → Put lists old new → PutEach lists old new
-put_all lists old new put = record { count = put.count; each = put.each }
 
 -- ---- lists
 

@@ -300,9 +300,5 @@ posted_shares v x = (posted_rest v x).0
 
 -- ---- the law
 
-total_split : (f g : Seen → ℕ) (views : List Seen) → total (λ v. f v + g v) views ≡ total f views + total g views
-total_split f g [] = refl
-total_split f g (v ∷ views) = omega (arith, total_split f g views)
-
 pub taken_as_posted : TakenAsPosted
 taken_as_posted items views f ours = (ours.origin f, omega (arith, ours.balance (one f)))

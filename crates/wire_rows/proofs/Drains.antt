@@ -22,18 +22,6 @@ left_in count lists old new drained q frames t at be x there =
     let was = get_beside new old q t drained.beside be in
     subst (λ (z : Seen). IsIn x z.pulled) (sym (drained.left q frames was.0 t at was.1 be)) (in_right x was.0.pulled frames there)
 
-pub drained_none : (own : List Seen) → Drained 0 [] own own
-drained_none own = record {
-  beside = refl;
-  left = λ q frames s t is at be. absurd (none q frames is);
-  emptied = λ q frames t is few be. absurd (none q frames is);
-  whole = λ q t below be. absurd (omega (arith, below));
-  others = λ q below. refl;
-}
-  where
-    none : (q : ℕ) (frames : List Frame) → slice_get [] q ≡ Some frames → ⊥
-    none q frames is = cc
-
 below_or : (a b : ℕ) → a < b + 1 → (a ≡ b → ⊥) → a < b
 below_or zero zero below other = absurd (other refl)
 below_or zero (suc b) below other = omega arith

@@ -91,10 +91,6 @@ post_at (Some y) at x passes pass new there put same full = inr (
   λ s is. subst (λ (z : Seen). Held 1024 (Settled z)) (some_eq (sym (get_map (λ (p : InboxPass). p.seen) passes at pass there) ∙ is)) full,
 )
 
--- there is no inbox
-pub post_nowhere : (at : ℕ) (x : Frame) (old : List Seen) → ((s : Seen) → slice_get old at ≡ Some s → ⊥) → PostedAt at x old old
-post_nowhere at x old none = inr (refl, λ s is. absurd (none s is))
-
 pub posted_push : (os : List Outgoing) (o : Outgoing) (old mid new : List Seen) → PostedAll os old mid → PostedAt o.to.0 o.bytes mid new → PostedAll (os ++ o ∷ []) old new
 posted_push [] o old mid new first last = (new, subst (λ (l : List Seen). PostedAt o.to.0 o.bytes l new) first last, refl)
 posted_push (a ∷ os) o old mid new first last = (first.0, first.1, posted_push os o first.0 mid new first.2 last)

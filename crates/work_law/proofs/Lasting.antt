@@ -453,13 +453,3 @@ lasted m now from (by_send {n = n} frames went sends) = lasted m now from went
 
 pub histories_last : {F : Type 0} → HistoriesLast F
 histories_last m now from n took sent count went = let all = lasted m now from went in (all.0, all.1.most)
-
--- one call leaves which node it is
-pub turns_identity : {F : Type 0} (m : Meaning F) (now : ℕ) (claims : List ℕ) (n : NodeSeen) (answer : Result SharedTurn TurnFault) (k : NodeSeen) → Turns m now claims n answer k → k.identity ≡ n.identity
-turns_identity m now claims n answer k h = (turn_call m now n k claims answer h).lasts.identity
-
-pub settles_identity : {F : Type 0} (m : Meaning F) (now : ℕ) (job : Job) (n : NodeSeen) (answer : Result ℕ SettleFault) (k : NodeSeen) → Settles m now job n answer k → k.identity ≡ n.identity
-settles_identity m now job n answer k h = (settle_call m now n k job answer h).lasts.identity
-
-pub takes_identity : {F : Type 0} (m : Meaning F) (now : ℕ) (bytes : List ℕ) (n : NodeSeen) (answer : Result Taken TakeFault) (k : NodeSeen) → Takes m now bytes n answer k → k.identity ≡ n.identity
-takes_identity m now bytes n answer k h = (take_call m now n k bytes answer h).lasts.identity

@@ -282,7 +282,3 @@ kept_on_passages m id a b passage s on = kept m id a b passage s on
 pub acknowledged_on_passages : {F : Type 0} → AcknowledgedOnPassages F
 acknowledged_on_passages m id a b passage s on images choice p cause known =
     stands_at (environment m id) a.net a.world a.shows a.coherent s (kept_on_passages m id a b passage s on) images choice p cause known
-
--- what the disks are attached as outlives the work
-pub works_names : {F : Type 0} (m : Meaning F) (id : Identity) (commits : ℕ) (a b : Pair (environment m id)) → PairWorks m id commits a b → names_of b.net.nodes ≡ names_of a.net.nodes
-works_names m id commits a b work = names_stay m a.net.now commits a.net.nodes b.net.nodes a.net.waiting b.net.waiting work.works

@@ -1,10 +1,11 @@
-use Rattle.std.proofs.Common.{◌≡◌, inl, inr, ◌*◌, length, map, drop, refl, sym, ◌∙◌, ap, subst, arith, ℕ, List, Option}
+use Rattle.std.proofs.Common.{◌≡◌, inl, inr, length, map, drop, refl, sym, ◌∙◌, ap, subst, arith, ℕ, List, Option}
 use Rattle.std.specs.Prelude.{string_bytes, option_map, Some, None}
 use Rattle.net_model.specs.Environment.{meaning}
 use Rattle.shell_words.specs.Program.{network_of_words, dir_of_words}
 use Rattle.node_shell.specs.declared.statuses.Status.TheVariants as status
-use Rattle.node_shell.specs.Runs.{AllStay, StayIn, NamesDisks, IsPlayedNumber}
-use Rattle.node_shell.proofs.Readying.{stay_same, falls_same, stay_in_same}
+use Rattle.node_disks.specs.Pair.{pair_seen}
+use Rattle.node_shell.specs.Runs.{AllStay, SecondsStay, StayIn, NamesDisks, IsPlayedNumber}
+use Rattle.node_shell.proofs.Readying.{stay_same, seconds_same, falls_same, stay_in_same}
 use Rattle.node_shell.proofs.Opening.{asked_only, not_refused}
 use Rattle.node_shell.proofs.Unread.{still_story, still_went, still_seconds, still_played, not_played}
 use Rattle.node_shell.proofs.top.run.Goals as goal
@@ -53,7 +54,7 @@ returns-in-Some g c =
     let asked : network_of_words words ≡ Some k = c.in-Ok.ensures.network in
     let folder : dir_of_words words ≡ Some (string_bytes c.in-Some.dir) = c.in-Ok.ensures.dir ∙ ap (λ dir. option_map (λ s. string_bytes s) dir) c.in-Some.is in
     let e = c.run_in_folder.ensures in
-    let seen = g.B.Disk.seen in
+    let seen = pair_seen g.B.Disk.seen in
     let named : NamesDisks (dir_of_words words) k.nodes (map seen c.args.disks.items) (map seen c.run_in_folder.result.disks.items) c.run_in_folder.result.bytes_read c.run_in_folder.result.status =
     named_by (λ (f : Option (List ℕ)). NamesDisks f k.nodes (map seen c.args.disks.items) (map seen c.run_in_folder.result.disks.items) c.run_in_folder.result.bytes_read c.run_in_folder.result.status) (dir_of_words words) _ e.named (c.in-Ok.ensures.dir ∙ (rw c.in-Some.is refl)) in
     record {
@@ -128,7 +129,7 @@ returns-in-Err-Refused g c =
 pub returns-in-Err-Memory : goal.returns-in-Err-Memory
 returns-in-Err-Memory g c =
     let m = meaning g.F.FlowSet.machine g.F.Spelt.reading (g.J.Judge.judges c.args.contracts.now) in
-    let seen = g.B.Disk.seen in
+    let seen = pair_seen g.B.Disk.seen in
     let words = map (λ s. string_bytes s) c.args.words.now in
     let end = c.end_with-in-Err-Memory.ensures in
     let same = ap (λ v. v.items) end.1 in
@@ -138,6 +139,7 @@ returns-in-Err-Memory g c =
     let a0 = g.S.Source.faults c.args.source.now in
     let b0 = g.K.Sink.faults c.args.sink.now in
     let stay : AllStay olds (map seen c.end_with-in-Err-Memory.result.disks.items) = subst (λ l. AllStay olds (map seen l)) (sym same) (stay_same olds) in
+    let seconds : SecondsStay olds (map seen c.end_with-in-Err-Memory.result.disks.items) = subst (λ l. SecondsStay olds (map seen l)) (sym same) (seconds_same olds) in
     record {
       run = record {
         story = λ none n is. still_story m seen words _ _ left written a0 b0 _ _ n status.NoMemory tt end.0 end.2 stay;
@@ -149,7 +151,7 @@ returns-in-Err-Memory g c =
           bad_journal = λ h. let bad : 7 ≡ 8 = sym end.0 ∙ h in absurd cc;
           own = λ h. absurd (not_played 7 (inr refl) (subst IsPlayedNumber end.0 h));
         };
-        seconds = λ none n is. still_seconds m seen words _ _ left written a0 b0 _ _ n status.NoMemory tt end.0 end.2 stay;
+        seconds = λ none n is. still_seconds m seen words _ _ left written a0 b0 _ _ n status.NoMemory tt end.0 end.2 seconds;
         files = λ path some n is. record {
           ready = c.args.disks.items;
           none_falls = falls_same olds;
@@ -162,7 +164,7 @@ returns-in-Err-Memory g c =
         too_long = (λ h. let bad : 7 ≡ 3 = sym end.0 ∙ h in absurd cc, λ h. let bad : 0 ≡ 16777217 = sym end.2 ∙ h in absurd cc);
         few = omega (arith, end.2);
         disks = ap length same ∙ c.requires;
-        others = λ n is. ap (λ l. drop (2 * n.nodes) l) same;
+        others = λ n is. ap (λ l. drop n.nodes l) same;
         named = λ n is. inr (record { named = inr (ap (map seen) same); stay = subst (StayIn (dir_of_words words) olds) (ap (map seen) (sym same)) (stay_in_same (dir_of_words words) olds); none = end.2; status_is = inr end.0 });
         later = (omega arith, omega arith);
       };

@@ -1,8 +1,9 @@
-use Rattle.std.proofs.Common.{inl, inr, ◌*◌, length, map, drop, [], Some, sym, ◌∙◌, ap, subst}
+use Rattle.std.proofs.Common.{inl, inr, length, map, drop, [], Some, sym, ◌∙◌, ap, subst}
 use Rattle.std.specs.Prelude.{Err}
 use Rattle.node_shell.specs.declared.statuses.Status.{Status}
 use Rattle.net_model.specs.Environment.{meaning}
-use Rattle.node_shell.specs.Runs.{OneRises, NoneFalls, StopsNaming}
+use Rattle.node_disks.specs.Pair.{pair_seen}
+use Rattle.node_shell.specs.Runs.{SomeRises, NoneFalls, StopsNaming}
 use Rattle.node_shell.proofs.Readying.{kept_count, fails_rises, named_same}
 use Rattle.node_shell.proofs.Opening.{opening_number, is_disk_fault}
 use Rattle.node_shell.proofs.Unread.{still_ends, still_played}
@@ -12,7 +13,7 @@ use Rattle.node_shell.proofs.top.run_at_path.Goals as goal
 pub returns-in-Err : goal.returns-in-Err
 returns-in-Err g c =
     let m = meaning g.F.FlowSet.machine g.F.Spelt.reading (g.J.Judge.judges c.args.contracts.now) in
-    let seen = g.B.Disk.seen in
+    let seen = pair_seen g.B.Disk.seen in
     let n = c.args.network in
     let s = c.in-Err.status in
     let end = c.end_with.ensures in
@@ -31,15 +32,15 @@ returns-in-Err g c =
         ready = c.attach_all.new.disks.items;
         none_falls = a.none_falls;
         played = still_played m seen [] _ _ left written a0 b0 _ _ n s kind end.0 end.2 same;
-        disk_fault = λ six. subst (OneRises (2 * n.nodes) olds) there (c.in-Err.ensures.rose (ap (λ (x : Status). Err x) (is_disk_fault s (sym end.0 ∙ six))));
+        disk_fault = λ six. subst (SomeRises n.nodes olds) there (c.in-Err.ensures.rose (ap (λ (x : Status). Err x) (is_disk_fault s (sym end.0 ∙ six))));
       };
-      named = inr (record { named = inl (subst (StopsNaming (Some c.args.dir.now) (2 * n.nodes) olds) there c.in-Err.ensures.stopped); stay = falls; none = end.2; status_is = opening_number s _ kind end.0 });
-      ends = still_ends m seen [] _ _ left written a0 b0 _ _ n s kind end.0 end.2 (ap length same ∙ kept_count seen c.args.disks.items c.attach_all.new.disks.items a.none_falls ∙ c.requires.disks) (ap (λ l. drop (2 * n.nodes) l) same ∙ a.rest);
+      named = inr (record { named = inl (subst (StopsNaming (Some c.args.dir.now) n.nodes olds) there c.in-Err.ensures.stopped); stay = falls; none = end.2; status_is = opening_number s _ kind end.0 });
+      ends = still_ends m seen [] _ _ left written a0 b0 _ _ n s kind end.0 end.2 (ap length same ∙ kept_count seen c.args.disks.items c.attach_all.new.disks.items a.none_falls ∙ c.requires.disks) (ap (λ l. drop n.nodes l) same ∙ a.rest);
     }
 
 pub returns-in-Ok : goal.returns-in-Ok
 returns-in-Ok g c =
-    let seen = g.B.Disk.seen in
+    let seen = pair_seen g.B.Disk.seen in
     let n = c.args.network in
     let a = c.attach_all.ensures in
     let olds = map seen c.args.disks.items in
@@ -51,9 +52,9 @@ returns-in-Ok g c =
         ready = c.attach_all.new.disks.items;
         none_falls = a.none_falls;
         played = r.played;
-        disk_fault = λ six. fails_rises (2 * n.nodes) olds ready news a.none_falls (r.disk_fault six);
+        disk_fault = λ six. fails_rises n.nodes olds ready news a.none_falls (r.disk_fault six);
       };
-      named = inl (named_same (Some c.args.dir.now) (2 * n.nodes) olds ready news r.played.attached c.in-Ok.ensures.named);
+      named = inl (named_same (Some c.args.dir.now) n.nodes olds ready news r.played.attached c.in-Ok.ensures.named);
       ends = record {
         words = r.ends.words;
         too_long = r.ends.too_long;

@@ -1,0 +1,17 @@
+-- The disks that a run begins with.
+use Rattle.std.specs.Prelude.{◌≡◌, [], true, None}
+use Rattle.outside.specs.Disk.{DiskSeen, clean}
+use Rattle.node_disks.specs.declared.pair.NodeDisks.{NodeDisks}
+
+-- an empty disk holds nothing, is calm and without faults, and has power and no fuse
+pub record IsEmpty (d : DiskSeen) : Type 0 where
+  pub state : d.state ≡ record { kept = []; now = clean []; past = [] }
+  pub calm : d.calm ≡ true
+  pub power : d.power ≡ true
+  pub fuse : d.fuse ≡ None
+  pub faults : d.faults ≡ 0
+
+-- both disks of a node are empty
+pub record AreEmpty (disks : NodeDisks DiskSeen) : Type 0 where
+  pub first : IsEmpty disks.first
+  pub second : IsEmpty disks.second
