@@ -1,11 +1,11 @@
 -- What a network that is shown tells of its world.
-use Rattle.std.proofs.Common.{◌≡◌, ◌⊎◌, inl, inr, ℕ, zero, suc, Bool, true, false, List, [], ◌∷◌, ◌++◌, length, map, drop, Option, Some, None, refl, sym, ◌∙◌, ap, subst, arith, append_assoc}
+use Rattle.std.proofs.Common.{◌≡◌, ◌⊎◌, inl, inr, ℕ, zero, suc, Bool, true, false, List, [], ◌∷◌, ◌++◌, Bor, length, map, drop, Option, Some, None, refl, sym, ◌∙◌, ap, subst, arith, append_assoc}
 use Rattle.std.proofs.lemmas.Bool.Decides.{nat_tests}
 use Rattle.std.specs.Prelude.{IsTrue, IsSome, MatchOption, Result, Ok, Err, option_map, option_and_then, ◌<◌, nat_lt, slice_index_or}
 use Rattle.std.specs.List.{slice_get}
 use Rattle.std.specs.Option.{option_map_or}
 use Rattle.std.proofs.lemmas.Option.{same_Some}
-use Rattle.std.proofs.lemmas.List.{length-map}
+use Rattle.std.proofs.lemmas.List.{length-map, map-append}
 use Rattle.network_core.specs.declared.refusal.Refusal.{Refusal}
 use Rattle.network_core.specs.declared.refusal.Refusal.TheVariants as refusal
 use Rattle.net_base.specs.declared.causes.Cause.{Cause}
@@ -172,6 +172,15 @@ module _ {F : Type 0} (e : Environment F) (w : World) (coherent : Coherent e w) 
   pub history_printed : printed e (causes_in e w) of_history ≡ history_text (merged (causes_in e w))
   unfolding printed
   history_printed = ap (λ (net : Option (List (NodeState F))). print_of (merged (causes_in e w)) net of_history) net_is
+
+-- ---- lists that nodes lend
+
+-- the causes of each
+abbrev pub lent_lists : List (Bor (List Cause)) → List (List Cause)
+lent_lists lists = map (λ l. l.now) lists
+
+pub one_more_lent : (lists new : List (Bor (List Cause))) (one : Bor (List Cause)) (causes : List Cause) → new ≡ lists ++ one ∷ [] → one.now ≡ causes → lent_lists new ≡ lent_lists lists ++ causes ∷ []
+one_more_lent lists new one causes is same = ap lent_lists is ∙ map-append (λ l. l.now) lists (one ∷ []) ∙ ap (λ l. lent_lists lists ++ l ∷ []) same
 
 -- ---- the causes of all nodes
 
