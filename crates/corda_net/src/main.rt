@@ -4,12 +4,14 @@
 //! they are in memory.
 #![tactic(auto)]
 
-ghost use Rattle.std.specs.Prelude.{◌≡◌, ◌⊎◌, IfOk, length, map, string_bytes, All};
+ghost use Rattle.std.specs.Prelude.{◌≡◌, ℕ, List, IfOk, length, map, string_bytes, All};
 ghost use Rattle.std.specs.IoError.{error_kind};
 ghost use Rattle.std.specs.declared.io.ErrorKind.TheVariants.{OutOfMemory};
-ghost use Rattle.outside.specs.Faults.{Rose};
+ghost use Rattle.net_model.specs.Environment.{Judgement, meaning};
+ghost use Rattle.node_disks.specs.declared.pair.NodeDisks.{NodeDisks};
+ghost use Rattle.node_disks.specs.Pair.{pair_seen};
+ghost use Rattle.node_shell.specs.Runs.{IsRun};
 ghost use Rattle.corda_net.specs.Disks.{IsEmpty, AreEmpty};
-ghost use Rattle.shell_words.specs.Program.{network_of_words};
 
 use app_flows::AppFlow;
 use cash_contract::Cash;
@@ -93,7 +95,7 @@ fn tell<W: Write>(alloc: Global, told: Told, out: &mut W) -> u8 {
     }
 }
 
-/// Runs a script with these flows and the contracts that the program ships, and gives its status.
+/// Runs a script with these flows and the contracts that the program ships, and gives the status of that run.
 fn run_shipped<
     F: FlowSet + Send + Sync,
     R: Threads + Wait + Sync,
@@ -109,14 +111,17 @@ fn run_shipped<
     disks: Vec<NodeDisks<B>>,
 ) -> Result<u8, AllocError>
     requires { length disks.items ≡ 16 }
-    ensures words { IfOk result (λ status. status ≡ 2
-        → network_of_words (map (λ s. string_bytes s) words.now) ≡ None) }
-    ensures refused { IfOk result (λ status. network_of_words (map (λ s. string_bytes s) words.now)
-        ≡ None → (status ≡ 2) ⊎ (status ≡ 7)) }
-    ensures read_fault { IfOk result (λ status. status ≡ 4
-        → Rose (S.faults source.old) (S.faults source.new)) }
-    ensures write_fault { IfOk result (λ status. status ≡ 5
-        → Rose (K.faults sink.old) (K.faults sink.new)) }
+    ensures { IfOk result (λ status. (judge : Judgement) × (after : List (NodeDisks B)) × (count : ℕ)
+        × IsRun (meaning F.machine F.reading judge) (pair_seen B.seen) (record {
+          words = map (λ s. string_bytes s) words.now;
+          disks = record { old = disks.items; new = after };
+          left = record { old = S.left source.old; new = S.left source.new };
+          written = record { old = K.written sink.old; new = K.written sink.new };
+          source_faults = record { old = S.faults source.old; new = S.faults source.new };
+          sink_faults = record { old = K.faults sink.old; new = K.faults sink.new };
+          count = count;
+          status = status;
+        })) }
 {
     let mut contracts: Vec<BoxedContract> = Vec::new(alloc);
     contracts.push(Box::new(alloc, Cash)?)?;

@@ -1,13 +1,5 @@
+use Rattle.net_model.specs.Environment.{meaning}
 use Rattle.corda_net.proofs.run_shipped.Goals as goal
 
-pub returns-clause-words : goal.returns-clause-words
-returns-clause-words g c = c.run-ended.ensures.run.words
-
-pub returns-clause-read_fault : goal.returns-clause-read_fault
-returns-clause-read_fault g c = c.run-ended.ensures.run.causes.read_fault
-
-pub returns-clause-write_fault : goal.returns-clause-write_fault
-returns-clause-write_fault g c = c.run-ended.ensures.run.causes.write_fault
-
-pub returns-clause-refused : goal.returns-clause-refused
-returns-clause-refused g c = c.run-ended.ensures.run.refused
+pub returns : goal.returns
+returns g c = (_, c.run-ended.result.disks.items, c.run-ended.result.bytes_read, c.run-ended.ensures.run)
