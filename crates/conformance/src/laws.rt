@@ -21,8 +21,8 @@ use net_model::{
 };
 use network_core::{
     acknowledged_at_all_moments, acknowledged_stands_once, calls_are_ways, coherent_is_faithful,
-    drains_by_turns, kept_on_ways, new_disks_are_coherent, pairs_are_both, rounds_are_bounded,
-    ways_have_all_moments, ways_move_one_by_one,
+    drains_by_turns, kept_on_ways, left_is_coherent, new_disks_are_coherent, pairs_are_both,
+    rounds_are_bounded, ways_have_all_moments, ways_move_one_by_one,
 };
 use node_shell::{lines_are_passages, scripts_are_both, scripts_are_passages};
 use session_acts::{accepted_as_meant, sessions_are_sound};
@@ -78,6 +78,7 @@ fn of_the_network() {
     calls_are_ways::<ShippedFlow>();
     pairs_are_both::<ShippedFlow>();
     kept_on_ways::<ShippedFlow>();
+    left_is_coherent::<ShippedFlow>();
     acknowledged_at_all_moments::<ShippedFlow>();
     ways_have_all_moments::<ShippedFlow>();
     ways_move_one_by_one::<ShippedFlow>();

@@ -12,8 +12,7 @@ use Rattle.outside.proofs.Moments.{only}
 use Rattle.net_base.proofs.Lists.{get_beside, get_map, of_map, set_length}
 use Rattle.disk_journal.specs.Journal.{journal_of}
 use Rattle.net_model.specs.Environment.{Environment}
-use Rattle.net_model.specs.Runs.{IsFaithful}
-use Rattle.node_tables.specs.Journals.{records_of, causes_of}
+use Rattle.node_tables.specs.Journals.{causes_of}
 use Rattle.node_core.specs.Seen.{NodeSeen}
 use Rattle.network_core.specs.Worlds.{NodeWorld, World, NetSeen, MaySpell, Shows, Choice, Coherent}
 use Rattle.network_core.proofs.AgreeingPlace.{Adds}
@@ -21,7 +20,7 @@ use Rattle.network_core.proofs.AgreeingOnce.{goes_coherent}
 use Rattle.network_core.proofs.Faithful.{coherent_is_faithful}
 use Rattle.network_core.proofs.Placing.{set_apart, set_here}
 use Rattle.network_core.proofs.Standing.{causes_append}
-use Rattle.network_core.specs.Moments.{Instant, IsSince, now_of, IsBetween, IsChoice, IsKept}
+use Rattle.network_core.specs.Moments.{Instant, IsSince, now_of, IsBetween, IsChoice, MayBeSpelt, IsKept}
 use Rattle.network_core.proofs.KeepingNodes.{Fine, DiskGoes, unchanged}
 
 -- ---- moments of a disk
@@ -110,11 +109,11 @@ module _ {F : Type 0} (e : Environment F) (w : World) (old new : NetSeen) (shows
             (cases_eq q p));
       }
 
-      same_world : ((x : NodeWorld) (c : List ℕ) → slice_get w.nodes p ≡ Some x → slice_get images p ≡ Some c → MaySpell x (journal_of c)) → IsFaithful e (map (records_of e.frame_at) lists)
-      same_world here = (coherent_is_faithful e w lists coherent (choice_of w refl (λ q x other at. at) here)).0
+      same_world : ((x : NodeWorld) (c : List ℕ) → slice_get w.nodes p ≡ Some x → slice_get images p ≡ Some c → MaySpell x (journal_of c)) → MayBeSpelt e lists
+      same_world here = record { world = w; coherent = coherent; choice = choice_of w refl (λ q x other at. at) here }
 
-      faithful_at : (c : List ℕ) → slice_get images p ≡ Some c → IsFaithful e (map (records_of e.frame_at) lists)
-      faithful_at c there =
+      world_at : (c : List ℕ) → slice_get images p ≡ Some c → MayBeSpelt e lists
+      world_at c there =
           let a = at_image p c there in
           let n = a.0 in
           let x = get_beside old.nodes w.nodes p n (sym shows.count) a.2 in
@@ -135,20 +134,25 @@ module _ {F : Type 0} (e : Environment F) (w : World) (old new : NetSeen) (shows
             numbers = λ up. absurd (true≢false (sym up));
             acks = λ up. absurd (true≢false (sym up));
           }) in
-          (coherent_is_faithful e v lists after (choice_of v (set_length w.nodes p y) (λ q z other at. set_apart w.nodes p q y z other at) (λ z g at has.
-          let is : z ≡ y = set_here w.nodes p y z at in
-          let one : c ≡ g = same_Some _ _ (sym there ∙ has) in
-          subst (λ (b : NodeWorld). MaySpell b (journal_of g)) (sym is) (inl (ap journal_of (sym one)))))).0)
+          record {
+            world = v;
+            coherent = after;
+            choice = choice_of v (set_length w.nodes p y) (λ q z other at. set_apart w.nodes p q y z other at) (λ z g at has.
+                let is : z ≡ y = set_here w.nodes p y z at in
+                let one : c ≡ g = same_Some _ _ (sym there ∙ has) in
+                subst (λ (b : NodeWorld). MaySpell b (journal_of g)) (sym is) (inl (ap journal_of (sym one))));
+          })
           h.2
 
-      faithful_by : (o : Option (List ℕ)) → slice_get images p ≡ o → IsFaithful e (map (records_of e.frame_at) lists)
-      faithful_by None there = same_world (λ x c at has. absurd (none-some _ (sym there ∙ has)))
-      faithful_by (Some c) there = faithful_at c there
+      world_by : (o : Option (List ℕ)) → slice_get images p ≡ o → MayBeSpelt e lists
+      world_by None there = same_world (λ x c at has. absurd (none-some _ (sym there ∙ has)))
+      world_by (Some c) there = world_at c there
 
     pub kept_between : IsKept e old s
     kept_between = record {
       count = between.count;
-      faithful = λ images choice. faithful_by images choice (slice_get images p) refl;
+      faithful = λ images choice. let may = world_by images choice (slice_get images p) refl in (coherent_is_faithful e may.world (map journal_of images) may.coherent may.choice).0;
+      world = λ images choice. world_by images choice (slice_get images p) refl;
       begins = λ q n d c at has image.
           let h = fine q n d c at has image in
           ⊎_elim
@@ -158,4 +162,7 @@ module _ {F : Type 0} (e : Environment F) (w : World) (old new : NetSeen) (shows
       sound = λ q n d c at all has image.
           let k = after_at q n d at has in
           ((each_goes q n k.0 at k.1).sound all).each c (d, k.2, image);
+      young = λ q n d c at all has image.
+          let k = after_at q n d at has in
+          ((each_goes q n k.0 at k.1).young all).each c (d, k.2, image);
     }

@@ -14,7 +14,7 @@ use Rattle.session_frames.specs.declared.judged.Judged.{Judged}
 use Rattle.session_frames.specs.declared.judged.Judged.TheVariants as judged
 use Rattle.session_frames.specs.Items.{GoesFurther}
 use Rattle.session_frames.specs.Judging.{IsJudged}
-use Rattle.disk_journal.specs.Journal.{IsSound, WasSpelt, journal_of}
+use Rattle.disk_journal.specs.Journal.{IsSound, IsYoung, WasSpelt, journal_of}
 use Rattle.net_model.specs.Environment.{Environment, environment, identity, Meaning}
 use Rattle.net_model.specs.Runs.{accepts}
 use Rattle.node_core.specs.declared.faults.StartFault.{StartFault}
@@ -31,7 +31,7 @@ use Rattle.node_core.specs.declared.faults.Taken.TheVariants as taken
 use Rattle.node_core.specs.declared.faults.TakeFault.{TakeFault}
 use Rattle.node_core.specs.declared.faults.TakeFault.TheVariants as take_fault
 use Rattle.node_tables.specs.Journals.{state_of}
-use Rattle.node_core.specs.Disks.{Moves, KeepsForm, OldOrMore, OneOf}
+use Rattle.node_core.specs.Disks.{Moves, KeepsForm, KeepsImages, OldOrMore, OneOf}
 use Rattle.node_core.specs.Seen.{NodeSeen, Pends, Commits, Faults, StartsAs, StartAnswers, flow_count, TurnsAs, TurnAnswers, CutsAs, CutAnswers, BootsAs}
 use Rattle.node_core.specs.Takes.{AcceptsAs, Responds, TakesAs, TakeAnswers, accepting}
 use Rattle.network_core.specs.Worlds.{NodeWorld, World, ShowsJournal, NodeShows, Coherent}
@@ -58,11 +58,12 @@ module _ {F : Type 0} (e : Environment F) (w : World) (p : ℕ) (n : NodeSeen) w
   abbrev pub Fine : List ℕ → Type 0
   Fine c = (b : List ℕ) × IsImage n.disk.state.now b × ((journal_of c ≡ journal_of b) ⊎ Adds e w p (journal_of b) (journal_of c))
 
-  -- so at each moment since, and sound images stayed sound
+  -- so at each moment since; sound images stayed sound, and those that no opening refuses stayed so
   pub record DiskGoes (k : NodeSeen) : Type 0 where
     pub identity_is : k.identity ≡ n.identity
     pub images : EachImage n.disk.state k.disk.state Fine
     pub sound : ((c : List ℕ) → IsImage n.disk.state.now c → IsSound n.identity c) → EachImage n.disk.state k.disk.state (IsSound n.identity)
+    pub young : ((c : List ℕ) → IsImage n.disk.state.now c → IsYoung n.identity c) → EachImage n.disk.state k.disk.state (IsYoung n.identity)
 
   -- the disk rested
   pub rests : (k : NodeSeen) → k.identity ≡ n.identity → k.disk.state ≡ n.disk.state → DiskGoes k
@@ -70,6 +71,7 @@ module _ {F : Type 0} (e : Environment F) (w : World) (p : ℕ) (n : NodeSeen) w
     identity_is = id;
     images = subst (λ (z : DiskState). EachImage n.disk.state z Fine) (sym same) (started n.disk.state Fine (λ c image. (c, image, inl refl)));
     sound = λ all. subst (λ (z : DiskState). EachImage n.disk.state z (IsSound n.identity)) (sym same) (started n.disk.state (IsSound n.identity) all);
+    young = λ all. subst (λ (z : DiskState). EachImage n.disk.state z (IsYoung n.identity)) (sym same) (started n.disk.state (IsYoung n.identity) all);
   }
 
   pub unchanged : (k : NodeSeen) → k ≡ n → DiskGoes k
@@ -82,6 +84,7 @@ module _ {F : Type 0} (e : Environment F) (w : World) (p : ℕ) (n : NodeSeen) w
     identity_is = id;
     images = weaker n.disk.state k.disk.state (may n.disk.state) Fine (λ c h. let b = was c h in (b.0, b.1, inl b.2)) (moves.images tells);
     sound = λ all. form.sound tells all;
+    young = λ all. form.young tells all;
   }
 
 module _ {F : Type 0} (m : Meaning F) (id : Identity) (w : World) (p : ℕ) (n k : NodeSeen) (x : NodeWorld) (shows : NodeShows (environment m id) p n x) (coherent : Coherent (environment m id) w) (there : slice_get w.nodes p ≡ Some x) where
@@ -117,6 +120,7 @@ module _ {F : Type 0} (m : Meaning F) (id : Identity) (w : World) (p : ℕ) (n k
               (λ c may. ⊎_elim (λ is. (b, image, inl (is ∙ sym stands.1 ∙ sym was))) (λ is. (b, image, inr (adds (journal_of c) is))) may)
               (moves.images shows.tells);
           sound = λ all. form.sound shows.tells all;
+          young = λ all. form.young shows.tells all;
         }
 
     commits : (ev : Event) (item : Option Sent) → ((i : Sent) → item ≡ Some i → accepts ev ≡ true) → ((body : List ℕ) → Pends e p w.now x.journal ev item body → IsSenders e w p x x ev item) → Commits (environment m n.identity) w.now bodies ev item n k → Goes
@@ -218,10 +222,14 @@ module _ {F : Type 0} (m : Meaning F) (id : Identity) (w : World) (p : ℕ) (n k
   booted mid r id_is moves form =
       let same : mid.disk.state ≡ n.disk.state = ap (λ (v : DiskSeen). v.state) r.disk in
       let tells : mid.disk.tells ≡ true = ap (λ (v : DiskSeen). v.tells) r.disk ∙ shows.tells in
+      let over : (P : Identity → List ℕ → Type 0) → KeepsImages (P mid.identity) mid.disk k.disk → ((c : List ℕ) → IsImage n.disk.state.now c → P n.identity c) → EachImage n.disk.state k.disk.state (P n.identity) =
+          λ P keeps all. subst (λ (z : DiskState). EachImage z k.disk.state (P n.identity)) same (subst (λ (i : Identity). EachImage mid.disk.state k.disk.state (P i)) r.identity
+          (keeps tells (subst (λ (i : Identity). (c : List ℕ) → IsImage mid.disk.state.now c → P i c) (sym r.identity) (subst (λ (z : DiskState). (c : List ℕ) → IsImage z.now c → P n.identity c) (sym same) all)))) in
       record {
         identity_is = id_is ∙ r.identity;
         images = subst (λ (z : DiskState). EachImage z k.disk.state (Fine e w p n)) same (weaker mid.disk.state k.disk.state (WasSpelt mid.disk.state) (Fine e w p n) (λ c h. (h.0, subst (λ (z : DiskState). IsImage z.now h.0) same h.1, inl h.2)) (moves.images tells));
-        sound = λ all. subst (λ (z : DiskState). EachImage z k.disk.state (IsSound n.identity)) same (subst (λ (i : Identity). EachImage mid.disk.state k.disk.state (IsSound i)) r.identity (form.sound tells (subst (λ (i : Identity). (c : List ℕ) → IsImage mid.disk.state.now c → IsSound i c) (sym r.identity) (subst (λ (z : DiskState). (c : List ℕ) → IsImage z.now c → IsSound n.identity c) (sym same) all))));
+        sound = over IsSound form.sound;
+        young = over IsYoung form.young;
       }
 
   pub boot_goes : (mid : NodeSeen) {T : Type 0} (answer : Result T BootFault) → Restored n mid → BootsAs m.frame_at mid answer k → Goes

@@ -5,9 +5,10 @@ use Rattle.std.proofs.lemmas.Option.{same_Some}
 use Rattle.net_base.specs.declared.names.Identity.{Identity}
 use Rattle.net_base.specs.declared.causes.Cause.{Cause}
 use Rattle.net_base.proofs.Lists.{get_beside, get_map}
-use Rattle.disk_journal.specs.Journal.{IsSound, journal_of}
+use Rattle.disk_journal.specs.Journal.{IsSound, IsYoung, journal_of}
 use Rattle.net_model.specs.Environment.{Environment, environment, Meaning}
 use Rattle.node_tables.specs.Journals.{causes_of}
+use Rattle.node_core.specs.Disks.{IsOpenable}
 use Rattle.node_core.specs.Seen.{NodeSeen}
 use Rattle.network_core.specs.Worlds.{World, NetSeen, Shows, Coherent}
 use Rattle.network_core.specs.Answers.{answer_of}
@@ -29,6 +30,7 @@ module _ {F : Type 0} (e : Environment F) where
   then_kept a b s along kept = record {
     count = kept.count ∙ along.count;
     faithful = kept.faithful;
+    world = kept.world;
     begins = λ q n d c at has image.
         let k = get_beside a.nodes b.nodes q n (sym along.count) at in
         let second = kept.begins q k.0 d c k.1 has image in
@@ -39,6 +41,11 @@ module _ {F : Type 0} (e : Environment F) where
         let id : k.0.identity ≡ n.identity = along.same q n k.0 at k.1 in
         let now : AreSound k.0 = λ g on. subst (λ (i : Identity). IsSound i g) (sym id) (along.now.sound q n k.0.disk.state.now g at all (get_map (λ (z : NodeSeen). z.disk.state.now) b.nodes q k.0 k.1) on) in
         subst (λ (i : Identity). IsSound i c) id (kept.sound q k.0 d c k.1 now has image);
+    young = λ q n d c at all has image.
+        let k = get_beside a.nodes b.nodes q n (sym along.count) at in
+        let id : k.0.identity ≡ n.identity = along.same q n k.0 at k.1 in
+        let now : IsOpenable k.0.identity k.0.disk = λ g on. subst (λ (i : Identity). IsYoung i g) (sym id) (along.now.young q n k.0.disk.state.now g at all (get_map (λ (z : NodeSeen). z.disk.state.now) b.nodes q k.0 k.1) on) in
+        subst (λ (i : Identity). IsYoung i c) id (kept.young q k.0 d c k.1 now has image);
   }
 
   begin_along : (a : NetSeen) (w : World) → Shows e a w → Coherent e w → Along e a a

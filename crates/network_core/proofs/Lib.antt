@@ -47,4 +47,5 @@ pub mod KeepingWays
 pub mod KeepingCalls
 pub mod KeepingMoments
 pub mod KeepingCauses
+pub mod Leaving
 pub mod Naming

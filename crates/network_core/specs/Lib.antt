@@ -9,4 +9,5 @@ pub mod Begins
 pub mod Acknowledged
 pub mod Moments
 pub mod Ways
+pub mod Left
 pub mod Parts

@@ -1,14 +1,14 @@
 -- What power cuts may leave of all disks of a network at every moment of a call.
 use Rattle.std.specs.Prelude.{◌≡◌, ℕ, List, ◌∷◌, [], ◌++◌, length, map, drop, slice_get, Contains, Some}
 use Rattle.outside.specs.Disk.{DiskState, Durable, moment}
-use Rattle.disk_journal.specs.Journal.{IsSound}
+use Rattle.disk_journal.specs.Journal.{IsSound, IsYoung}
 use Rattle.net_base.specs.declared.causes.Cause.{Cause}
 use Rattle.net_model.specs.Environment.{Environment}
 use Rattle.net_model.specs.Runs.{IsFaithful}
 use Rattle.node_tables.specs.Journals.{records_of, causes_of}
-use Rattle.node_core.specs.Disks.{Image, MayLeave, IsSoundly, spelt}
+use Rattle.node_core.specs.Disks.{Image, MayLeave, IsSoundly, IsOpenable, spelt}
 use Rattle.node_core.specs.Seen.{NodeSeen}
-use Rattle.network_core.specs.Worlds.{NetSeen}
+use Rattle.network_core.specs.Worlds.{World, NetSeen, Choice, Coherent}
 
 -- ---- instants
 
@@ -51,10 +51,19 @@ Begins e n c = (b : Image) × MayLeave n.disk.state.now b × (rest : List Cause)
 abbrev pub AreSound : NodeSeen → Type 0
 AreSound n = IsSoundly n.identity n.disk
 
--- Whichever images power cuts leave at an instant, one of each disk, their journals are those of one run; the causes of each begin with those
--- that an image of its disk spelt in the old network; and where each of a node's images was sound there, each is.
+-- a coherent world may spell these journals, one of each node
+pub record MayBeSpelt {F : Type 0} (e : Environment F) (lists : List (List (List ℕ))) : Type 0 where
+  pub world : World
+  pub coherent : Coherent e world
+  pub choice : Choice world lists
+
+-- Whichever images power cuts leave at an instant, one of each disk, their journals are those of one run, and a coherent world may spell them; the causes
+-- of each begin with those that an image of its disk spelt in the old network; and where each of a node's images was sound there, each is, and where no
+-- opening of the node refused one, none does.
 pub record IsKept {F : Type 0} (e : Environment F) (old : NetSeen) (s : Instant) : Type 0 where
   pub count : length s ≡ length old.nodes
   pub faithful : (images : List Image) → IsChoice s images → IsFaithful e (map (records_of e.frame_at) (map spelt images))
+  pub world : (images : List Image) → IsChoice s images → MayBeSpelt e (map spelt images)
   pub begins : (q : ℕ) (n : NodeSeen) (d : Durable) (c : Image) → slice_get old.nodes q ≡ Some n → slice_get s q ≡ Some d → MayLeave d c → Begins e n c
   pub sound : (q : ℕ) (n : NodeSeen) (d : Durable) (c : Image) → slice_get old.nodes q ≡ Some n → AreSound n → slice_get s q ≡ Some d → MayLeave d c → IsSound n.identity c
+  pub young : (q : ℕ) (n : NodeSeen) (d : Durable) (c : Image) → slice_get old.nodes q ≡ Some n → IsOpenable n.identity n.disk → slice_get s q ≡ Some d → MayLeave d c → IsYoung n.identity c

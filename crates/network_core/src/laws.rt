@@ -1,6 +1,7 @@
 ghost use Rattle.network_core.specs.Acknowledged.{AcknowledgedStandsOnce};
 ghost use Rattle.network_core.specs.Begins.{NewDisksAreCoherent};
 ghost use Rattle.network_core.specs.Drains.{DrainsByTurns, RoundsAreBounded};
+ghost use Rattle.network_core.specs.Left.{LeftIsCoherent};
 ghost use Rattle.network_core.specs.Ways.{AcknowledgedAtAllMoments, CallsAreWays, KeptOnWays, PairsAreBoth, WaysHaveAllMoments, WaysMoveOneByOne};
 ghost use Rattle.network_core.specs.Worlds.{CoherentIsFaithful};
 
@@ -54,6 +55,13 @@ pub fn pairs_are_both<F>()
 /// and a node all of whose images were sound then has sound images, also while it is down.
 pub fn kept_on_ways<F>()
     ensures { KeptOnWays F }
+{}
+
+/// The law that a network begins again over what power cuts left of all disks at such a moment, an image of each: whichever they are, over
+/// disks that hold them a network whose nodes are down shows a coherent world, and no opening refuses one of them, where none refused one as
+/// the way began.
+pub fn left_is_coherent<F>()
+    ensures { LeftIsCoherent F }
 {}
 
 /// The law of every moment since a way began, whichever image power cuts leave of each disk: each cause that a node that was up had in its

@@ -18,8 +18,8 @@ mod steps;
 pub use begin::BeginRefused;
 pub use laws::{
     acknowledged_at_all_moments, acknowledged_stands_once, calls_are_ways, coherent_is_faithful,
-    drains_by_turns, kept_on_ways, new_disks_are_coherent, pairs_are_both, rounds_are_bounded,
-    ways_have_all_moments, ways_move_one_by_one,
+    drains_by_turns, kept_on_ways, left_is_coherent, new_disks_are_coherent, pairs_are_both,
+    rounds_are_bounded, ways_have_all_moments, ways_move_one_by_one,
 };
 pub use net::Net;
 pub use parts::NetParts;

@@ -16,6 +16,7 @@ use Rattle.network_core.specs.Drains.{Pair, with_world}
 use Rattle.network_core.specs.Following.{PairFollows}
 use Rattle.network_core.specs.Ways.{Way, stay}
 use Rattle.network_core.specs.Worlds.{World, NetSeen, Shows, Coherent}
+use Rattle.network_core.proofs.Leaving.{left_is_coherent}
 use Rattle.network_core.proofs.KeepingCalls.{calls_are_ways}
 use Rattle.work_law.specs.Passages.{Passage, goes, works, times_worked}
 use Rattle.work_law.proofs.Passing.{way_then, passage_then, times_then, kept_on_passages, acknowledged_on_passages}
@@ -382,7 +383,13 @@ module _ {F : Type 0} (m : Meaning F) (id : Identity) where
   short_passage a line b (inr (text, l)) = link_passage a line text b l
 
   leads_on : (most : ℕ) (a b : shown) → Few m id most a b → LeadsOn m id most a b
-  leads_on most a b one = record { passage = one.passage; few = one.few; kept = kept_on_passages m id a b one.passage; acknowledged = acknowledged_on_passages m id a b one.passage }
+  leads_on most a b one = record {
+    passage = one.passage;
+    few = one.few;
+    kept = kept_on_passages m id a b one.passage;
+    acknowledged = acknowledged_on_passages m id a b one.passage;
+    again = λ openable s on images choice disks hold. left_is_coherent m id a s images disks openable (kept_on_passages m id a b one.passage s on) choice hold;
+  }
 
   -- a line more
   one_more : (all earlier : List (List ℕ)) (line : List ℕ) → all ≡ earlier ++ line ∷ [] → (a c b : shown) → Few m id (work_asked_by earlier) a c → Few m id (work_asked (asked_by line)) c b → Few m id (work_asked_by all) a b

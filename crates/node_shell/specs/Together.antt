@@ -1,6 +1,7 @@
 -- Stories of networks together with the worlds that they show, and what a whole script comes by.
 use Rattle.std.proofs.Common.{inl, inr}
 use Rattle.std.specs.Prelude.{◌≡◌, ◌⊎◌, ℕ, ◌+◌, ◌≤◌, List, [], ◌∷◌, map, Option, Some, None, false}
+use Rattle.outside.specs.Disk.{DiskSeen}
 use Rattle.net_base.specs.declared.causes.Cause.{Cause}
 use Rattle.net_base.specs.declared.names.Identity.{Identity}
 use Rattle.net_model.specs.Environment.{Environment, environment, Meaning}
@@ -11,9 +12,10 @@ use Rattle.network_core.specs.declared.steps.Outcome.{Outcome}
 use Rattle.network_core.specs.declared.steps.Step.{Step}
 use Rattle.network_core.specs.Acknowledged.{Acknowledged, StandsOnce}
 use Rattle.network_core.specs.Drains.{Pair, with_world}
+use Rattle.network_core.specs.Left.{HoldImages, BeginsAgain}
 use Rattle.network_core.specs.Moments.{Instant, IsChoice, IsKept}
 use Rattle.network_core.specs.Following.{PairServes, PairFollows}
-use Rattle.network_core.specs.Worlds.{World, NetSeen, Shows, Coherent}
+use Rattle.network_core.specs.Worlds.{World, NetSeen, Shows, AreOpenable, Coherent}
 use Rattle.work_law.specs.Works.{WorldWorks}
 use Rattle.work_law.specs.Passages.{Passage, times_worked, IsPassed}
 use Rattle.flow_workers.specs.Ends.{WorkedOn, KeepsTails}
@@ -121,13 +123,15 @@ work_asked_by [] = 0
 work_asked_by (line ∷ lines) = work_asked (asked_by line) + work_asked_by lines
 
 -- From a network with its world there is a passage to another one, on which the nodes were worked on side by side this many times at most. At every moment on
--- its ways, whichever images power cuts leave of the disks, all is kept, and what was acknowledged as it began stands once in the merged journals.
+-- its ways, whichever images power cuts leave of the disks, all is kept, what was acknowledged as it began stands once in the merged journals, and a network
+-- begins again over disks that hold these images: its nodes show a coherent world, and no opening refuses one, where none did as the passage began.
 pub record LeadsOn {F : Type 0} (m : Meaning F) (id : Identity) (most : ℕ) (a b : Pair (environment m id)) : Type 0 where
   pub passage : Passage m id a b
   pub few : times_worked passage ≤ most
   pub kept : (s : Instant) → IsPassed passage s → IsKept (environment m id) a.net s
   pub acknowledged : (s : Instant) → IsPassed passage s → (images : List Image) → IsChoice s images → (p : ℕ) (cause : Cause)
       → Acknowledged (environment m id) a.world p cause → StandsOnce (p, cause) (merged (map (causes_of m.frame_at) (map spelt images)))
+  pub again : AreOpenable a.world → (s : Instant) → IsPassed passage s → (images : List Image) → IsChoice s images → (disks : List DiskSeen) → HoldImages disks images → BeginsAgain (environment m id) disks
 
 -- a passage leads through the whole script, and one to and one on from all that it comes by
 pub record IsOnePassage {F : Type 0} (m : Meaning F) (id : Identity) (most : ℕ) (a b : Pair (environment m id))

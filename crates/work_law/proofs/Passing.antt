@@ -8,9 +8,10 @@ use Rattle.net_base.specs.declared.names.Identity.{Identity}
 use Rattle.net_base.proofs.Lists.{get_beside, get_map, of_map}
 use Rattle.net_base.proofs.Options.{some_eq}
 use Rattle.wire_queue.specs.Wire.{Frame}
-use Rattle.disk_journal.specs.Journal.{IsSound, journal_of}
+use Rattle.disk_journal.specs.Journal.{IsSound, IsYoung, journal_of}
 use Rattle.net_model.specs.Environment.{Environment, environment, Meaning}
 use Rattle.node_tables.specs.Journals.{causes_of}
+use Rattle.node_core.specs.Disks.{IsOpenable}
 use Rattle.node_core.specs.Seen.{NodeSeen}
 use Rattle.network_core.specs.Worlds.{NodeWorld, World, MaySpell, AreOpenable, Choice, Coherent, NodeShows, ShowsJournal}
 use Rattle.network_core.specs.Acknowledged.{Reaches, here, by_step as reaches_step, by_part as reaches_part}
@@ -154,6 +155,9 @@ module _ {F : Type 0} (e : Environment F) (count p : ℕ) (n k : NodeSeen) (x : 
   work_begins : (c : List ℕ) → IsImage k.disk.state.now c → Begins e n c
   work_begins c image = begins_by n.journal refl c image
 
+  work_young : IsOpenable n.identity n.disk → (c : List ℕ) → IsImage k.disk.state.now c → IsYoung n.identity c
+  work_young all c image = at_now n.disk.state k.disk.state (IsYoung n.identity) (lasts.form.young shows.tells all) c image
+
   work_sound : AreSound n → (c : List ℕ) → IsImage k.disk.state.now c → IsSound n.identity c
   work_sound all c image = at_now n.disk.state k.disk.state (IsSound n.identity) (lasts.form.sound shows.tells all) c image
 
@@ -223,6 +227,7 @@ module _ {F : Type 0} (m : Meaning F) (id : Identity) where
   then_kept a b s first second = record {
     count = second.count ∙ same_count a b;
     faithful = second.faithful;
+    world = second.world;
     begins = λ q n d c at has image.
         let k = get_beside a.net.nodes b.net.nodes q n (sym (same_count a b)) at in
         let late = second.begins q k.0 d c k.1 has image in
@@ -233,6 +238,11 @@ module _ {F : Type 0} (m : Meaning F) (id : Identity) where
         let id_is : k.0.identity ≡ n.identity = same_identity a b q n k.0 at k.1 in
         let now : AreSound k.0 = λ g on. subst (λ (i : Identity). IsSound i g) (sym id_is) (first.sound q n k.0.disk.state.now g at all (now_there b q k.0 k.1) on) in
         subst (λ (i : Identity). IsSound i c) id_is (second.sound q k.0 d c k.1 now has image);
+    young = λ q n d c at all has image.
+        let k = get_beside a.net.nodes b.net.nodes q n (sym (same_count a b)) at in
+        let id_is : k.0.identity ≡ n.identity = same_identity a b q n k.0 at k.1 in
+        let now : IsOpenable k.0.identity k.0.disk = λ g on. subst (λ (i : Identity). IsYoung i g) (sym id_is) (first.young q n k.0.disk.state.now g at all (now_there b q k.0 k.1) on) in
+        subst (λ (i : Identity). IsYoung i c) id_is (second.young q k.0 d c k.1 now has image);
   }
 
   -- a node before the work, and its disk after it
@@ -256,12 +266,16 @@ module _ {F : Type 0} (m : Meaning F) (id : Identity) where
   works_kept commits a b work = record {
     count = length-map b.net.nodes (λ (z : NodeSeen). z.disk.state.now) ∙ same_count a b;
     faithful = (kept_on_ways m id b b (stay refl) (now_of b.net) refl).faithful;
+    world = (kept_on_ways m id b b (stay refl) (now_of b.net) refl).world;
     begins = λ q n d c at has image.
         let k = worked commits a b work q n d at has in
         work_begins e k.count q n k.last k.world k.shows k.lasts c (subst (λ (z : Durable). IsImage z c) (sym k.now) image);
     sound = λ q n d c at all has image.
         let k = worked commits a b work q n d at has in
         work_sound e k.count q n k.last k.world k.shows k.lasts all c (subst (λ (z : Durable). IsImage z c) (sym k.now) image);
+    young = λ q n d c at all has image.
+        let k = worked commits a b work q n d at has in
+        work_young e k.count q n k.last k.world k.shows k.lasts all c (subst (λ (z : Durable). IsImage z c) (sym k.now) image);
   }
 
   kept : (a b : Pair e) (passage : Passage m id a b) (s : Instant) → IsPassed passage s → IsKept e a.net s
