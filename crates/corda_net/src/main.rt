@@ -95,7 +95,8 @@ fn tell<W: Write>(alloc: Global, told: Told, out: &mut W) -> u8 {
     }
 }
 
-/// Runs a script with these flows and the contracts that the program ships, and gives the status of that run.
+/// Runs a script with these flows and the contracts that the program ships, and gives its status. Its clause is that of `run`, by some
+/// contracts: which ones the book holds it does not say.
 fn run_shipped<
     F: FlowSet + Send + Sync,
     R: Threads + Wait + Sync,

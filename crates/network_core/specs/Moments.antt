@@ -6,7 +6,7 @@ use Rattle.net_base.specs.declared.causes.Cause.{Cause}
 use Rattle.net_model.specs.Environment.{Environment}
 use Rattle.net_model.specs.Runs.{IsFaithful}
 use Rattle.node_tables.specs.Journals.{records_of, causes_of}
-use Rattle.node_core.specs.Disks.{Image, MayLeave, IsSoundly, IsOpenable, spelt}
+use Rattle.node_core.specs.Disks.{Image, MayLeave, LeavesSound, IsOpenable, spelt}
 use Rattle.node_core.specs.Seen.{NodeSeen}
 use Rattle.network_core.specs.Worlds.{World, NetSeen, Choice, Coherent}
 
@@ -49,7 +49,7 @@ Begins e n c = (b : Image) × MayLeave n.disk.state.now b × (rest : List Cause)
 
 -- every image of the node's disk is sound
 abbrev pub AreSound : NodeSeen → Type 0
-AreSound n = IsSoundly n.identity n.disk
+AreSound n = LeavesSound n.identity n.disk
 
 -- a coherent world may spell these journals, one of each node
 pub record MayBeSpelt {F : Type 0} (e : Environment F) (lists : List (List (List ℕ))) : Type 0 where

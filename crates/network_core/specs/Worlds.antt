@@ -13,7 +13,7 @@ use Rattle.net_model.specs.Environment.{Environment, environment, identity, Mean
 use Rattle.net_model.specs.State.{NodeState}
 use Rattle.net_model.specs.Runs.{IsLocal, IsMatched, IsFaithful, network_of, item_from}
 use Rattle.node_tables.specs.Journals.{records_of, state_of, causes_of}
-use Rattle.node_core.specs.Disks.{EachLeft, IsOpenable, kept_journal, spelt}
+use Rattle.node_core.specs.Disks.{EachNow, IsOpenable, kept_journal, spelt}
 use Rattle.node_core.specs.Seen.{NodeSeen}
 
 -- what contracts see of a network
@@ -63,7 +63,7 @@ ShowsJournal (Some bodies) x = (x.up ≡ true) × (x.journal ≡ bodies) × (x.o
 pub record NodeShows {F : Type 0} (e : Environment F) (p : ℕ) (n : NodeSeen) (x : NodeWorld) : Type 0 where
   pub identity_is : n.identity ≡ identity e p
   pub tells : n.disk.tells ≡ true
-  pub images : EachLeft n.disk (λ c. MaySpell x (spelt c))
+  pub images : EachNow n.disk (λ c. MaySpell x (spelt c))
   pub kept : kept_journal n.disk ≡ x.journal
   pub journal : ShowsJournal n.journal x
   pub counts : x.faults ≡ n.disk.faults

@@ -1,11 +1,11 @@
 -- What is on a node's disks, and what a call leaves of them.
-use Rattle.std.specs.Prelude.{◌≡◌, ◌⊎◌, ℕ, ◌≤◌, List, ◌∷◌, [], ◌++◌, map, Option, true, false, None}
+use Rattle.std.specs.Prelude.{◌≡◌, ◌⊎◌, ℕ, ◌≤◌, List, ◌∷◌, [], ◌++◌, map, true, false, None}
 use Rattle.outside.specs.Disk.{Attachment, Durable, DiskState, DiskSeen, IsImage, EachImage, IfTold, CutsPower, LeavesBy}
 use Rattle.net_base.specs.declared.names.Identity.{Identity}
 use Rattle.disk_journal.specs.Journal.{IsSound, IsYoung, journal_of}
 
--- ---- how all above a journal speaks of what is on a node's disks: what a power cut may leave of them, which journal that spells, and whether an opening
--- takes it
+-- ---- how all above a journal speaks of what is on a node's disks: what a power cut may leave of them, which journal that spells, and whether it is the
+-- node's own
 
 -- what a power cut leaves of a node's disks: the bytes of the one that the journal is on
 abbrev pub Image : Type 0
@@ -13,17 +13,17 @@ Image = List ℕ
 
 -- at this moment a power cut may leave this
 abbrev pub MayLeave : Durable → Image → Type 0
-MayLeave moment c = IsImage moment c
+MayLeave s c = IsImage s c
 
 -- the journal that an image spells, body by body
 abbrev pub spelt : Image → List (List ℕ)
 spelt c = journal_of c
 
 -- whatever a power cut leaves now is so
-abbrev pub EachLeft : DiskSeen → (Image → Type 0) → Type 0
-EachLeft disk P = (c : Image) → MayLeave disk.state.now c → P c
+abbrev pub EachNow : DiskSeen → (Image → Type 0) → Type 0
+EachNow disk P = (c : Image) → MayLeave disk.state.now c → P c
 
--- at every moment since, whatever a power cut might have left was so
+-- where the disks tell their content: at every moment since, whatever a power cut might have left was so
 abbrev pub EachSince : DiskSeen → DiskSeen → (DiskState → Image → Type 0) → Type 0
 EachSince old new P = IfTold old new (λ d e. EachImage d e (P d))
 
@@ -31,13 +31,13 @@ EachSince old new P = IfTold old new (λ d e. EachImage d e (P d))
 abbrev pub kept_journal : DiskSeen → List (List ℕ)
 kept_journal disk = spelt disk.state.kept
 
--- whatever a power cut leaves now is a sound journal of this node, or one that is not begun
-abbrev pub IsSoundly : Identity → DiskSeen → Type 0
-IsSoundly id disk = EachLeft disk (IsSound id)
+-- whatever a power cut leaves now is a sound journal of this node
+abbrev pub LeavesSound : Identity → DiskSeen → Type 0
+LeavesSound id disk = EachNow disk (IsSound id)
 
--- and no opening of the node refuses it
+-- whatever a power cut leaves now is such a journal, or one of the node's that is not begun: so an opening refuses it only for a record that does not fit
 abbrev pub IsOpenable : Identity → DiskSeen → Type 0
-IsOpenable id disk = EachLeft disk (IsYoung id)
+IsOpenable id disk = EachNow disk (IsYoung id)
 
 -- ---- what a call leaves
 
@@ -69,8 +69,8 @@ pub record KeepsForm (id : Identity) (old new : DiskSeen) : Type 0 where
 
 -- each image is sound and spells these bodies, and so does what is kept
 pub record Holds (id : Identity) (disk : DiskSeen) (bodies : List (List ℕ)) : Type 0 where
-  pub sound : disk.tells ≡ true → IsSoundly id disk
-  pub images : disk.tells ≡ true → EachLeft disk (λ c. spelt c ≡ bodies)
+  pub sound : disk.tells ≡ true → LeavesSound id disk
+  pub images : disk.tells ≡ true → EachNow disk (λ c. spelt c ≡ bodies)
   pub kept : disk.tells ≡ true → kept_journal disk ≡ bodies
 
 -- an image spells the old bodies, or these with one more

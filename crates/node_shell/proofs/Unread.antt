@@ -1,5 +1,5 @@
 -- A run in which nothing was read, since a disk was not made ready or there was no memory.
-use Rattle.std.proofs.Common.{◌≡◌, ◌⊎◌, inl, inr, ⊎_elim, ℕ, ◌+◌, ◌*◌, List, length, map, Option, sym, ap, subst, arith}
+use Rattle.std.proofs.Common.{◌≡◌, ◌⊎◌, inl, inr, ⊎_elim, ℕ, List, length, map, Option, sym, ap, subst, arith}
 use Rattle.std.specs.Prelude.{◌<◌}
 use Rattle.outside.specs.Disk.{DiskSeen}
 use Rattle.net_model.specs.Environment.{Meaning, party}

@@ -125,11 +125,11 @@ LeavesFewer w v = (p : ℕ) (x y : NodeWorld) (l : List (List ℕ)) → slice_ge
 abbrev pub KeepsJournals : World → World → Type 0
 KeepsJournals w v = (p : ℕ) (x y : NodeWorld) → slice_get w.nodes p ≡ Some x → slice_get v.nodes p ≡ Some y → y.journal ≡ x.journal
 
--- a node's first disk is as before but for its count of faults, which has not fallen, and what it is attached as
+-- a disk is as before but for its count of faults, which has not fallen, and what it is attached as; of one beside it nothing is said
 abbrev pub StaysBut : DiskSeen → DiskSeen → Type 0
 StaysBut old new = (new ≡ record old { faults = new.faults; attached = new.attached }) × (old.faults ≤ new.faults)
 
--- and so is its second one
+-- of the disk beside a node's first one: it is as before but for its count of faults, which has not fallen, and what it is attached as
 abbrev pub StaysBeside : Option DiskAlone → Option DiskAlone → Type 0
 StaysBeside None new = new ≡ None
 StaysBeside (Some old) None = ⊥
@@ -140,7 +140,7 @@ pub record AllStay (old new : List DiskSeen) : Type 0 where
   pub count : length new ≡ length old
   pub each : (p : ℕ) (d e : DiskSeen) → slice_get old p ≡ Some d → slice_get new p ≡ Some e → StaysBut d e
 
--- and so is each node's second one
+-- each node's second disk is so
 abbrev pub SecondsStay : List DiskSeen → List DiskSeen → Type 0
 SecondsStay old new = (p : ℕ) (d e : DiskSeen) → slice_get old p ≡ Some d → slice_get new p ≡ Some e → StaysBeside d.attached.beside e.attached.beside
 
@@ -166,10 +166,10 @@ HasFirstName folder node old new = (new.attached.own ≡ Some (own_name folder n
 abbrev pub KeepsNames : DiskSeen → DiskSeen → Type 0
 KeepsNames old new = (new.attached.own ≡ old.attached.own) × (name_beside new ≡ name_beside old)
 
--- both disks of each node before a place are attached under their own names, in this folder or in memory, and all others as they were before
-pub record AreNamed (folder : Option (List ℕ)) (place : ℕ) (old new : List DiskSeen) : Type 0 where
-  pub own : (p : ℕ) (e : DiskSeen) → p < place → slice_get new p ≡ Some e → HasNames folder p e
-  pub rest : (p : ℕ) (d e : DiskSeen) → place ≤ p → slice_get old p ≡ Some d → slice_get new p ≡ Some e → KeepsNames d e
+-- both disks of each of the first nodes are attached under their own names, in this folder or in memory, and all others as they were before
+pub record AreNamed (folder : Option (List ℕ)) (nodes : ℕ) (old new : List DiskSeen) : Type 0 where
+  pub own : (p : ℕ) (e : DiskSeen) → p < nodes → slice_get new p ≡ Some e → HasNames folder p e
+  pub rest : (p : ℕ) (d e : DiskSeen) → nodes ≤ p → slice_get old p ≡ Some d → slice_get new p ≡ Some e → KeepsNames d e
 
 -- of the nodes' disks, in order, those before some disk are attached under their own names, and no others
 pub record StopsNaming (folder : Option (List ℕ)) (nodes : ℕ) (old new : List DiskSeen) : Type 0 where
@@ -191,17 +191,17 @@ pub record StopsAttaching (folder : Option (List ℕ)) (nodes : ℕ) (old new : 
 abbrev pub NamesDisks : Option (List ℕ) → ℕ → List DiskSeen → List DiskSeen → ℕ → ℕ → Type 0
 NamesDisks folder nodes old new count number = AreNamed folder nodes old new ⊎ StopsAttaching folder nodes old new count number
 
--- the count of faults of a node's first disk rose, and the disk was not calm
+-- the count of faults of a disk rose, and the disk was not calm
 pub record Fails (old new : DiskSeen) : Type 0 where
   pub rose : Rose old.faults new.faults
   pub uneasy : old.calm ≡ true → ⊥
 
--- and so of its second one
+-- of the disk beside a node's first one: its count of faults rose, and it was not calm
 pub record FailsBeside (old new : DiskSeen) : Type 0 where
   pub rose : Rose (faults_beside old) (faults_beside new)
   pub uneasy : calm_beside old ≡ true → ⊥
 
--- of one of the first of these nodes it is so
+-- of one node, among as many of the first ones as this, what it has before and after is so
 pub record One (P : DiskSeen → DiskSeen → Type 0) (count : ℕ) (old new : List DiskSeen) : Type 0 where
   pub place : ℕ
   pub own : place < count
@@ -389,7 +389,7 @@ Ends r s = r.status ≡ number_of_status s
 abbrev pub views : {B : Type 0} → (B → DiskSeen) → Change (List B) → Change (List DiskSeen)
 views seen disks = record { old = map seen disks.old; new = map seen disks.new }
 
--- of these the nodes' own
+-- of these the disks of the run's nodes, which are the first ones
 abbrev pub of_nodes : ℕ → Change (List DiskSeen) → Change (List DiskSeen)
 of_nodes nodes disks = record { old = take nodes disks.old; new = take nodes disks.new }
 
@@ -471,7 +471,7 @@ pub record IsPlayed {F B : Type 0} (m : Meaning F) (seen : B → DiskSeen) (r : 
   pub bad_journal : Ends r status.BadJournal → ToldWhy m r (of_nodes n.nodes (views seen r.disks)) n
   pub own : IsPlayedNumber r.status → OpensOwn m (of_nodes n.nodes (views seen r.disks)) n
   pub seconds : KeepsSeconds (views seen r.disks) n
-  -- each is attached as it was
+  -- each is attached as it was, so that the disk beside it is as it was
   pub attached : attached_as (map seen r.disks.new) ≡ attached_as (map seen r.disks.old)
 
 -- How a run ends for which the words were taken: 3 is exactly a script that is too long, 4 and 5 come only where the source or the sink failed, the disks of 16 nodes come

@@ -11,7 +11,7 @@ pub fn take_first<D: Drop>(disks: &mut Vec<D>, own: &mut Vec<D>, nodes: usize)
     ensures whole { own.new.items ++ disks.new.items ≡ disks.old.items }
     ensures room { vec_capacity disks.new ≡ vec_capacity disks.old }
 {
-    'nodes: for node in 0..nodes {
+    'nodes: for _ in 0..nodes {
         own.push(disks.remove(0)).unwrap();
     }
 }

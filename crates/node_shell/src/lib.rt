@@ -1,6 +1,6 @@
 //! The shell that runs a script over a network of 1 to 16 nodes.
 //!
-//! The definitions that the contracts cite stand in `specs/`, in this order: `Replies`, `Loads`, `LedgerPrint`, `Lines`, `Responds`, `Story`, `Together`, `Names`, `Runs`; those of lines and
+//! The definitions that the contracts cite stand in `specs/`, in this order: `Names`, `LedgerPrint`, `Replies`, `Loads`, `Lines`, `Responds`, `Story`, `Together`, `Runs`; those of lines and
 //! words stand in `shell_words`, those of worlds, steps and ways in `network_core`.
 #![tactic(auto)]
 

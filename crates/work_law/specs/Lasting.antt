@@ -4,7 +4,7 @@ use Rattle.outside.specs.Disk.{DiskSeen, Burns, BurnsUpTo}
 use Rattle.outside.specs.Faults.{Rose}
 use Rattle.session_frames.specs.declared.sending.Outgoing.{Outgoing}
 use Rattle.net_model.specs.Environment.{Meaning}
-use Rattle.node_core.specs.Disks.{Image, EachLeft, EachSince, KeepsForm, spelt}
+use Rattle.node_core.specs.Disks.{Image, EachNow, EachSince, KeepsForm, spelt}
 use Rattle.node_core.specs.Seen.{NodeSeen}
 use Rattle.work_law.specs.Calls.{Went}
 use Rattle.work_law.specs.Works.{Grows}
@@ -17,7 +17,7 @@ pub record GoesOnBy (count : ℕ) (old new : List (List ℕ)) : Type 0 where
 
 -- while the node is up each image of its disk spells its journal; nothing is said of a disk that doesn't tell
 abbrev pub HoldsJournal : NodeSeen → Type 0
-HoldsJournal n = (bodies : List (List ℕ)) → n.journal ≡ Some bodies → n.disk.tells ≡ true → EachLeft n.disk (λ c. spelt c ≡ bodies)
+HoldsJournal n = (bodies : List (List ℕ)) → n.journal ≡ Some bodies → n.disk.tells ≡ true → EachNow n.disk (λ c. spelt c ≡ bodies)
 
 -- an image spells a journal on the way from one to another
 pub record SpellsBetween (first last : List (List ℕ)) (c : Image) : Type 0 where

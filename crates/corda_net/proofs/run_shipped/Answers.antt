@@ -1,4 +1,3 @@
-use Rattle.net_model.specs.Environment.{meaning}
 use Rattle.corda_net.proofs.run_shipped.Goals as goal
 
 pub returns : goal.returns

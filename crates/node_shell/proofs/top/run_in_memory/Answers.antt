@@ -4,7 +4,7 @@ use Rattle.node_shell.specs.declared.statuses.Status.{Status}
 use Rattle.net_model.specs.Environment.{meaning, party}
 use Rattle.net_base.proofs.Lists.{get_beside}
 use Rattle.node_disks.specs.Pair.{pair_seen}
-use Rattle.node_shell.specs.Runs.{AllStay, SecondsStay, StayIn, SomeFails, StopsNaming}
+use Rattle.node_shell.specs.Runs.{AllStay, StayIn, SomeFails, StopsNaming}
 use Rattle.node_shell.proofs.Readying.{first_stay, beside_then, kept_count, some_fails_since, named_same}
 use Rattle.node_shell.proofs.Opening.{runs_since, runs_anyhow_since, told_since, all_own_since, opening_number, is_disk_fault}
 use Rattle.node_shell.proofs.Unread.{still_ends, still_story, still_went, still_told, still_own, still_seconds}
