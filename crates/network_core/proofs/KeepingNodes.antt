@@ -223,8 +223,8 @@ module _ {F : Type 0} (m : Meaning F) (id : Identity) (w : World) (p : ℕ) (n k
       let same : mid.disk.state ≡ n.disk.state = ap (λ (v : DiskSeen). v.state) r.disk in
       let tells : mid.disk.tells ≡ true = ap (λ (v : DiskSeen). v.tells) r.disk ∙ shows.tells in
       let over : (P : Identity → List ℕ → Type 0) → KeepsImages (P mid.identity) mid.disk k.disk → ((c : List ℕ) → IsImage n.disk.state.now c → P n.identity c) → EachImage n.disk.state k.disk.state (P n.identity) =
-          λ P keeps all. subst (λ (z : DiskState). EachImage z k.disk.state (P n.identity)) same (subst (λ (i : Identity). EachImage mid.disk.state k.disk.state (P i)) r.identity
-          (keeps tells (subst (λ (i : Identity). (c : List ℕ) → IsImage mid.disk.state.now c → P i c) (sym r.identity) (subst (λ (z : DiskState). (c : List ℕ) → IsImage z.now c → P n.identity c) (sym same) all)))) in
+      λ P keeps all. subst (λ (z : DiskState). EachImage z k.disk.state (P n.identity)) same (subst (λ (i : Identity). EachImage mid.disk.state k.disk.state (P i)) r.identity
+      (keeps tells (subst (λ (i : Identity). (c : List ℕ) → IsImage mid.disk.state.now c → P i c) (sym r.identity) (subst (λ (z : DiskState). (c : List ℕ) → IsImage z.now c → P n.identity c) (sym same) all)))) in
       record {
         identity_is = id_is ∙ r.identity;
         images = subst (λ (z : DiskState). EachImage z k.disk.state (Fine e w p n)) same (weaker mid.disk.state k.disk.state (WasSpelt mid.disk.state) (Fine e w p n) (λ c h. (h.0, subst (λ (z : DiskState). IsImage z.now h.0) same h.1, inl h.2)) (moves.images tells));
