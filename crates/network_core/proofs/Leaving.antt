@@ -1,9 +1,9 @@
 -- Over what power cuts left of all disks at a moment a network shows a coherent world.
-use Rattle.std.proofs.Common.{◌≡◌, inl, inr, ℕ, false, true, List, [], length, map, Some, None, refl, sym, ◌∙◌, ap, subst}
-use Rattle.std.specs.List.{slice_get, AllByRecursion}
-use Rattle.std.proofs.lemmas.Bool.{true≢false}
+use Rattle.std.proofs.Common.{◌≡◌, inl, inr, ℕ, zero, suc, Bool, false, true, List, [], ◌∷◌, length, map, Some, None, refl, sym, ◌∙◌, ap, subst}
+use Rattle.std.specs.List.{slice_get, list_all, AllByRecursion}
+use Rattle.std.proofs.lemmas.Bool.{and_from, and_parts, true≢false}
 use Rattle.std.proofs.lemmas.List.{length-map}
-use Rattle.std.proofs.lemmas.Option.{none-some}
+use Rattle.std.proofs.lemmas.Option.{none-some, same_Some}
 use Rattle.outside.specs.Disk.{DiskSeen, Durable, IsImage}
 use Rattle.outside.proofs.Moments.{clean_image}
 use Rattle.net_base.specs.declared.names.Identity.{Identity}
@@ -19,28 +19,44 @@ use Rattle.network_core.specs.Moments.{Instant, IsChoice, MayBeSpelt, IsKept}
 use Rattle.network_core.specs.Left.{HoldImages, LeftIsCoherent}
 use Rattle.network_core.proofs.Beginning.{over_length, first_get}
 
+-- no opening refuses an image of any of these nodes
+abbrev all_open : List NodeWorld → Bool
+all_open xs = list_all (λ x. x.openable) xs
+
+each_open : (xs : List NodeWorld) → all_open xs ≡ true → (p : ℕ) (x : NodeWorld) → slice_get xs p ≡ Some x → x.openable ≡ true
+each_open [] all p x at = cc
+each_open (y ∷ xs) all zero x at = let is : y ≡ x = same_Some _ _ at in ap (λ (z : NodeWorld). z.openable) (sym is) ∙ (and_parts y.openable (all_open xs) all).0
+each_open (y ∷ xs) all (suc p) x at = each_open xs (and_parts y.openable (all_open xs) all).1 p x at
+
+open_each : (xs : List NodeWorld) → ((p : ℕ) (x : NodeWorld) → slice_get xs p ≡ Some x → x.openable ≡ true) → all_open xs ≡ true
+open_each [] each = refl
+open_each (y ∷ xs) each = and_from y.openable (all_open xs) (each 0 y refl) (open_each xs (λ p x at. each (suc p) x at))
+
 -- a node over a disk that a power cut left
-abbrev fallen : DiskSeen → NodeWorld
-fallen d = record { up = false; journal = kept_journal d; other = None; faults = d.faults; calm = d.calm; file = d.of_file; openable = true; acked = []; waiting = [] }
+abbrev fallen : Bool → DiskSeen → NodeWorld
+fallen opened d = record { up = false; journal = kept_journal d; other = None; faults = d.faults; calm = d.calm; file = d.of_file; openable = opened; acked = []; waiting = [] }
 
 -- its disk may spell one journal
-spells_one : (d : DiskSeen) (l : List (List ℕ)) → MaySpell (fallen d) l → l ≡ kept_journal d
-spells_one d l (inl same) = same
-spells_one d l (inr other) = absurd (none-some _ other)
+spells_one : (opened : Bool) (d : DiskSeen) (l : List (List ℕ)) → MaySpell (fallen opened d) l → l ≡ kept_journal d
+spells_one opened d l (inl same) = same
+spells_one opened d l (inr other) = absurd (none-some _ other)
 
-none_waits : (ds : List DiskSeen) → map (λ (x : NodeWorld). x.waiting) (map fallen ds) ≡ map (λ d. []) ds
-none_waits ds = map_twice (λ (x : NodeWorld). x.waiting) fallen (λ d. []) ds (λ d. refl)
+none_waits : (opened : Bool) (ds : List DiskSeen) → map (λ (x : NodeWorld). x.waiting) (map (fallen opened) ds) ≡ map (λ d. []) ds
+none_waits opened ds = map_twice (λ (x : NodeWorld). x.waiting) (fallen opened) (λ d. []) ds (λ d. refl)
 
 module _ {F : Type 0} (m : Meaning F) (id : Identity) (a : Pair (environment m id)) (s : Instant) (images : List Image) (disks : List DiskSeen)
-    (openable : AreOpenable a.world) (kept : IsKept (environment m id) a.net s) (choice : IsChoice s images) (hold : HoldImages disks images) where
+    (kept : IsKept (environment m id) a.net s) (choice : IsChoice s images) (hold : HoldImages disks images) where
   abbrev e : Environment F
   e = environment m id
+
+  abbrev opened : Bool
+  opened = all_open a.world.nodes
 
   may : MayBeSpelt e (map journal_of images)
   may = kept.world images choice
 
   abbrev w : World
-  w = record { nodes = map fallen disks; now = may.world.now }
+  w = record { nodes = map (fallen opened) disks; now = may.world.now }
 
   many : length disks ≡ e.nodes
   many = hold.count ∙ choice.count ∙ kept.count ∙ sym a.shows.count ∙ a.coherent.count
@@ -51,9 +67,9 @@ module _ {F : Type 0} (m : Meaning F) (id : Identity) (a : Pair (environment m i
   image_at : (p : ℕ) (d : DiskSeen) → slice_get disks p ≡ Some d → (c : Image) × (slice_get images p ≡ Some c)
   image_at p d at = get_beside disks images p d hold.count at
 
-  -- no opening refuses it
-  young_at : (p : ℕ) (c : Image) → slice_get images p ≡ Some c → IsYoung (member e.nodes e.notary p) c
-  young_at p c there =
+  -- no opening refuses it, where none refused one before
+  young_at : AreOpenable a.world → (p : ℕ) (c : Image) → slice_get images p ≡ Some c → IsYoung (member e.nodes e.notary p) c
+  young_at openable p c there =
       let d = get_beside images s p c choice.count there in
       let n = get_beside s a.net.nodes p d.0 kept.count d.1 in
       let x = get_beside a.net.nodes a.world.nodes p n.0 (sym a.shows.count) n.1 in
@@ -68,7 +84,7 @@ module _ {F : Type 0} (m : Meaning F) (id : Identity) (a : Pair (environment m i
       let y = get_beside (map journal_of images) may.world.nodes p (journal_of c.0) may.choice.count l in
       subst (Sound e p may.world.now) (ap journal_of (sym (hold.kept p d c.0 at c.1))) ((may.coherent.each p y.0 y.1).every (journal_of c.0) (may.choice.each p y.0 (journal_of c.0) y.1 l))
 
-  shown : (p : ℕ) (d : DiskSeen) → slice_get disks p ≡ Some d → NodeShows e p (node_over e.nodes e.notary p d) (fallen d)
+  shown : (p : ℕ) (d : DiskSeen) → slice_get disks p ≡ Some d → NodeShows e p (node_over e.nodes e.notary p d) (fallen opened d)
   shown p d at =
       let c = image_at p d at in
       let only : (g : List ℕ) → IsImage d.state.now g → g ≡ c.0 = λ g image. clean_image c.0 g (subst (λ (z : Durable). IsImage z g) (hold.settled p d c.0 at c.1) image) in
@@ -82,32 +98,32 @@ module _ {F : Type 0} (m : Meaning F) (id : Identity) (a : Pair (environment m i
         calm_is = refl;
         file_is = refl;
         acked_is = refl;
-        opens = λ on g image. subst (IsYoung (member e.nodes e.notary p)) (sym (only g image)) (young_at p c.0 c.1);
+        opens = λ on g image. subst (IsYoung (member e.nodes e.notary p)) (sym (only g image)) (young_at (each_open a.world.nodes on) p c.0 c.1);
       }
 
-  shown_at : (p : ℕ) (n : NodeSeen) (x : NodeWorld) → slice_get (nodes_over e.nodes e.notary 0 disks) p ≡ Some n → slice_get (map fallen disks) p ≡ Some x → NodeShows e p n x
+  shown_at : (p : ℕ) (n : NodeSeen) (x : NodeWorld) → slice_get (nodes_over e.nodes e.notary 0 disks) p ≡ Some n → slice_get (map (fallen opened) disks) p ≡ Some x → NodeShows e p n x
   shown_at p n x i j =
       let place = first_get e.nodes e.notary disks p n i in
-      let there = of_map fallen disks p x j in
+      let there = of_map (fallen opened) disks p x j in
       let one : there.0 ≡ place.0 = cc in
       subst (λ (z : NodeSeen). NodeShows e p z x) (sym place.2)
-      (subst (λ (z : NodeWorld). NodeShows e p (node_over e.nodes e.notary p place.0) z) (ap fallen (sym one) ∙ there.2) (shown p place.0 place.1))
+      (subst (λ (z : NodeWorld). NodeShows e p (node_over e.nodes e.notary p place.0) z) (ap (fallen opened) (sym one) ∙ there.2) (shown p place.0 place.1))
 
-  down_at : (p : ℕ) (x : NodeWorld) → slice_get (map fallen disks) p ≡ Some x → x.up ≡ false
-  down_at p x j = let there = of_map fallen disks p x j in ap (λ (z : NodeWorld). z.up) (sym there.2)
+  down_at : (p : ℕ) (x : NodeWorld) → slice_get (map (fallen opened) disks) p ≡ Some x → x.up ≡ false
+  down_at p x j = let there = of_map (fallen opened) disks p x j in ap (λ (z : NodeWorld). z.up) (sym there.2)
 
-  silent_at : (p : ℕ) (x : NodeWorld) → slice_get (map fallen disks) p ≡ Some x → x.waiting ≡ []
-  silent_at p x j = let there = of_map fallen disks p x j in ap (λ (z : NodeWorld). z.waiting) (sym there.2)
+  silent_at : (p : ℕ) (x : NodeWorld) → slice_get (map (fallen opened) disks) p ≡ Some x → x.waiting ≡ []
+  silent_at p x j = let there = of_map (fallen opened) disks p x j in ap (λ (z : NodeWorld). z.waiting) (sym there.2)
 
-  openable_at : (p : ℕ) (x : NodeWorld) → slice_get (map fallen disks) p ≡ Some x → x.openable ≡ true
-  openable_at p x j = let there = of_map fallen disks p x j in ap (λ (z : NodeWorld). z.openable) (sym there.2)
+  openable_at : (p : ℕ) (x : NodeWorld) → slice_get (map (fallen opened) disks) p ≡ Some x → x.openable ≡ opened
+  openable_at p x j = let there = of_map (fallen opened) disks p x j in ap (λ (z : NodeWorld). z.openable) (sym there.2)
 
-  spelt_at : (p : ℕ) (x : NodeWorld) (l : List (List ℕ)) → slice_get (map fallen disks) p ≡ Some x → MaySpell x l → (d : DiskSeen) × (slice_get disks p ≡ Some d) × (l ≡ kept_journal d)
+  spelt_at : (p : ℕ) (x : NodeWorld) (l : List (List ℕ)) → slice_get (map (fallen opened) disks) p ≡ Some x → MaySpell x l → (d : DiskSeen) × (slice_get disks p ≡ Some d) × (l ≡ kept_journal d)
   spelt_at p x l j spelt =
-      let there = of_map fallen disks p x j in
-      (there.0, there.1, spells_one there.0 l (subst (λ (z : NodeWorld). MaySpell z l) (sym there.2) spelt))
+      let there = of_map (fallen opened) disks p x j in
+      (there.0, there.1, spells_one opened there.0 l (subst (λ (z : NodeWorld). MaySpell z l) (sym there.2) spelt))
 
-  node_coherent : (p : ℕ) (x : NodeWorld) → slice_get (map fallen disks) p ≡ Some x → NodeCoherent e p may.world.now x
+  node_coherent : (p : ℕ) (x : NodeWorld) → slice_get (map (fallen opened) disks) p ≡ Some x → NodeCoherent e p may.world.now x
   node_coherent p x at = record {
     every = λ l spelt. let d = spelt_at p x l at spelt in subst (Sound e p may.world.now) (sym d.2) (sound_at p d.0 d.1);
     one = λ up. absurd (true≢false (sym up ∙ down_at p x at));
@@ -116,7 +132,7 @@ module _ {F : Type 0} (m : Meaning F) (id : Identity) (a : Pair (environment m i
   -- what these disks may spell, that world may
   over : (lists : List (List (List ℕ))) → Choice w lists → Choice may.world lists
   over lists chosen = record {
-    count = chosen.count ∙ length-map disks fallen ∙ hold.count ∙ sym (length-map images journal_of) ∙ may.choice.count;
+    count = chosen.count ∙ length-map disks (fallen opened) ∙ hold.count ∙ sym (length-map images journal_of) ∙ may.choice.count;
     each = λ p y l there has.
         let x = get_beside lists w.nodes p l chosen.count has in
         let d = spelt_at p x.0 l x.1 (chosen.each p x.0 l x.1 has) in
@@ -133,19 +149,19 @@ module _ {F : Type 0} (m : Meaning F) (id : Identity) (a : Pair (environment m i
   }
 
 pub left_is_coherent : {F : Type 0} → LeftIsCoherent F
-left_is_coherent m id a s images disks openable kept choice hold = (
-  w m id a s images disks openable kept choice hold,
+left_is_coherent m id a s images disks kept choice hold = (
+  w m id a s images disks kept choice hold,
   record {
-    count = length-map disks fallen ∙ sym (over_length id.nodes id.notary 0 disks);
-    each = shown_at m id a s images disks openable kept choice hold;
-    waiting = none_waits disks;
+    count = length-map disks (fallen (all_open a.world.nodes)) ∙ sym (over_length id.nodes id.notary 0 disks);
+    each = shown_at m id a s images disks kept choice hold;
+    waiting = none_waits (all_open a.world.nodes) disks;
     clock = refl;
   },
   record {
-    count = length-map disks fallen ∙ many m id a s images disks openable kept choice hold;
-    each = node_coherent m id a s images disks openable kept choice hold;
-    numbers = λ p x at up. absurd (true≢false (sym up ∙ down_at m id a s images disks openable kept choice hold p x at));
-    agrees = agrees m id a s images disks openable kept choice hold;
+    count = length-map disks (fallen (all_open a.world.nodes)) ∙ many m id a s images disks kept choice hold;
+    each = node_coherent m id a s images disks kept choice hold;
+    numbers = λ p x at up. absurd (true≢false (sym up ∙ down_at m id a s images disks kept choice hold p x at));
+    agrees = agrees m id a s images disks kept choice hold;
   },
-  openable_at m id a s images disks openable kept choice hold,
+  λ openable p x at. openable_at m id a s images disks kept choice hold p x at ∙ open_each a.world.nodes openable,
 )

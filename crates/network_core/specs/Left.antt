@@ -1,4 +1,4 @@
--- What power cuts left of a network's disks at a moment, as the disks of one that begins.
+-- What power cuts left of a network's disks at a moment, as the disks that a network begins over.
 use Rattle.std.specs.Prelude.{◌≡◌, ℕ, true, List, length, slice_get, Some}
 use Rattle.outside.specs.Disk.{DiskSeen, clean}
 use Rattle.net_base.specs.declared.names.Identity.{Identity}
@@ -16,11 +16,12 @@ pub record HoldImages (disks : List DiskSeen) (images : List Image) : Type 0 whe
   pub kept : (p : ℕ) (d : DiskSeen) (c : Image) → slice_get disks p ≡ Some d → slice_get images p ≡ Some c → d.state.kept ≡ c
   pub settled : (p : ℕ) (d : DiskSeen) (c : Image) → slice_get disks p ≡ Some d → slice_get images p ≡ Some c → d.state.now ≡ clean c
 
--- a network whose nodes are down over these disks shows a coherent world, and no opening refuses an image of them
-abbrev pub BeginsAgain : {F : Type 0} → Environment F → List DiskSeen → Type 0
-BeginsAgain e disks = (w : World) × Shows e (net_over e.nodes e.notary w.now disks) w × Coherent e w × AreOpenable w
+-- a network whose nodes are down over these disks shows a coherent world; and under a condition no opening refuses an image of them
+abbrev pub MayBegin : {F : Type 0} → Environment F → List DiskSeen → Type 0 → Type 0
+MayBegin e disks condition = (w : World) × Shows e (net_over e.nodes e.notary w.now disks) w × Coherent e w × (condition → AreOpenable w)
 
--- So it is over disks that hold what power cuts left, an image of each disk, at such a moment since a network of which no opening refused an image.
+-- So it is over disks that hold what power cuts left, an image of each disk, at a moment of which all is as `IsKept` says; no opening refuses one, where none
+-- refused an image of the network's disks before.
 abbrev pub LeftIsCoherent : (F : Type 0) → Type 0
 LeftIsCoherent F = (m : Meaning F) (id : Identity) (a : Pair (environment m id)) (s : Instant) (images : List Image) (disks : List DiskSeen)
-    → AreOpenable a.world → IsKept (environment m id) a.net s → IsChoice s images → HoldImages disks images → BeginsAgain (environment m id) disks
+    → IsKept (environment m id) a.net s → IsChoice s images → HoldImages disks images → MayBegin (environment m id) disks (AreOpenable a.world)

@@ -58,8 +58,8 @@ pub record MayBeSpelt {F : Type 0} (e : Environment F) (lists : List (List (List
   pub choice : Choice world lists
 
 -- Whichever images power cuts leave at an instant, one of each disk, their journals are those of one run, and a coherent world may spell them; the causes
--- of each begin with those that an image of its disk spelt in the old network; and where each of a node's images was sound there, each is, and where no
--- opening of the node refused one, none does.
+-- of each begin with those that an image of its disk spelt in the old network; and where each of a node's images was sound there, each is, and where each was
+-- the node's own, begun or not, each is so.
 pub record IsKept {F : Type 0} (e : Environment F) (old : NetSeen) (s : Instant) : Type 0 where
   pub count : length s ≡ length old.nodes
   pub faithful : (images : List Image) → IsChoice s images → IsFaithful e (map (records_of e.frame_at) (map spelt images))

@@ -57,9 +57,9 @@ pub fn kept_on_ways<F>()
     ensures { KeptOnWays F }
 {}
 
-/// The law that a network begins again over what power cuts left of all disks at such a moment, an image of each: whichever they are, over
-/// disks that hold them a network whose nodes are down shows a coherent world, and no opening refuses one of them, where none refused one as
-/// the way began.
+/// The law of every moment of which all is as `kept_on_ways` says, whichever image power cuts leave of each disk: over disks that hold these
+/// images, and tell it, a network whose nodes are down shows a coherent world; and no opening refuses one of them, where none refused an image
+/// as the way began.
 pub fn left_is_coherent<F>()
     ensures { LeftIsCoherent F }
 {}

@@ -388,7 +388,7 @@ module _ {F : Type 0} (m : Meaning F) (id : Identity) where
     few = one.few;
     kept = kept_on_passages m id a b one.passage;
     acknowledged = acknowledged_on_passages m id a b one.passage;
-    again = λ openable s on images choice disks hold. left_is_coherent m id a s images disks openable (kept_on_passages m id a b one.passage s on) choice hold;
+    again = λ s on images choice disks hold. left_is_coherent m id a s images disks (kept_on_passages m id a b one.passage s on) choice hold;
   }
 
   -- a line more

@@ -12,7 +12,7 @@ use Rattle.network_core.specs.declared.steps.Outcome.{Outcome}
 use Rattle.network_core.specs.declared.steps.Step.{Step}
 use Rattle.network_core.specs.Acknowledged.{Acknowledged, StandsOnce}
 use Rattle.network_core.specs.Drains.{Pair, with_world}
-use Rattle.network_core.specs.Left.{HoldImages, BeginsAgain}
+use Rattle.network_core.specs.Left.{HoldImages, MayBegin}
 use Rattle.network_core.specs.Moments.{Instant, IsChoice, IsKept}
 use Rattle.network_core.specs.Following.{PairServes, PairFollows}
 use Rattle.network_core.specs.Worlds.{World, NetSeen, Shows, AreOpenable, Coherent}
@@ -123,15 +123,16 @@ work_asked_by [] = 0
 work_asked_by (line ∷ lines) = work_asked (asked_by line) + work_asked_by lines
 
 -- From a network with its world there is a passage to another one, on which the nodes were worked on side by side this many times at most. At every moment on
--- its ways, whichever images power cuts leave of the disks, all is kept, what was acknowledged as it began stands once in the merged journals, and a network
--- begins again over disks that hold these images: its nodes show a coherent world, and no opening refuses one, where none did as the passage began.
+-- its ways, whichever images power cuts leave of the disks, all is kept, what was acknowledged as it began stands once in the merged journals, and a
+-- network whose nodes are down over disks that hold these images shows a coherent world; no opening refuses one, where none refused an image as the passage
+-- began.
 pub record LeadsOn {F : Type 0} (m : Meaning F) (id : Identity) (most : ℕ) (a b : Pair (environment m id)) : Type 0 where
   pub passage : Passage m id a b
   pub few : times_worked passage ≤ most
   pub kept : (s : Instant) → IsPassed passage s → IsKept (environment m id) a.net s
   pub acknowledged : (s : Instant) → IsPassed passage s → (images : List Image) → IsChoice s images → (p : ℕ) (cause : Cause)
       → Acknowledged (environment m id) a.world p cause → StandsOnce (p, cause) (merged (map (causes_of m.frame_at) (map spelt images)))
-  pub again : AreOpenable a.world → (s : Instant) → IsPassed passage s → (images : List Image) → IsChoice s images → (disks : List DiskSeen) → HoldImages disks images → BeginsAgain (environment m id) disks
+  pub again : (s : Instant) → IsPassed passage s → (images : List Image) → IsChoice s images → (disks : List DiskSeen) → HoldImages disks images → MayBegin (environment m id) disks (AreOpenable a.world)
 
 -- a passage leads through the whole script, and one to and one on from all that it comes by
 pub record IsOnePassage {F : Type 0} (m : Meaning F) (id : Identity) (most : ℕ) (a b : Pair (environment m id))
