@@ -5,7 +5,7 @@ use std::sync::atomic::{AtomicBool, AtomicU64, Ordering};
 use std::thread;
 
 /// How often the gate looks for commits, at most.
-const LOOKS: u32 = 100_000;
+const LOOKS: u32 = 10_000_000;
 
 /// How many commits it waits for. The first one may be told late, of a commit that was made before.
 const LATER: u64 = 2;
