@@ -112,7 +112,8 @@ fn run_shipped<
     disks: Vec<NodeDisks<B>>,
 ) -> Result<u8, AllocError>
     requires { length disks.items ≡ 16 }
-    ensures { IfOk result (λ status. (judge : Judgement) × (after : List (NodeDisks B)) × (count : ℕ)
+    ensures { IfOk result (λ status. (judge : Judgement)
+        × (after : List (NodeDisks B)) × (count : ℕ)
         × IsRun (meaning F.machine F.reading judge) (pair_seen B.seen) (record {
           words = map (λ s. string_bytes s) words.now;
           disks = record { old = disks.items; new = after };

@@ -40,7 +40,7 @@ use Rattle.flow_forms.specs.declared.calls.Call.TheVariants as call
 use Rattle.flow_forms.specs.declared.forms.At.TheVariants as stands
 use Rattle.flow_forms.specs.declared.forms.Goes.{Goes}
 use Rattle.flow_forms.specs.declared.forms.Goes.TheVariants.{On, Stops}
-use Rattle.flow_forms.specs.Calls.{IsCall, call_weight}
+use Rattle.flow_forms.specs.Calls.{IsCall}
 use Rattle.flow_forms.specs.Shared.{Keeps, same, fails_owes}
 use Rattle.flow_forms.specs.Sizes.{option_fits, list_fits, key_fits}
 use Rattle.flow_forms.specs.Usual.{Place, Resumed, Owes, IsForm, unnamed_owes, Numbers, places_of, IsAt, raised, tags_in, owes_if, joined_pass, parts_pass, Kept}
@@ -281,14 +281,6 @@ is_form = record {
 }
 
 -- ---- the frame of a call
-
--- it may cause what is said of the call
-pub call_weighs : (tx : Tx) (peers : List Party) → form.called (first tx peers) ≡ call_weight (call.Finality tx peers)
-call_weighs tx peers = omega arith
-
--- it has no tag
-pub call_bare : (tx : Tx) (peers : List Party) → form.tags (first tx peers) ≡ []
-call_bare tx peers = refl
 
 -- it is within its limits
 pub call_fits : (tx : Tx) (peers : List Party) → IsCall (call.Finality tx peers) → IsFinality (first tx peers)

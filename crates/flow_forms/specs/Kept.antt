@@ -1,21 +1,21 @@
 -- What frames keep: the limits of each field, its bytes, how these are read, and how many there are at most.
-use Rattle.std.specs.Prelude.{◌≡◌, ℕ, ◌+◌, ◌<◌, ◌≤◌, ◌^◌, nat_le, true, List, [], ◌∷◌, ◌++◌, length, Option, IfSome, Result}
+use Rattle.std.specs.Prelude.{◌≡◌, ℕ, ◌+◌, ◌<◌, ◌≤◌, ◌^◌, nat_le, true, List, [], ◌++◌, length, Option, IfSome, Result}
 use Rattle.std.specs.Int.{w16, w32, w64}
 use Rattle.std.proofs.Common.{arith}
 use Rattle.std.proofs.lemmas.Bool.{leb-true}
 use Rattle.net_base.specs.declared.names.Key.{Key}
 use Rattle.net_base.specs.declared.values.Party.{Party}
 use Rattle.net_base.specs.Reading.{number}
-use Rattle.net_base.specs.Forms.{byte_at, number_at, option_of, option_at}
+use Rattle.net_base.specs.Forms.{number_at, option_of, option_at}
 use Rattle.net_base.specs.Laws.{LawsIf}
 use Rattle.net_base.specs.Combining.{mapped_at, pair_at, pair_laws, iso_laws}
-use Rattle.net_base.specs.Fields.{byte_laws, u16_laws, u32_laws, u64_laws, option_laws}
+use Rattle.net_base.specs.Fields.{u16_laws, u32_laws, u64_laws, option_laws}
 use Rattle.net_base.specs.Values.{IsParty, party, party_at, party_laws}
 use Rattle.net_base.specs.Names.{IsKey, key, key_at, key_laws}
 use Rattle.ledger_types.proofs.Sizes.{joined}
 use Rattle.flow_forms.specs.Bytes.{under}
 use Rattle.flow_forms.specs.Sizes.{option_fits, key_fits}
-use Rattle.flow_forms.specs.Arguments.{few8, few16, few32, few64}
+use Rattle.flow_forms.specs.Arguments.{few16, few32, few64}
 
 -- A field. Where exact holds, a fault of reading is the first place where no spelling goes on.
 pub record Field (A : Type 0) : Type 1 where
@@ -37,10 +37,6 @@ pub record Kept (S : Type 0) : Type 1 where
   pub short : (s : S) → within s → length (spelling s) ≤ 32766
 
 -- ---- fields of a few bytes
-
--- a byte
-abbrev pub u8_field : Field ℕ
-u8_field = record { exact = Unit {0}; within = λ n. n < 256; spelling = λ n. n ∷ []; reading = byte_at; laws = byte_laws; most = 1; few = few8 }
 
 -- numbers of two, four and eight bytes
 abbrev pub u16_field : Field ℕ

@@ -8,12 +8,9 @@ use Rattle.net_base.specs.declared.names.Tag.{Tag}
 use Rattle.flow_machine.specs.declared.acts.Place.{Place}
 use Rattle.flow_machine.specs.declared.acts.Resumed.{Resumed}
 use Rattle.flow_forms.specs.declared.forms.Goes.{Goes}
-use Rattle.flow_forms.specs.declared.forms.Goes.TheVariants.{On, Stops}
-use Rattle.flow_machine.specs.declared.acts.Act.{Act}
-use Rattle.flow_machine.specs.Limits.{IsAct, IsResumed, IsPlace}
-use Rattle.flow_machine.specs.Tags.{act_tags, resumed_tags}
-use Rattle.flow_forms.specs.declared.calls.Call.{Call}
-use Rattle.flow_forms.specs.Calls.{IsCall, call_tags, price, is_asking}
+use Rattle.flow_forms.specs.declared.forms.Goes.TheVariants.{Stops}
+use Rattle.flow_machine.specs.Limits.{IsResumed, IsPlace}
+use Rattle.flow_machine.specs.Tags.{resumed_tags}
 use Rattle.flow_forms.specs.Forms.{Form, Owes}
 
 -- one more, up to an end
@@ -28,10 +25,6 @@ tags_in tags (Some a) = tags a
 -- the first of tags that pass a test passes it
 pub first_passes : (test : Tag → Bool) (t : Tag) (more : List Tag) → list_all test (t ∷ more) ≡ true → list_all test (t ∷ []) ≡ true
 first_passes test t more h = let p = (and_parts (test t) (list_all test more) h).0 in rw p refl
-
--- the rest of them pass it too
-pub rest_passes : (test : Tag → Bool) (t : Tag) (more : List Tag) → list_all test (t ∷ more) ≡ true → list_all test more ≡ true
-rest_passes test t more h = (and_parts (test t) (list_all test more) h).1
 
 -- one before the others
 pub both_pass : (test : Tag → Bool) (t : Tag) (more : List Tag) → list_all test (t ∷ []) ≡ true → list_all test more ≡ true → list_all test (t ∷ more) ≡ true
@@ -66,11 +59,6 @@ parts_pass test a b h = and_parts (list_all test a) (list_all test b) (sym (list
 -- both together
 pub joined_pass : (test : Tag → Bool) (a b : List Tag) → list_all test a ≡ true → list_all test b ≡ true → list_all test (a ++ b) ≡ true
 joined_pass test a b ha hb = list_all-append test a b ∙ (rw (ha, hb) refl)
-
--- what a frame owes that goes on with the same fields, or with fields of the same limits and tags
-pub on_owes : {P S : Type 0} (form : Form P S) (within : S → Type 0) (most : ℕ) (s t : S) (with : Resumed) (here : Place) (p : P) (a : Act Call) → (within s → IsResumed with → IsPlace here → within t × IsAct IsCall a)
-    → ((test : Tag → Bool) → list_all test (form.tags s) ≡ true → list_all test (resumed_tags with) ≡ true → (list_all test (form.tags t) ≡ true) × (list_all test (act_tags call_tags a) ≡ true)) → form.weight p t + price a ≤ most → is_asking a ≡ true → Owes form within most s with here (On p t a)
-on_owes form within most s t with here p a limits tags falls asks = record { limits = limits; tags = tags; falls = falls; asks = asks }
 
 -- another node of the network
 abbrev pub is_peer : ℕ → Place → Bool

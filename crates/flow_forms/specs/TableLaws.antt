@@ -7,15 +7,14 @@ use Rattle.flow_machine.specs.declared.flow_set.WordFault.{WordFault}
 use Rattle.flow_machine.specs.declared.flow_set.WordFault.TheVariants as word
 use Rattle.flow_machine.specs.declared.flow_set.MakeFault.{MakeFault}
 use Rattle.flow_machine.specs.declared.flow_set.MakeFault.TheVariants as make
-use Rattle.flow_machine.specs.Acts.{act_with}
 use Rattle.flow_forms.specs.declared.calls.Call.{Call}
 use Rattle.flow_forms.specs.declared.forms.Sum.{Sum}
 use Rattle.flow_forms.specs.declared.forms.Sum.TheVariants as of
-use Rattle.flow_forms.specs.Closing.{seen, made_by, begun_by, closed}
+use Rattle.flow_forms.specs.Closing.{made_by, begun_by}
 use Rattle.flow_forms.specs.Frames.{Frame}
 use Rattle.flow_forms.specs.Parts.{Part}
 use Rattle.flow_forms.specs.Sums.{sum, or_words, or_made, or_begun, made_right, begun_right, left, right}
-use Rattle.flow_forms.specs.Tables.{Row, row_part, FrameIn, no_part, table_part, moved, SameFlows, moved_in, SameSet}
+use Rattle.flow_forms.specs.Tables.{Row, row_part, FrameIn, no_part, table_part, moved, SameFlows}
 
 -- ---- the same flows, once more
 
@@ -251,50 +250,3 @@ take_both one two take_a take_b f = join_at one two (each take_a take_b f)
 pub both_tables : {A B : Type 0} {a : Part A} {b : Part B} (one two : List Row) (put_a : FrameIn one → A) (take_a : A → FrameIn one) (put_b : FrameIn two → B) (take_b : B → FrameIn two) → SameFlows put_a take_a a (table_part one) → SameFlows put_b take_b b (table_part two)
     → SameFlows (put_both one two put_a put_b) (take_both one two take_a take_b) (sum a b) (table_part (one ++ two))
 both_tables {A} {B} {a} {b} one two put_a take_a put_b take_b first second = through (each put_a put_b) (each take_a take_b) (part_at one two) (join_at one two) (sums put_a take_a put_b take_b first second) (behind one two)
-
--- ---- flow sets
-
--- an act whose called frame is seen as another
-act_called : {F G : Type 0} (see : Call → F) (calls : Call → G) (put : G → F) → ((c : Call) → see c ≡ put (calls c)) → (a : Act Call) → act_with see a ≡ act_with put (act_with calls a)
-act_called see calls put called (act.Sub c) = ap (λ f. act.Sub f) (called c)
-act_called see calls put called (act.Open to class first) = refl
-act_called see calls put called (act.Send k v) = refl
-act_called see calls put called (act.Receive k) = refl
-act_called see calls put called (act.ReceiveBy k until) = refl
-act_called see calls put called (act.Sleep until) = refl
-act_called see calls put called (act.Verify t) = refl
-act_called see calls put called (act.Reserve t amount) = refl
-act_called see calls put called (act.Lookup id) = refl
-act_called see calls put called (act.Missing t) = refl
-act_called see calls put called (act.Sign id) = refl
-act_called see calls put called (act.Notarise r) = refl
-act_called see calls put called (act.Record stx) = refl
-act_called see calls put called (act.Return v) = refl
-act_called see calls put called (act.Fail code) = refl
-
-seen_called : {F G : Type 0} (see : Call → F) (calls : Call → G) (put : G → F) → ((c : Call) → see c ≡ put (calls c)) → (g : G × Act Call) → seen see (moved put g) ≡ moved_in put (seen calls g)
-seen_called see calls put called g = λ i. (put g.0, act_called see calls put called g.1 i)
-
-made_called : {F G : Type 0} (see : Call → F) (calls : Call → G) (put : G → F) → ((c : Call) → see c ≡ put (calls c)) → (made : Result (G × Act Call) MakeFault) → made_by (seen see) (made_by (moved put) made) ≡ made_by (moved_in put) (made_by (seen calls) made)
-made_called see calls put called (Ok g) = λ i. Ok (seen_called see calls put called g i)
-made_called see calls put called (Err e) = refl
-
-begun_called : {F G : Type 0} (see : Call → F) (calls : Call → G) (put : G → F) → ((c : Call) → see c ≡ put (calls c)) → (begun : Option (G × Act Call)) → begun_by (seen see) (begun_by (moved put) begun) ≡ begun_by (moved_in put) (begun_by (seen calls) begun)
-begun_called see calls put called (Some g) = λ i. Some (seen_called see calls put called g i)
-begun_called see calls put called None = refl
-
--- a flow set means what that of a part with the same flows means, with the same frames of calls
-pub same_set : {F G : Type 0} {one : Part F} {two : Part G} (put : G → F) (take : F → G) (see : Call → F) (calls : Call → G) → SameFlows put take one two → ((c : Call) → see c ≡ put (calls c)) → SameSet put take (closed one see) (closed two calls)
-same_set {F} {G} {one} {two} put take see calls same called = record {
-  taken = same.taken;
-  back = same.back;
-  worded = same.worded;
-  made = λ class args here. ap (made_by (seen see)) (same.made class args here) ∙ made_called see calls put called (two.made class args here);
-  begun = λ class k here. ap (begun_by (seen see)) (same.begun class k here) ∙ begun_called see calls put called (two.begun class k here);
-  next = λ g with here. ap (seen see) (same.next g with here) ∙ seen_called see calls put called (two.next g with here);
-  content = same.content;
-  weight = same.weight;
-  over = same.over;
-  tags = same.tags;
-  load = λ class. refl;
-}

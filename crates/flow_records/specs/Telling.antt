@@ -1,16 +1,11 @@
 -- What is told by the parts of a record that were read.
-use Rattle.std.specs.Prelude.{◌≡◌, ℕ, ◌==◌, ◌&&◌, Bool, false, is_none, length, Option, Some, None, MatchOption}
-use Rattle.ledger_types.specs.declared.change.LedgerChange.{LedgerChange}
+use Rattle.std.specs.Prelude.{◌≡◌, ℕ, Bool, false, Option, Some, None, MatchOption}
 use Rattle.flow_machine.specs.declared.flows.FlowState.{FlowState}
 use Rattle.net_model.specs.State.{FlowPart}
 use Rattle.net_model.specs.Enabled.{part_of}
 use Rattle.net_model.specs.Sound.{IsNumbered}
 use Rattle.flow_records.specs.Records.{IsFlow}
 use Rattle.flow_records.specs.Alone.{is_flow}
-
--- whether nothing was recorded, locked or booked
-abbrev pub leaves_ledger_of : LedgerChange → Bool
-leaves_ledger_of c = is_none c.recorded && (length c.locked == 0 && is_none c.booked)
 
 -- whether there is a flow
 abbrev pub has_flow : {F : Type 0} → Option (FlowPart F) → Bool

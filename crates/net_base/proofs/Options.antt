@@ -28,13 +28,3 @@ cond_all P false x y p q = q
 pub given : {X E : Type 0} (test : Bool) (r : Result X E) (fault : E) (x : X) → (if test then r else Err fault) ≡ Ok x → (test ≡ true) × (r ≡ Ok x)
 given true r fault x e = (refl, e)
 given false r fault x e = absurd cc
-
--- what was given is the one value that the test lets through
-pub given_one : {X E : Type 0} (test : Bool) (x y : X) (fault : E) → (if test then Ok x else Err fault) ≡ Ok y → (test ≡ true) × (x ≡ y)
-given_one true x y fault e = (refl, cc)
-given_one false x y fault e = absurd cc
-
--- what holds of a result holds where it is given only under a test
-pub given_ok : {X E : Type 0} (P : X → Type 0) (test : Bool) (r : Result X E) (fault : E) → (test ≡ true → IfOk r P) → IfOk (if test then r else Err fault) P
-given_ok P true r fault h = h refl
-given_ok P false r fault h = tt

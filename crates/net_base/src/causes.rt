@@ -3,7 +3,7 @@
 ghost use Rattle.std.specs.Prelude.{◌≡◌};
 ghost use Rattle.net_base.specs.Order.{is_before};
 
-use crate::list::{ByteList, ListOf};
+use crate::list::ByteList;
 use crate::names::Key;
 use crate::values::{Moment, Party};
 
@@ -47,12 +47,6 @@ pub struct Cause {
     pub moment: Moment,
     pub event: Event,
 }
-
-/// The causes of one node, in order.
-pub type CauseList = ListOf<Cause>;
-
-/// Causes of several nodes, each with the number of its node, 0 to 15.
-pub type NodeCauseList = ListOf<(u8, Cause)>;
 
 impl Cause {
     /// Whether this cause of node `mine` comes before the other, a cause of node `theirs`: by stamp,

@@ -26,7 +26,7 @@ pub use ascending::{ByParty, read_ascending};
 pub use block::{Block, Component, write_component};
 pub use boxed::Boxed;
 pub use bytes16::{read_bytes16, write_bytes16};
-pub use causes::{Cause, CauseList, Event, NodeCauseList};
+pub use causes::{Cause, Event};
 pub use fault::{DecodeFault, PartFault};
 pub use known::{Unlimited, law_known_items};
 pub use list::{ByteList, ListOf, TryCopy};

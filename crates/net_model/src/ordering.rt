@@ -75,7 +75,8 @@ fn add_until<'a>(
     ensures place { IfOk result (λ place. place ≤ length causes.now) }
     ensures added { IfOk result (λ place. (rest : List (ℕ × OfCause))
         → lent all.new.items ++ (other, next.now) ∷ merged_with node (drop place causes.now) rest
-        ≡ lent all.old.items ++ merged_with node (drop from causes.now) ((other, next.now) ∷ rest)) }
+        ≡ lent all.old.items
+        ++ merged_with node (drop from causes.now) ((other, next.now) ∷ rest)) }
 {
     let mut place = from;
     while place < causes.len() {

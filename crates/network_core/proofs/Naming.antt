@@ -4,7 +4,7 @@ use Rattle.std.specs.List.{slice_get}
 use Rattle.std.proofs.lemmas.Bool.{cases_lt}
 use Rattle.std.proofs.lemmas.Option.{same_Some, slice_get_within, MatchOption-at_none, MatchOption-at_some}
 use Rattle.std.proofs.lemmas.List.{length-map}
-use Rattle.outside.specs.Disk.{Attachment, DiskSeen}
+use Rattle.outside.specs.Disk.{AttachedAs, DiskSeen}
 use Rattle.net_base.specs.declared.names.Key.{Key}
 use Rattle.net_base.specs.declared.values.Party.{Party}
 use Rattle.net_base.specs.declared.causes.Event.{Event}
@@ -43,11 +43,11 @@ use Rattle.network_core.proofs.Driving.{post_keeps}
 use Rattle.network_core.proofs.Mapping.{drains_go}
 
 -- what the disk of a node is attached as
-abbrev pub name_of : NodeSeen → Attachment
+abbrev pub name_of : NodeSeen → AttachedAs
 name_of n = n.disk.attached
 
 -- and those of all nodes
-abbrev pub names_of : List NodeSeen → List Attachment
+abbrev pub names_of : List NodeSeen → List AttachedAs
 names_of ns = map name_of ns
 
 -- ---- one node
@@ -161,7 +161,7 @@ module _ {F : Type 0} (m : Meaning F) (old new : NetSeen) where
   -- one node was set
   set_names : (p : ℕ) (n k : NodeSeen) → slice_get old.nodes p ≡ Some n → new.nodes ≡ slice_set old.nodes p k → name_of k ≡ name_of n → Names
   set_names p n k at nodes is =
-      ap names_of nodes ∙ map_set name_of old.nodes p k ∙ ap (λ (a : Attachment). slice_set (names_of old.nodes) p a) is ∙ set_own (names_of old.nodes) p (name_of n) (get_map name_of old.nodes p n at)
+      ap names_of nodes ∙ map_set name_of old.nodes p k ∙ ap (λ (a : AttachedAs). slice_set (names_of old.nodes) p a) is ∙ set_own (names_of old.nodes) p (name_of n) (get_map name_of old.nodes p n at)
 
   place_names : {E : Type 0} (p : ℕ) (r : Result Outcome E) (serves : NodeSeen → Result Outcome E → NodeSeen → Type 0) → ((n k : NodeSeen) → serves n r k → name_of k ≡ name_of n) → AtPlace p old r new serves → Names
   place_names p r serves one (inl (past, is, unchanged)) = same_net unchanged

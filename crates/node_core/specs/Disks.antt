@@ -1,6 +1,6 @@
 -- What is on a node's disks, and what a call leaves of them.
 use Rattle.std.specs.Prelude.{◌≡◌, ◌⊎◌, ℕ, ◌≤◌, List, ◌∷◌, [], ◌++◌, map, true, false, None}
-use Rattle.outside.specs.Disk.{Attachment, Durable, DiskState, DiskSeen, IsImage, EachImage, IfTold, CutsPower, LeavesBy}
+use Rattle.outside.specs.Disk.{AttachedAs, Durable, DiskState, DiskSeen, IsImage, EachImage, IfTold, CutsPower, LeavesBy}
 use Rattle.net_base.specs.declared.names.Identity.{Identity}
 use Rattle.disk_journal.specs.Journal.{IsSound, IsYoung, journal_of}
 
@@ -46,7 +46,7 @@ abbrev pub roomless : DiskSeen → DiskSeen
 roomless v = record v { room_end = 0; room_writes = 0 }
 
 -- what each of these disks is attached as
-abbrev pub attached_as : List DiskSeen → List Attachment
+abbrev pub attached_as : List DiskSeen → List AttachedAs
 attached_as disks = map (λ d. d.attached) disks
 
 -- at every moment since the call began each image is as said, and so is what is kept, and what the disk is attached as stays; nothing is said of the images of a disk that doesn't tell

@@ -4,7 +4,7 @@ use std::alloc::{AllocError, Global};
 /// The two disks of a node.
 ///
 /// Each call of [`Disk`] and of [`Bay`] goes to the first disk alone. Contracts see that one, and the second beside it
-/// (`Attachment`), so whatever says that a disk is attached as it was says that the second disk is as it was.
+/// (`AttachedAs`), so whatever says that a disk is attached as it was says that the second disk is as it was.
 #[derive(Drop)]
 pub struct NodeDisks<D: Disk> {
     /// The disk that the node's journal is on.

@@ -7,7 +7,7 @@ use Rattle.std.proofs.lemmas.Bool.{cases_lt}
 use Rattle.std.proofs.lemmas.Option.{same_Some}
 use Rattle.std.proofs.lemmas.List.{length-map}
 use Rattle.net_base.proofs.Lists.{get_there, get_other, map_set, set_length, get_beside, get_map, get_set, of_map}
-use Rattle.outside.specs.Disk.{Attachment, DiskAlone, DiskSeen}
+use Rattle.outside.specs.Disk.{AttachedAs, DiskAlone, DiskSeen}
 use Rattle.outside.specs.Faults.{Rose}
 use Rattle.node_core.specs.Disks.{attached_as}
 use Rattle.node_shell.specs.Names.{faults_beside}
@@ -184,7 +184,7 @@ stay_in_memory (Some path) ds es is falls = absurd cc
 -- ---- names
 
 pub same_names : (d e : DiskSeen) → e.attached ≡ d.attached → KeepsNames d e
-same_names d e same = (ap (λ (a : Attachment). a.own) same, ap (λ (a : Attachment). option_and_then (λ (s : DiskAlone). s.attached) a.beside) same)
+same_names d e same = (ap (λ (a : AttachedAs). a.own) same, ap (λ (a : AttachedAs). option_and_then (λ (s : DiskAlone). s.attached) a.beside) same)
 
 -- none is attached yet
 pub named_none : (folder : Option (List ℕ)) (ds : List DiskSeen) → AreNamed folder 0 ds ds

@@ -3,7 +3,7 @@ use Rattle.std.proofs.Common.{◌≡◌, inl, ℕ, ◌+◌, ◌++◌, List, leng
 use Rattle.std.specs.List.{slice_get}
 use Rattle.std.proofs.lemmas.Option.{same_Some}
 use Rattle.std.proofs.lemmas.List.{length-append, map-append}
-use Rattle.outside.specs.Disk.{Attachment, DiskSeen}
+use Rattle.outside.specs.Disk.{AttachedAs, DiskSeen}
 use Rattle.net_base.proofs.Lists.{get_map, map_both}
 use Rattle.node_core.specs.Disks.{attached_as}
 use Rattle.node_shell.specs.Runs.{OneFails, SomeFails, AllStay, StaysBeside}
@@ -34,7 +34,7 @@ module _ {X : Type 0} (seen : X → DiskSeen) (n : ℕ) (ready own rest back end
   pub last_behind : drop n ends ≡ drop n ready
   last_behind = behind seen back rest ends n (sym h.put) (h.same ∙ h.count) ∙ sym (behind seen own rest ready n h.taken h.count)
 
-  abbrev name : X → Attachment
+  abbrev name : X → AttachedAs
   name x = (seen x).attached
 
   -- each disk is attached as it was when all were made ready, and the one beside it is as it was, where this is so of those that were put back
@@ -50,7 +50,7 @@ module _ {X : Type 0} (seen : X → DiskSeen) (n : ℕ) (ready own rest back end
   last_second kept p d e at there =
       let named = λ (l : List DiskSeen) (x : DiskSeen) (is : slice_get l p ≡ Some x). get_map (λ (k : DiskSeen). k.attached) l p x is in
       let same : e.attached ≡ d.attached = same_Some _ _ (sym (named (map seen ends) e there) ∙ ap (λ l. slice_get l p) (last_attached kept) ∙ named (map seen ready) d at) in
-      beside_same d.attached.beside e.attached.beside (ap (λ (a : Attachment). a.beside) same)
+      beside_same d.attached.beside e.attached.beside (ap (λ (a : AttachedAs). a.beside) same)
 
   -- the disks of the nodes are those that were made ready
   pub own_stay : AllStay (take n (map seen ready)) (map seen own)

@@ -98,16 +98,18 @@ fn run_ready<
 ) -> Ended<B>
     requires within { IsNetwork network }
     requires disks { length disks.items ≡ 16 }
-    ensures { RanReady (meaning F.machine F.reading (J.judges contracts.now)) (pair_seen B.seen) (record {
-      words = [];
-      disks = record { old = disks.items; new = result.disks.items };
-      left = record { old = S.left source.old; new = S.left source.new };
-      written = record { old = K.written sink.old; new = K.written sink.new };
-      source_faults = record { old = S.faults source.old; new = S.faults source.new };
-      sink_faults = record { old = K.faults sink.old; new = K.faults sink.new };
-      count = result.bytes_read;
-      status = result.status;
-    }) network }
+    ensures { RanReady (meaning F.machine F.reading (J.judges contracts.now))
+        (pair_seen B.seen)
+        (record {
+          words = [];
+          disks = record { old = disks.items; new = result.disks.items };
+          left = record { old = S.left source.old; new = S.left source.new };
+          written = record { old = K.written sink.old; new = K.written sink.new };
+          source_faults = record { old = S.faults source.old; new = S.faults source.new };
+          sink_faults = record { old = K.faults sink.old; new = K.faults sink.new };
+          count = result.bytes_read;
+          status = result.status;
+        }) network }
 {
     let mut disks = disks;
     let nodes = network.nodes as usize;
@@ -143,16 +145,18 @@ fn run_in_memory<
 ) -> Ended<B>
     requires within { IsNetwork network }
     requires disks { length disks.items ≡ 16 }
-    ensures { RanInMemory (meaning F.machine F.reading (J.judges contracts.now)) (pair_seen B.seen) (record {
-      words = [];
-      disks = record { old = disks.items; new = result.disks.items };
-      left = record { old = S.left source.old; new = S.left source.new };
-      written = record { old = K.written sink.old; new = K.written sink.new };
-      source_faults = record { old = S.faults source.old; new = S.faults source.new };
-      sink_faults = record { old = K.faults sink.old; new = K.faults sink.new };
-      count = result.bytes_read;
-      status = result.status;
-    }) network }
+    ensures { RanInMemory (meaning F.machine F.reading (J.judges contracts.now))
+        (pair_seen B.seen)
+        (record {
+          words = [];
+          disks = record { old = disks.items; new = result.disks.items };
+          left = record { old = S.left source.old; new = S.left source.new };
+          written = record { old = K.written sink.old; new = K.written sink.new };
+          source_faults = record { old = S.faults source.old; new = S.faults source.new };
+          sink_faults = record { old = K.faults sink.old; new = K.faults sink.new };
+          count = result.bytes_read;
+          status = result.status;
+        }) network }
 {
     let mut disks = disks;
     match attach_all(alloc, None, &mut disks, network.nodes as usize) {
@@ -185,7 +189,8 @@ fn run_at_path<
 ) -> Ended<B>
     requires within { IsNetwork network }
     requires disks { length disks.items ≡ 16 }
-    ensures { RanInFolder (meaning F.machine F.reading (J.judges contracts.now)) (pair_seen B.seen) dir.now
+    ensures { RanInFolder (meaning F.machine F.reading (J.judges contracts.now))
+        (pair_seen B.seen) dir.now
         (record {
           words = [];
           disks = record { old = disks.items; new = result.disks.items };
@@ -293,16 +298,18 @@ pub fn run<
     gate: &G,
 ) -> Ended<B>
     requires { length disks.items ≡ 16 }
-    ensures run { IsRun (meaning F.machine F.reading (J.judges contracts.now)) (pair_seen B.seen) (record {
-      words = map (λ s. string_bytes s) words.now;
-      disks = record { old = disks.items; new = result.disks.items };
-      left = record { old = S.left source.old; new = S.left source.new };
-      written = record { old = K.written sink.old; new = K.written sink.new };
-      source_faults = record { old = S.faults source.old; new = S.faults source.new };
-      sink_faults = record { old = K.faults sink.old; new = K.faults sink.new };
-      count = result.bytes_read;
-      status = result.status;
-    }) }
+    ensures run { IsRun (meaning F.machine F.reading (J.judges contracts.now))
+        (pair_seen B.seen)
+        (record {
+          words = map (λ s. string_bytes s) words.now;
+          disks = record { old = disks.items; new = result.disks.items };
+          left = record { old = S.left source.old; new = S.left source.new };
+          written = record { old = K.written sink.old; new = K.written sink.new };
+          source_faults = record { old = S.faults source.old; new = S.faults source.new };
+          sink_faults = record { old = K.faults sink.old; new = K.faults sink.new };
+          count = result.bytes_read;
+          status = result.status;
+        }) }
 {
     match program_words(alloc, words) {
         Ok(asked) => {

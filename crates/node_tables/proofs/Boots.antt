@@ -1,7 +1,7 @@
 -- How the tables are rebuilt from the bodies of a journal.
 use Rattle.std.proofs.Common.{◌≡◌, ℕ, suc, ◌+◌, ◌<◌, ◌≤◌, List, [], ◌∷◌, ◌++◌, length, map, Option, Some, None, Err, true, false, cond, refl, sym, ◌∙◌, ap, subst, arith, append_assoc, length-append}
 use Rattle.std.specs.Prelude.{⊤}
-use Rattle.std.proofs.lemmas.List.{append-nil, length-map}
+use Rattle.std.proofs.lemmas.List.{length-map}
 use Rattle.net_base.specs.declared.values.Party.{Party}
 use Rattle.net_model.specs.State.{NodeState, Record, replay}
 use Rattle.flow_records.specs.Records.{record_of}
@@ -62,7 +62,3 @@ fits_taken {F} notary nodes me s o r is h = subst (λ (x : Option (Record F)). f
 pub refused : {F : Type 0} (f : Reads F) (notary : Party) (nodes : ℕ) (me : Party) (all : List (ℕ × List ℕ)) (built new : List (List ℕ)) (left rest : List (ℕ × List ℕ)) (at : ℕ) (body : List ℕ) (why : RebuildFault) → Rebuilding f notary nodes me all built left → left ≡ (at, body) ∷ rest → TakesAs f notary nodes me built at body {T = ⊤} (Err why) new → RebuildsAs f notary nodes me all (Err why)
 refused f notary nodes me all built new left rest at body (rebuild_fault.Damaged place) so_far next h = misfit_here f notary nodes me all built left so_far rest (at, body) next h.0 ∙ ap (λ n. Some n) (sym h.1)
 refused f notary nodes me all built new left rest at body rebuild_fault.Memory so_far next h = tt
-
-pub rebuilt : {F : Type 0} (f : Reads F) (notary : Party) (nodes : ℕ) (me : Party) (all : List (ℕ × List ℕ)) (built : List (List ℕ)) (left : List (ℕ × List ℕ)) → Rebuilding f notary nodes me all built left → length left ≡ 0 → (built ≡ bodies_in all) × (misfit f notary nodes me all ≡ None)
-rebuilt f notary nodes me all built [] so_far none = (sym (append-nil built) ∙ so_far.all_of, so_far.place)
-rebuilt f notary nodes me all built (x ∷ xs) so_far none = absurd (omega (arith, none))

@@ -1,8 +1,7 @@
 -- The ledger of a node's tables, and the state that its records make.
-use Rattle.std.proofs.Common.{◌≡◌, ◌+◌, ◌<◌, ◌≤◌, ◌^◌, ℕ, Bool, true, false, not, ◌&&◌, List, [], ◌++◌, length, Option, Some, None, option_to_list, unwrap_or, refl, sym, ◌∙◌, ap, arith}
+use Rattle.std.proofs.Common.{◌≡◌, ◌+◌, ℕ, Bool, true, false, not, ◌&&◌, List, [], ◌++◌, Option, Some, None, option_to_list, unwrap_or, refl, sym, ◌∙◌, ap}
 use Rattle.std.specs.List.{list_all}
 use Rattle.std.specs.Prelude.{IfSome}
-use Rattle.std.proofs.lemmas.List.{length-map}
 use Rattle.net_base.specs.declared.values.Hash32.{Hash32}
 use Rattle.net_base.specs.declared.values.Party.{Party}
 use Rattle.ledger_types.specs.declared.tx.SignedTx.{SignedTx}
@@ -10,7 +9,6 @@ use Rattle.ledger_types.specs.declared.held.Held.{Held}
 use Rattle.ledger_types.specs.declared.notary.Entry.{Entry}
 use Rattle.ledger_types.specs.declared.change.LedgerChange.{LedgerChange}
 use Rattle.ledger_types.specs.Names.{ref_eq, has_repeat}
-use Rattle.ledger_types.specs.Signatures.{tx_id}
 use Rattle.ledger_types.specs.Stores.{may_record, untagged}
 use Rattle.ledger_types.specs.Vaults.{vault_of, has_coin}
 use Rattle.ledger_tables.specs.Ledgers.{Ledger, may_apply, may_lock, may_book}
@@ -70,9 +68,3 @@ is_by (Some after) change own h = record { owner = h.1.0 ∙ sym (ap (λ (o : Op
 pub holds_none : {F : Type 0} (f : Reads F) (me : Party) (l : Ledger) → HoldsLedger me (record { stored = []; locked = []; entries = [] }) l → HoldsLedger me (ledger_in (state_of f [])) l
 unfolding state_of replay
 holds_none f me l h = h
-
--- few transactions are recorded
-pub few_recorded : {F : Type 0} (me : Party) (s : NodeState F) (l : Ledger) (n : ℕ) → HoldsLedger me (ledger_in s) l → length s.stored ≤ n → n ≤ 65536 → length l.store.list + 1 < 2 ^ 32
-few_recorded me s l n h few small =
-    let same : length l.store.list ≡ length s.stored = ap length h.store ∙ length-map s.stored (λ (x : SignedTx). (tx_id x.tx, x)) in
-    omega (arith, same, few, small)

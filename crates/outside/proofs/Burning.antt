@@ -7,10 +7,6 @@ none_burns : (n : ℕ) → burnt_by n None ≡ None
 none_burns zero = refl
 none_burns (suc n) = none_burns n
 
-none_blows : (n : ℕ) → blows_within n None ≡ false
-none_blows zero = refl
-none_blows (suc n) = none_blows n
-
 -- a fuse that ended is armed no more
 blown : (fuse : Option (ℕ × ℕ)) → blows fuse ≡ true → burnt fuse ≡ None
 blown None is = refl

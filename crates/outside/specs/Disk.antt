@@ -154,12 +154,12 @@ pub record DiskAlone : Type 0 where
   pub room_writes : ℕ
 
 -- what a disk was attached as last, none before that; and of the first of two disks the second one, which stands beside it
-pub record Attachment : Type 0 where
+pub record AttachedAs : Type 0 where
   pub own : Option Attached
   pub beside : Option DiskAlone
 
 -- of a disk that has none beside it
-abbrev pub by_itself : Option Attached → Attachment
+abbrev pub by_itself : Option Attached → AttachedAs
 by_itself own = record { own = own; beside = None }
 
 -- a disk as contracts see it, and what stands beside it
@@ -175,7 +175,7 @@ pub record DiskSeen : Type 0 where
   pub fuse : Option (ℕ × ℕ)
   pub of_file : Bool
   -- what it was attached as, and the disk beside it
-  pub attached : Attachment
+  pub attached : AttachedAs
   -- this number of writes that end at or below this place have room
   pub room_end : ℕ
   pub room_writes : ℕ

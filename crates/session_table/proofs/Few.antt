@@ -1,8 +1,6 @@
 -- How many sessions there are after a change, and that small numbers are within their range.
-use Rattle.std.proofs.Common.{◌≡◌, ℕ, ◌+◌, ◌≤◌, ◌<◌, ◌^◌, Bool, true, false, List, [], ◌∷◌, ◌++◌, Option, Some, None, refl, ◌∙◌, cond, length, arith, nat_lt, length-append}
-use Rattle.std.proofs.lemmas.Bool.{and_parts, and_from, ltb-true, lt-ltb}
+use Rattle.std.proofs.Common.{◌≡◌, ℕ, ◌+◌, ◌≤◌, Bool, true, false, List, [], ◌∷◌, ◌++◌, Option, Some, None, refl, ◌∙◌, cond, length, arith, length-append}
 use Rattle.std.proofs.lemmas.List.{length-map}
-use Rattle.std.specs.List.{list_all}
 use Rattle.net_base.specs.declared.names.Key.{Key}
 use Rattle.net_base.specs.declared.values.Party.{Party}
 use Rattle.session_wire.specs.declared.body.Body.{Body}
@@ -45,11 +43,3 @@ few_after stamp change list =
     let third = sent_count stamp change.sent begun in
     let fourth = taken_count change.taken (sent_on stamp change.sent begun) in
     omega (arith, first, second, third, fourth)
-
--- numbers below a thousand have a next one
-pub small_seqs : (items : List SentItem) → list_all (λ item. nat_lt item.seq 1000) items ≡ true → list_all (λ item. nat_lt (item.seq + 1) (2 ^ 32)) items ≡ true
-small_seqs [] all = refl
-small_seqs (x ∷ xs) all =
-    let both = and_parts (nat_lt x.seq 1000) (list_all (λ item. nat_lt item.seq 1000) xs) all in
-    let less : x.seq < 1000 = ltb-true x.seq 1000 both.0 in
-    and_from _ _ (lt-ltb (x.seq + 1) (2 ^ 32) (omega (arith, less))) (small_seqs xs both.1)

@@ -1,5 +1,4 @@
 pub mod Few
-pub mod First
 pub mod Fitting
 pub mod Found
 pub mod Gathering
