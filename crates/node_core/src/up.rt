@@ -170,7 +170,13 @@ impl<D: Disk, F: Spelt + Drop> Up<D, F> {
     pub fn into_disk(self) -> D
         ensures { D.seen result ≡ self.journal.disk }
     {
-        let Up { journal, .. } = self;
+        let Up {
+            journal,
+            tables,
+            idle,
+        } = self;
+        drop(tables);
+        drop(idle);
         journal.into_disk()
     }
 

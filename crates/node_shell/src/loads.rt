@@ -1,11 +1,13 @@
 //! A made load of payments: each node but the notary issues cash, and then pays another, as a seed says.
 
 ghost use Rattle.net_model.specs.Environment.{meaning};
-ghost use Rattle.std.specs.Prelude.{◌≡◌, ◌<◌, ◌≤◌, ◌++◌, IfOk, OnOk, OnErr, length, map, is_some, string_bytes, true, false};
+ghost use Rattle.std.specs.Prelude.{◌≡◌, ◌<◌, ◌≤◌, ◌++◌, IfOk, OnOk, OnErr, length, map, is_some, option_map, string_bytes, true, false};
 ghost use Rattle.std.specs.Option.{option_map_or};
 ghost use Rattle.std.specs.List.{AllByRecursion, flat_map, list_all};
 ghost use Rattle.ledger_types.specs.Vaults.{IsHeld};
+ghost use Rattle.checkpoints.specs.Views.{state_of};
 ghost use Rattle.node_core.specs.Seen.{NodeSeen};
+ghost use Rattle.node_shell.specs.Lines.{ended_by, is_ended};
 ghost use Rattle.node_shell.specs.Replies.{is_end};
 ghost use Rattle.node_shell.specs.Loads.{Breaks, IsMade, Loads, Pays, PaysShort, all_but, deal_of, deals_of, issue_by, issues_by, load_text, pay_by, started, start_by, then_drain};
 ghost use Rattle.node_shell.specs.Responds.{ended_seen, given, held_of, net_states};
@@ -122,16 +124,30 @@ fn start_and_drain<B: Bay, F: FlowSet, J: Judge>(
     }
 }
 
-/// Whether a flow of a node that is up has ended without failure.
+/// Whether a flow that was looked up has ended without failure.
+fn is_ended<F>(flow: Option<FlowView<'_, F>>) -> bool
+    ensures { result ≡ is_ended (option_map state_of flow.entry) }
+{
+    matches!(flow, Some(FlowView::Ended { .. }))
+}
+
+/// Whether a flow of a node has, where the node is up.
+fn ended_at<B: Bay, F: FlowSet>(node: &Node<B, F>, flow: u32) -> bool
+    ensures { result ≡ option_map_or (ended_by F.reading flow) node.now.journal false }
+{
+    match node.flows() {
+        None => false,
+        Some(flows) => is_ended(flows.get(flow)),
+    }
+}
+
+/// Whether a flow of the node at a place has, where there is one that is up.
 fn has_ended<B: Bay, F: FlowSet>(net: &Net<B, F>, place: u8, flow: u32) -> bool
     ensures { result ≡ ended_seen F.reading place flow net.entry.now }
 {
     match net.nodes().get(place as usize) {
         None => false,
-        Some(node) => match node.flows() {
-            None => false,
-            Some(flows) => matches!(flows.get(flow), Some(FlowView::Ended { .. })),
-        },
+        Some(node) => ended_at(node, flow),
     }
 }
 

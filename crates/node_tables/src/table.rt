@@ -416,13 +416,19 @@ fn with_id<F: Spelt + Drop>(alloc: Global, step: Step<F>) -> Result<Step<F>, All
         session,
         ledger,
     } = step;
-    let ledger = ledger.with_id(alloc)?;
-    Ok(Step {
-        cause,
-        flow,
-        session,
-        ledger,
-    })
+    match ledger.with_id(alloc) {
+        Ok(ledger) => Ok(Step {
+            cause,
+            flow,
+            session,
+            ledger,
+        }),
+        Err(fault) => {
+            drop(flow);
+            drop(session);
+            Err(fault)
+        }
+    }
 }
 
 /// Whether nothing was recorded, locked or booked.
