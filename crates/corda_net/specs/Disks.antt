@@ -3,8 +3,9 @@ use Rattle.std.specs.Prelude.{◌≡◌, [], true, None}
 use Rattle.outside.specs.Disk.{DiskSeen, clean}
 use Rattle.node_disks.specs.declared.pair.NodeDisks.{NodeDisks}
 
--- an empty disk holds nothing, is calm and without faults, and has power and no fuse
+-- an empty disk tells what it holds, which is nothing, is calm and without faults, and has power and no fuse
 pub record IsEmpty (d : DiskSeen) : Type 0 where
+  pub tells : d.tells ≡ true
   pub state : d.state ≡ record { kept = []; now = clean []; past = [] }
   pub calm : d.calm ≡ true
   pub power : d.power ≡ true

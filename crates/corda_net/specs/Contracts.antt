@@ -1,0 +1,24 @@
+-- The contracts that the program ships.
+use Rattle.std.specs.Prelude.{ℕ, [], ◌∷◌, Option}
+use Rattle.ledger_types.specs.declared.tx.Tx.{Tx}
+use Rattle.ledger_types.specs.declared.tx.Resolved.{Resolved}
+use Rattle.ledger_types.specs.Verdicts.{told_by, verdict_of}
+use Rattle.net_model.specs.Environment.{Judgement}
+use Rattle.cash_contract.specs.Clauses.{cash_says}
+use Rattle.small_contracts.specs.Locks.{locks_say}
+use Rattle.small_contracts.specs.Facts.{facts_say}
+use Rattle.small_contracts.specs.Ious.{ious_say}
+
+-- a contract: its number, and the clause by which it refuses a transaction with its states, if it does
+pub record Contract : Type 0 where
+  pub number : ℕ
+  pub says : Tx → Resolved → Option ℕ
+
+-- those of cash, time locks, facts and Ious, as the book holds them
+unfoldable pub shipped : Judgement
+shipped = verdict_of (told_by {C = Contract} (λ c. c.number) (λ c. c.says)
+    (record { number = 1; says = cash_says }
+    ∷ record { number = 2; says = locks_say }
+    ∷ record { number = 3; says = facts_say }
+    ∷ record { number = 4; says = ious_say }
+    ∷ []))
