@@ -1,2 +1,2 @@
-pub mod Contracts
+pub mod Book
 pub mod Disks

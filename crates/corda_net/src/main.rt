@@ -11,13 +11,14 @@ ghost use Rattle.net_model.specs.Environment.{meaning};
 ghost use Rattle.node_disks.specs.declared.pair.NodeDisks.{NodeDisks};
 ghost use Rattle.node_disks.specs.Pair.{pair_seen};
 ghost use Rattle.node_shell.specs.Runs.{IsRun};
-ghost use Rattle.corda_net.specs.Contracts.{shipped};
+ghost use Rattle.corda_net.specs.Book.{contracts_of, shipped_contracts, shipped};
 ghost use Rattle.corda_net.specs.Disks.{IsEmpty, AreEmpty};
 
 use app_flows::AppFlow;
 use cash_contract::Cash;
-use contract_verify::{BoxedContract, ContractBook};
+use contract_verify::{BoxedContract, ContractBook, Judge, LedgerContract};
 use disk_host::{HostDisk, StdSink, StdSource};
+use flow_machine::FlowSet;
 use node_disks::NodeDisks;
 use node_shell::run;
 use outside::{Bay, NoGate, Sink, Source};
@@ -95,8 +96,23 @@ fn tell<W: Write>(alloc: Global, told: Told, out: &mut W) -> u8 {
     }
 }
 
-/// Runs a script with the flows and the contracts that the program ships, and gives its status. Its clause is that of `run`.
-fn run_shipped<R: Threads + Wait + Sync, S: Source, K: Sink, B: Bay + Send>(
+/// The law of the program's book: it judges as its contracts say. It does nothing when it runs.
+fn law_shipped(book: &ContractBook)
+    requires { contracts_of ⟦<BoxedContract as LedgerContract>⟧.number
+        ⟦<BoxedContract as LedgerContract>⟧.says book.now.contracts.items ≡ shipped_contracts }
+    ensures { ⟦<ContractBook as Judge>⟧.judges book.now ≡ shipped }
+{
+    let _ = book;
+}
+
+/// Runs a script with these flows and the contracts that the program ships, and gives its status. Its clause is that of `run`.
+fn run_shipped<
+    F: FlowSet + Send + Sync,
+    R: Threads + Wait + Sync,
+    S: Source,
+    K: Sink,
+    B: Bay + Send,
+>(
     rt: &R,
     alloc: Global,
     words: &[String],
@@ -106,7 +122,7 @@ fn run_shipped<R: Threads + Wait + Sync, S: Source, K: Sink, B: Bay + Send>(
 ) -> Result<u8, AllocError>
     requires { length disks.items ≡ 16 }
     ensures { IfOk result (λ status. (after : List (NodeDisks B)) × (count : ℕ)
-        × IsRun (meaning AppFlow.machine AppFlow.reading shipped) (pair_seen B.seen) (record {
+        × IsRun (meaning F.machine F.reading shipped) (pair_seen B.seen) (record {
           words = map (λ s. string_bytes s) words.now;
           disks = record { old = disks.items; new = after };
           left = record { old = S.left source.old; new = S.left source.new };
@@ -123,7 +139,8 @@ fn run_shipped<R: Threads + Wait + Sync, S: Source, K: Sink, B: Bay + Send>(
     contracts.push(Box::new(alloc, Facts)?)?;
     contracts.push(Box::new(alloc, Ious)?)?;
     let contracts = ContractBook::new(contracts);
-    let ended = run::<R, S, K, B, AppFlow, ContractBook, NoGate>(
+    law_shipped(&contracts);
+    let ended = run::<R, S, K, B, F, ContractBook, NoGate>(
         rt, alloc, words, source, sink, disks, &contracts, &NoGate,
     );
     Ok(ended.status)
@@ -152,7 +169,14 @@ fn main(rt: HostRuntime) -> ExitCode {
     };
     let mut source = StdSource::new(reader);
     let mut sink = StdSink::new(io::writer(&rt));
-    match run_shipped(&rt, alloc, words.as_slice(), &mut source, &mut sink, disks) {
+    match run_shipped::<AppFlow, _, _, _, _>(
+        &rt,
+        alloc,
+        words.as_slice(),
+        &mut source,
+        &mut sink,
+        disks,
+    ) {
         Ok(status) => ExitCode::from(status),
         Err(_) => ExitCode::from(NO_MEMORY),
     }

@@ -1,4 +1,25 @@
+use Rattle.std.proofs.Common.{rules, [], ◌∷◌, ◌≡◌, refl}
+use Rattle.net_model.specs.Environment.{meaning}
+use Rattle.node_disks.specs.Pair.{pair_seen}
+use Rattle.node_shell.specs.Runs.{IsRun}
+use Rattle.corda_net.proofs.Books.{are_shipped, judged_so}
+use Rattle.corda_net.proofs.Tables.{reads}
+use Rattle.corda_net.proofs.run_shipped.OwnLists.{own-1}
 use Rattle.corda_net.proofs.run_shipped.Goals as goal
 
+pub law_shipped-requires : goal.law_shipped-requires
+law_shipped-requires g c =
+    let held : c.new-contracts-2.result.contracts.items
+    ≡ c.into_dyn_box.result ∷ c.into_dyn_box-in_ok-new-2.result ∷ c.into_dyn_box-in_ok-new-3.result ∷ c.into_dyn_box-in_ok-new-4.result ∷ [] = search rules in
+    rw held (are_shipped _ _ _ _
+    (reads own-1 c.into_dyn_box.ensures.1 refl (λ j. j.1.number) refl) (reads own-1 c.into_dyn_box.ensures.1 refl (λ j. j.1.says) refl)
+    (reads own-1 c.into_dyn_box-in_ok-new-2.ensures.1 refl (λ j. j.1.number) refl) (reads own-1 c.into_dyn_box-in_ok-new-2.ensures.1 refl (λ j. j.1.says) refl)
+    (reads own-1 c.into_dyn_box-in_ok-new-3.ensures.1 refl (λ j. j.1.number) refl) (reads own-1 c.into_dyn_box-in_ok-new-3.ensures.1 refl (λ j. j.1.says) refl)
+    (reads own-1 c.into_dyn_box-in_ok-new-4.ensures.1 refl (λ j. j.1.number) refl) (reads own-1 c.into_dyn_box-in_ok-new-4.ensures.1 refl (λ j. j.1.says) refl))
+
 pub returns : goal.returns
-returns g c = (c.run-ended.result.disks.items, c.run-ended.result.bytes_read, c.run-ended.ensures.run)
+returns g c = (
+  c.run-ended.result.disks.items,
+  c.run-ended.result.bytes_read,
+  judged_so (λ j. IsRun (meaning g.F.FlowSet.machine g.F.Spelt.reading j) (pair_seen g.B.Disk.seen)) c.law_shipped.ensures c.run-ended.ensures.run,
+)

@@ -1,5 +1,5 @@
 -- The contracts that the program ships.
-use Rattle.std.specs.Prelude.{ℕ, [], ◌∷◌, Option}
+use Rattle.std.specs.Prelude.{ℕ, List, [], ◌∷◌, map, Option}
 use Rattle.ledger_types.specs.declared.tx.Tx.{Tx}
 use Rattle.ledger_types.specs.declared.tx.Resolved.{Resolved}
 use Rattle.ledger_types.specs.Verdicts.{told_by, verdict_of}
@@ -14,11 +14,19 @@ pub record Contract : Type 0 where
   pub number : ℕ
   pub says : Tx → Resolved → Option ℕ
 
--- those of cash, time locks, facts and Ious, as the book holds them
-unfoldable pub shipped : Judgement
-shipped = verdict_of (told_by {C = Contract} (λ c. c.number) (λ c. c.says)
-    (record { number = 1; says = cash_says }
+-- what objects are as contracts
+abbrev pub contracts_of : {C : Type 0} → (C → ℕ) → (C → Tx → Resolved → Option ℕ) → List C → List Contract
+contracts_of number says cs = map (λ c. record { number = number c; says = says c }) cs
+
+-- the contracts of cash, time locks, facts and Ious
+abbrev pub shipped_contracts : List Contract
+shipped_contracts =
+    record { number = 1; says = cash_says }
     ∷ record { number = 2; says = locks_say }
     ∷ record { number = 3; says = facts_say }
     ∷ record { number = 4; says = ious_say }
-    ∷ []))
+    ∷ []
+
+-- their verdicts
+abbrev pub shipped : Judgement
+shipped = verdict_of (told_by (λ c. c.number) (λ c. c.says) shipped_contracts)
