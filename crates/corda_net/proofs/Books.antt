@@ -1,10 +1,13 @@
 -- A book's verdicts are those of the contracts that its objects are.
-use Rattle.std.proofs.Common.{List, [], ◌∷◌, ◌≡◌, refl, ap, subst, ◌∙◌, ℕ, Option, Some}
+use Rattle.std.proofs.Common.{List, [], ◌∷◌, ◌≡◌, refl, ap, subst, ◌∙◌, ℕ, Option, Some, Result}
 use Rattle.std.specs.Prelude.{◌==◌, if◌then◌else◌}
 use Rattle.ledger_types.specs.declared.tx.Tx.{Tx}
 use Rattle.ledger_types.specs.declared.tx.Resolved.{Resolved}
 use Rattle.ledger_types.specs.Verdicts.{told_by, verdict_of}
-use Rattle.net_model.specs.Environment.{Judgement}
+use Rattle.outside.specs.Disk.{DiskSeen}
+use Rattle.flow_machine.specs.Machine.{Machine}
+use Rattle.net_model.specs.Environment.{Judgement, meaning}
+use Rattle.node_shell.specs.Runs.{IsRun, Ran}
 use Rattle.cash_contract.specs.Clauses.{cash_says}
 use Rattle.small_contracts.specs.Locks.{locks_say}
 use Rattle.small_contracts.specs.Facts.{facts_say}
@@ -35,6 +38,7 @@ are_shipped a b c d a_number a_says b_number b_says c_number c_says d_number d_s
     ∷ record { number = c.number; says = c.says } ∷ record { number = d.number; says = d.says } ∷ [] = refl in
     four ∙ rw a_number (rw a_says (rw b_number (rw b_says (rw c_number (rw c_says (rw d_number (rw d_says refl)))))))
 
--- what holds by a judgement holds by one that is equal
-pub judged_so : {R : Type 0} (Holds : Judgement → R → Type 0) {j k : Judgement} {r : R} → j ≡ k → Holds j r → Holds k r
-judged_so Holds {r = r} same = subst (λ i. Holds i r) same
+-- a run by a judgement is one by a judgement that is equal
+pub run_by : {F B : Type 0} (m : Machine F) (frame_at : List ℕ → Result (F × List ℕ) ℕ) (seen : B → DiskSeen) {r : Ran B} {j k : Judgement}
+    → j ≡ k → IsRun (meaning m frame_at j) seen r → IsRun (meaning m frame_at k) seen r
+run_by m frame_at seen {r = r} same = subst (λ i. IsRun (meaning m frame_at i) seen r) same

@@ -19,6 +19,7 @@ use cash_contract::Cash;
 use contract_verify::{BoxedContract, ContractBook, Judge, LedgerContract};
 use disk_host::{HostDisk, StdSink, StdSource};
 use flow_machine::FlowSet;
+use net_base::Spelt;
 use node_disks::NodeDisks;
 use node_shell::run;
 use outside::{Bay, NoGate, Sink, Source};
@@ -105,14 +106,8 @@ fn law_shipped(book: &ContractBook)
     let _ = book;
 }
 
-/// Runs a script with these flows and the contracts that the program ships, and gives its status. Its clause is that of `run`.
-fn run_shipped<
-    F: FlowSet + Send + Sync,
-    R: Threads + Wait + Sync,
-    S: Source,
-    K: Sink,
-    B: Bay + Send,
->(
+/// Runs a script with the flows and the contracts that the program ships, and gives its status. Its clause is that of `run`.
+fn run_shipped<R: Threads + Wait + Sync, S: Source, K: Sink, B: Bay + Send>(
     rt: &R,
     alloc: Global,
     words: &[String],
@@ -122,7 +117,8 @@ fn run_shipped<
 ) -> Result<u8, AllocError>
     requires { length disks.items ≡ 16 }
     ensures { IfOk result (λ status. (after : List (NodeDisks B)) × (count : ℕ)
-        × IsRun (meaning F.machine F.reading shipped) (pair_seen B.seen) (record {
+        × IsRun (meaning ⟦<AppFlow as FlowSet>⟧.machine ⟦<AppFlow as Spelt>⟧.reading shipped)
+        (pair_seen B.seen) (record {
           words = map (λ s. string_bytes s) words.now;
           disks = record { old = disks.items; new = after };
           left = record { old = S.left source.old; new = S.left source.new };
@@ -140,7 +136,7 @@ fn run_shipped<
     contracts.push(Box::new(alloc, Ious)?)?;
     let contracts = ContractBook::new(contracts);
     law_shipped(&contracts);
-    let ended = run::<R, S, K, B, F, ContractBook, NoGate>(
+    let ended = run::<R, S, K, B, AppFlow, ContractBook, NoGate>(
         rt, alloc, words, source, sink, disks, &contracts, &NoGate,
     );
     Ok(ended.status)
@@ -169,14 +165,7 @@ fn main(rt: HostRuntime) -> ExitCode {
     };
     let mut source = StdSource::new(reader);
     let mut sink = StdSink::new(io::writer(&rt));
-    match run_shipped::<AppFlow, _, _, _, _>(
-        &rt,
-        alloc,
-        words.as_slice(),
-        &mut source,
-        &mut sink,
-        disks,
-    ) {
+    match run_shipped(&rt, alloc, words.as_slice(), &mut source, &mut sink, disks) {
         Ok(status) => ExitCode::from(status),
         Err(_) => ExitCode::from(NO_MEMORY),
     }

@@ -1,8 +1,5 @@
 use Rattle.std.proofs.Common.{rules, [], ◌∷◌, ◌≡◌, refl}
-use Rattle.net_model.specs.Environment.{meaning}
-use Rattle.node_disks.specs.Pair.{pair_seen}
-use Rattle.node_shell.specs.Runs.{IsRun}
-use Rattle.corda_net.proofs.Books.{are_shipped, judged_so}
+use Rattle.corda_net.proofs.Books.{are_shipped, run_by}
 use Rattle.corda_net.proofs.Tables.{reads}
 use Rattle.corda_net.proofs.run_shipped.OwnLists.{own-1}
 use Rattle.corda_net.proofs.run_shipped.Goals as goal
@@ -18,8 +15,4 @@ law_shipped-requires g c =
     (reads own-1 c.into_dyn_box-in_ok-new-4.ensures.1 refl (λ j. j.1.number) refl) (reads own-1 c.into_dyn_box-in_ok-new-4.ensures.1 refl (λ j. j.1.says) refl))
 
 pub returns : goal.returns
-returns g c = (
-  c.run-ended.result.disks.items,
-  c.run-ended.result.bytes_read,
-  judged_so (λ j. IsRun (meaning g.F.FlowSet.machine g.F.Spelt.reading j) (pair_seen g.B.Disk.seen)) c.law_shipped.ensures c.run-ended.ensures.run,
-)
+returns g c = (c.run-ended.result.disks.items, c.run-ended.result.bytes_read, run_by _ _ _ c.law_shipped.ensures c.run-ended.ensures.run)
