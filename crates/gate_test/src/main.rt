@@ -1,4 +1,4 @@
-//! Shows that workers work side by side: of sixteen workers at one node, one is held up before it judges a transaction, outside the node's
+//! Shows that workers work side by side: of two workers at one node, one is held up before it judges a transaction, outside the node's
 //! lock, until two commits there were told. Prints `1 passed, 0 failed`, or before it what failed.
 #![tactic(auto)]
 
@@ -20,13 +20,11 @@ use std::alloc::{AllocError, Global};
 use std::sync::Wait;
 use std::thread::Threads;
 
-/// The flow that waits for a job, those that go on meanwhile, and the workers: enough turns that some are left when a worker that was
-/// not given a processor comes to judge.
-const SCRIPT: &str =
-    "start 0 issue USD 5\nstart 0 count 65534\nstart 0 count 65534\nworkers 16 10000 1\n";
+/// The flow that waits for a job, the one that goes on meanwhile, and the workers.
+const SCRIPT: &str = "start 0 issue USD 5\nstart 0 count 10000\nworkers 2 10000 1\n";
 
 /// What it is answered.
-const ANSWERS: &str = "flow 0\nflow 1\nflow 2\nworked\n";
+const ANSWERS: &str = "flow 0\nflow 1\nworked\n";
 
 /// How many bytes of answers a run may write.
 const ROOM: usize = 4096;
