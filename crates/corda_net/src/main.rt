@@ -4,11 +4,10 @@
 //! they are in memory.
 #![tactic(auto)]
 
-ghost use Rattle.std.specs.Prelude.{◌≡◌, ℕ, List, IfOk, length, map, string_bytes, All};
+ghost use Rattle.std.specs.Prelude.{◌≡◌, List, IfOk, OnErr, MatchResult, length, map, string_bytes, All};
 ghost use Rattle.std.specs.IoError.{error_kind};
 ghost use Rattle.std.specs.declared.io.ErrorKind.TheVariants.{OutOfMemory};
 ghost use Rattle.net_model.specs.Environment.{meaning};
-ghost use Rattle.node_disks.specs.declared.pair.NodeDisks.{NodeDisks};
 ghost use Rattle.node_disks.specs.Pair.{pair_seen};
 ghost use Rattle.node_shell.specs.Runs.{IsRun};
 ghost use Rattle.corda_net.specs.Book.{contracts_of, shipped_contracts, shipped};
@@ -21,7 +20,7 @@ use disk_host::{HostDisk, StdSink, StdSource};
 use flow_machine::FlowSet;
 use net_base::Spelt;
 use node_disks::NodeDisks;
-use node_shell::run;
+use node_shell::{Ended, run};
 use outside::{Bay, NoGate, Sink, Source};
 use shell_words::{Told, text_told, told_of};
 use small_contracts::{Facts, Ious, Locks};
@@ -106,7 +105,8 @@ fn law_shipped(book: &ContractBook)
     let _ = book;
 }
 
-/// Runs a script with the flows and the contracts that the program ships, and gives its status. Its clause is that of `run`.
+/// Runs a script with the flows and the contracts that the program ships, and gives what the run leaves. Its clause is that of `run`. Where
+/// there is no memory for the contracts nothing was read or written.
 fn run_shipped<R: Threads + Wait + Sync, S: Source, K: Sink, B: Bay + Send>(
     rt: &R,
     alloc: Global,
@@ -114,20 +114,21 @@ fn run_shipped<R: Threads + Wait + Sync, S: Source, K: Sink, B: Bay + Send>(
     source: &mut S,
     sink: &mut K,
     disks: Vec<NodeDisks<B>>,
-) -> Result<u8, AllocError>
+) -> Result<Ended<B>, AllocError>
     requires { length disks.items ≡ 16 }
-    ensures { IfOk result (λ status. (after : List (NodeDisks B)) × (count : ℕ)
-        × IsRun (meaning ⟦<AppFlow as FlowSet>⟧.machine ⟦<AppFlow as Spelt>⟧.reading shipped)
+    ensures run { IfOk result (λ ended. IsRun
+        (meaning ⟦<AppFlow as FlowSet>⟧.machine ⟦<AppFlow as Spelt>⟧.reading shipped)
         (pair_seen B.seen) (record {
           words = map (λ s. string_bytes s) words.now;
-          disks = record { old = disks.items; new = after };
+          disks = record { old = disks.items; new = ended.disks.items };
           left = record { old = S.left source.old; new = S.left source.new };
           written = record { old = K.written sink.old; new = K.written sink.new };
           source_faults = record { old = S.faults source.old; new = S.faults source.new };
           sink_faults = record { old = K.faults sink.old; new = K.faults sink.new };
-          count = count;
-          status = status;
+          count = ended.bytes_read;
+          status = ended.status;
         })) }
+    ensures memory { OnErr result ((source.new ≡ source.old) × (sink.new ≡ sink.old)) }
 {
     let mut contracts: Vec<BoxedContract> = Vec::new(alloc);
     contracts.push(Box::new(alloc, Cash)?)?;
@@ -139,7 +140,17 @@ fn run_shipped<R: Threads + Wait + Sync, S: Source, K: Sink, B: Bay + Send>(
     let ended = run::<R, S, K, B, AppFlow, ContractBook, NoGate>(
         rt, alloc, words, source, sink, disks, &contracts, &NoGate,
     );
-    Ok(ended.status)
+    Ok(ended)
+}
+
+/// The status of a run, or that for want of memory where there was none.
+fn status_after<B: Bay>(ended: Result<Ended<B>, AllocError>) -> u8
+    ensures { MatchResult ended (λ ended. result ≡ ended.status) (λ _. result ≡ 7) }
+{
+    match ended {
+        Ok(left) => left.status,
+        Err(_) => NO_MEMORY,
+    }
 }
 
 fn main(rt: HostRuntime) -> ExitCode {
@@ -165,8 +176,6 @@ fn main(rt: HostRuntime) -> ExitCode {
     };
     let mut source = StdSource::new(reader);
     let mut sink = StdSink::new(io::writer(&rt));
-    match run_shipped(&rt, alloc, words.as_slice(), &mut source, &mut sink, disks) {
-        Ok(status) => ExitCode::from(status),
-        Err(_) => ExitCode::from(NO_MEMORY),
-    }
+    let ended = run_shipped(&rt, alloc, words.as_slice(), &mut source, &mut sink, disks);
+    ExitCode::from(status_after(ended))
 }

@@ -26,6 +26,10 @@ const SCRIPT: &str = "start 0 issue USD 5\nstart 0 count 10000\nworkers 2 10000 
 /// What it is answered.
 const ANSWERS: &str = "flow 0\nflow 1\nworked\n";
 
+/// How often the script is played, at most: a worker that gets no processor comes when the other one has made all its turns, and then
+/// nothing is committed while it is held up.
+const TRIES: u8 = 3;
+
 /// How many bytes of answers a run may write.
 const ROOM: usize = 4096;
 
@@ -116,13 +120,30 @@ fn failure(is_played: bool, gate: &Hold) -> Option<&'static str> {
     }
 }
 
+/// Plays the script until a worker that is held up sees commits, and says what failed the last time, if something did. A script that ends
+/// or is answered otherwise is not played again.
+fn last_failure<F: FlowSet + Send + Sync, R: Threads + Wait + Sync>(
+    rt: &R,
+    alloc: Global,
+    contracts: &ContractBook,
+) -> Result<Option<&'static str>> {
+    let mut what = None;
+    for _ in 0..TRIES {
+        let gate = Hold::new();
+        let is_played = is_played::<F, R>(rt, alloc, contracts, &gate)?;
+        what = failure(is_played, &gate);
+        if !is_played || gate.saw() {
+            break;
+        }
+    }
+    Ok(what)
+}
+
 fn main(rt: HostRuntime) -> Result<()> {
     let alloc = rt.alloc();
     let mut contracts: Vec<BoxedContract> = Vec::new(alloc);
     contracts.push(Box::new(alloc, Cash)?)?;
-    let gate = Hold::new();
-    let is_played = is_played::<AppFlow, _>(&rt, alloc, &ContractBook::new(contracts), &gate)?;
-    match failure(is_played, &gate) {
+    match last_failure::<AppFlow, _>(&rt, alloc, &ContractBook::new(contracts))? {
         None => println!(rt; "1 passed, 0 failed")?,
         Some(what) => println!(rt; "{what}\n0 passed, 1 failed")?,
     }

@@ -13,7 +13,7 @@ use Rattle.net_model.specs.Runs.{IsFaithful}
 use Rattle.net_model.specs.Stores.{NamesNotary}
 use Rattle.net_model.specs.Tags.{entries_at, book_of}
 use Rattle.node_tables.specs.Journals.{records_of, state_of}
-use Rattle.network_core.specs.Worlds.{states_of}
+use Rattle.network_core.specs.Worlds.{World, Coherent, Choice, states_of}
 use Rattle.network_core.proofs.Faithful.{coherent_is_faithful}
 use Rattle.network_core.proofs.KeepingWays.{kept_on_ways}
 use Rattle.ledger_laws.specs.Ledgers.{HasOneConsumerEach, IsSignedInBook, HasWholeChains, HasNoneSpentTwice}
@@ -35,6 +35,17 @@ on_ways m fact by id a b way s images is on choice =
     let kept = kept_on_ways m id a b way s on in
     by id (map journal_of images) is (length-map images journal_of ∙ choice.count ∙ kept.count ∙ sym a.shows.count ∙ a.coherent.count) (kept.faithful images choice)
 
+-- what journals make is what their records make
+replayed : {F : Type 0} (e : Environment F) (lists : List (List (List ℕ))) → map replay (map (records_of e.frame_at) lists) ≡ states_of e lists
+unfolding state_of
+replayed e lists = map_twice replay (records_of e.frame_at) (state_of e.frame_at) lists (λ l. refl)
+
+-- of every coherent world, whatever its network
+pub one_each_world : {F : Type 0} (e : Environment F) (w : World) (lists : List (List (List ℕ))) → Coherent e w → Choice w lists → HasOneConsumerEach e (states_of e lists)
+one_each_world e w lists coherent choice =
+    subst (HasOneConsumerEach e) (replayed e lists)
+    (one_each e (map (records_of e.frame_at) lists) (length-map lists (records_of e.frame_at) ∙ choice.count ∙ coherent.count) (coherent_is_faithful e w lists coherent choice).0)
+
 module _ {F : Type 0} (m : Meaning F) (id : Identity) (lists : List (List (List ℕ))) (is : IsIdentity id) (count : length lists ≡ id.nodes) (faithful : IsFaithful (environment m id) (map (records_of m.frame_at) lists)) where
   abbrev e : Environment F
   e = environment m id
@@ -43,8 +54,7 @@ module _ {F : Type 0} (m : Meaning F) (id : Identity) (lists : List (List (List 
   journals = map (records_of m.frame_at) lists
 
   made : map replay journals ≡ states_of e lists
-  unfolding state_of
-  made = map_twice replay (records_of m.frame_at) (state_of m.frame_at) lists (λ l. refl)
+  made = replayed e lists
 
   all : length journals ≡ id.nodes
   all = length-map lists (records_of m.frame_at) ∙ count

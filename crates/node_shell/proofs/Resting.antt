@@ -17,6 +17,7 @@ use Rattle.network_core.specs.Worlds.{World, NodeWorld, NetSeen, MaySpell, NodeS
 use Rattle.network_core.specs.Begins.{member, node_over, nodes_over, net_over, Begun, StayDown}
 use Rattle.network_core.proofs.Beginning.{over_length, first_get, first_at}
 use Rattle.network_core.proofs.Faithful.{coherent_is_faithful}
+use Rattle.ledger_laws.proofs.Placed.{one_each_world}
 use Rattle.node_shell.specs.Runs.{over, all_down, Rests, LeavesFewer, KeepsJournals, MadeReady, AllStay}
 
 -- ---- mapped lists
@@ -183,7 +184,12 @@ module _ {F : Type 0} (m : Meaning F) (nodes : ℕ) (notary : Party) where
 
   -- disks that show a coherent world rest in it
   pub stands : (w : World) (ds : List DiskSeen) → Shows e (over e w.now ds) w → Coherent e w → Rests e ds w
-  stands w ds shows coherent = record { shows = shows; coherent = coherent; faithful = λ lists choice. coherent_is_faithful e w lists coherent choice }
+  stands w ds shows coherent = record {
+    shows = shows;
+    coherent = coherent;
+    faithful = λ lists choice. coherent_is_faithful e w lists coherent choice;
+    consumers = λ lists choice. one_each_world e w lists coherent choice;
+  }
 
   -- the disks that come out of a network rest in the world that the network showed
   pub rests : (net : NetSeen) (w : World) (ds : List DiskSeen) → Shows e net w → Coherent e w → map (λ (n : NodeSeen). n.disk) net.nodes ≡ map roomless ds → Rests e ds (all_down w)

@@ -22,6 +22,7 @@ use Rattle.node_core.specs.Disks.{Image, MayLeave, kept_journal, spelt, roomless
 use Rattle.network_core.specs.Begins.{member, nodes_over, net_over, Begun, BootsUpTo}
 use Rattle.network_core.specs.Acknowledged.{Acknowledged, StandsOnce}
 use Rattle.work_law.specs.Passages.{Attains}
+use Rattle.ledger_laws.specs.Ledgers.{HasOneConsumerEach}
 use Rattle.network_core.specs.Drains.{with_world}
 use Rattle.node_shell.specs.Names.{own_name, name_beside, faults_beside, calm_beside}
 use Rattle.node_shell.specs.declared.statuses.Status.{Status}
@@ -60,11 +61,13 @@ pub record MadeReady (w v : World) : Type 0 where
   pub each : (p : ℕ) (x y : NodeWorld) → slice_get w.nodes p ≡ Some x → slice_get v.nodes p ≡ Some y → (y ≡ record x { faults = y.faults }) × (x.faults ≤ y.faults)
   pub clock : v.now ≡ w.now
 
--- the disks show a coherent world, and whichever journals power cuts leave of them are those of one run of the network
+-- The disks show a coherent world, and whichever journals power cuts leave of them are those of one run of the network. In the book of that run's
+-- notary each state has one consumer at most, and each item of each conflict names it.
 pub record Rests {F : Type 0} (e : Environment F) (disks : List DiskSeen) (w : World) : Type 0 where
   pub shows : Shows e (over e w.now disks) w
   pub coherent : Coherent e w
   pub faithful : (lists : List (List (List ℕ))) → Choice w lists → IsFaithful e (map (records_of e.frame_at) lists) × (network_of e (map (causes_of e.frame_at) lists) ≡ Some (map (state_of e.frame_at) lists))
+  pub consumers : (lists : List (List (List ℕ))) → Choice w lists → HasOneConsumerEach e (map (state_of e.frame_at) lists)
 
 -- where a disk tells its content, no opening of this node refuses it: it keeps no begun journal, or a sound one of the node's own whose records fit
 abbrev pub KeepsOwn : {F : Type 0} → Reads F → Identity → DiskSeen → Type 0

@@ -278,6 +278,9 @@ fn run_in_folder<
 /// to sign them do not collide. Of the openings before it this is not said; and of a moment within `workers` only what each disk alone may
 /// leave (`work_law::histories_last`).
 ///
+/// As it ends, whichever journals power cuts leave of such disks, in the notary's book of their run each state has at most one consumer, and
+/// each conflict names it (`Rests`, also where a node did not open).
+///
 /// The gate hears of what workers do. For a line `workers` the call may wait for locks, for inboxes and for threads.
 pub fn run<
     R: Threads + Wait + Sync,

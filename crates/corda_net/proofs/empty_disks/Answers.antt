@@ -1,4 +1,4 @@
-use Rattle.std.proofs.Common.{◌≡◌, ◌+◌, [], ◌∷◌, ◌++◌, length, All, ◌∙◌, ap, subst, sym}
+use Rattle.std.proofs.Common.{◌+◌, [], ◌∷◌, ◌++◌, length, All, ◌∙◌, ap, subst, sym}
 use Rattle.std.proofs.lemmas.List.{length-append}
 use Rattle.std.proofs.lemmas.List.Elements.{All-append, All-cons, All-nil}
 use Rattle.corda_net.specs.Disks.{AreEmpty}

@@ -14,5 +14,5 @@ law_shipped-requires g c =
     (reads own-1 c.into_dyn_box-in_ok-new-3.ensures.1 refl (λ j. j.1.number) refl) (reads own-1 c.into_dyn_box-in_ok-new-3.ensures.1 refl (λ j. j.1.says) refl)
     (reads own-1 c.into_dyn_box-in_ok-new-4.ensures.1 refl (λ j. j.1.number) refl) (reads own-1 c.into_dyn_box-in_ok-new-4.ensures.1 refl (λ j. j.1.says) refl))
 
-pub returns : goal.returns
-returns g c = (c.run-ended.result.disks.items, c.run-ended.result.bytes_read, run_by _ _ _ c.law_shipped.ensures c.run-ended.ensures.run)
+pub returns-clause-run : goal.returns-clause-run
+returns-clause-run g c = run_by _ _ _ c.law_shipped.ensures c.run-ended.ensures.run
