@@ -1,0 +1,9 @@
+pub mod Lawful
+pub mod Values
+pub mod Authority
+pub mod Sums
+pub mod Outputs
+pub mod Supply
+pub mod Spent
+pub mod Gathered
+pub mod Placed

@@ -1,0 +1,4 @@
+pub mod Lawful
+pub mod Values
+pub mod Authority
+pub mod Supply
