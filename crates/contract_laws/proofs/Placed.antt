@@ -12,8 +12,8 @@ use Rattle.net_model.specs.Stores.{StoresHold, NamesNotary}
 use Rattle.ledger_laws.specs.Ledgers.{HasWholeChains, HasNoneSpentTwice}
 use Rattle.ledger_laws.specs.Places.{Made, InWorlds, OnWays}
 use Rattle.ledger_laws.proofs.Placed.{in_worlds, on_ways, chains_each_run, spent_each_run}
-use Rattle.story_laws.specs.Scripts.{InScripts}
 use Rattle.story_laws.proofs.Scripted.{in_scripts}
+use Rattle.contract_laws.specs.Everywhere.{Everywhere}
 use Rattle.contract_laws.specs.Lawful.{Contracts, AreLawful}
 use Rattle.contract_laws.specs.Values.{GovernsCash, KeepsAllValue}
 use Rattle.contract_laws.specs.Authority.{AreSignedFor}
@@ -28,27 +28,27 @@ module _ {F : Type 0} (m : Meaning F) (fact : Environment F → List (NodeState 
   e id = environment m id
 
   module _ (turns : (id : Identity) (net : List (NodeState F)) → HasWholeChains (e id) net → fact (e id) net) where
-    pub worlds : InWorlds m (Made fact)
+    worlds : InWorlds m (Made fact)
     worlds id w lists is coherent choice = turns id _ (in_worlds m (Made HasWholeChains) (chains_each_run m) id w lists is coherent choice)
 
-    pub moments : OnWays m (Made fact)
+    moments : OnWays m (Made fact)
     moments id a b way s images is on choice = turns id _ (on_ways m (Made HasWholeChains) (chains_each_run m) id a b way s images is on choice)
 
-    pub scripts : InScripts m (Made fact)
-    scripts = in_scripts m (Made fact) worlds moments
+    pub from_chains : Everywhere m fact
+    from_chains = record { worlds = worlds; moments = moments; scripts = in_scripts m (Made fact) worlds moments }
 
   module _ (keeps : KeepsTags m.machine) (bare : BeginsBare m.machine) (names : (id : Identity) → NamesNotary (e id))
       (turns : (id : Identity) (net : List (NodeState F)) → HasWholeChains (e id) net → HasNoneSpentTwice (e id) net → fact (e id) net) where
-    pub spent_worlds : InWorlds m (Made fact)
+    spent_worlds : InWorlds m (Made fact)
     spent_worlds id w lists is coherent choice =
         turns id _ (in_worlds m (Made HasWholeChains) (chains_each_run m) id w lists is coherent choice) (in_worlds m (Made HasNoneSpentTwice) (spent_each_run m keeps bare names) id w lists is coherent choice)
 
-    pub spent_moments : OnWays m (Made fact)
+    spent_moments : OnWays m (Made fact)
     spent_moments id a b way s images is on choice =
         turns id _ (on_ways m (Made HasWholeChains) (chains_each_run m) id a b way s images is on choice) (on_ways m (Made HasNoneSpentTwice) (spent_each_run m keeps bare names) id a b way s images is on choice)
 
-    pub spent_scripts : InScripts m (Made fact)
-    spent_scripts = in_scripts m (Made fact) spent_worlds spent_moments
+    pub from_both : Everywhere m fact
+    from_both = record { worlds = spent_worlds; moments = spent_moments; scripts = in_scripts m (Made fact) spent_worlds spent_moments }
 
 -- ---- by any contracts
 
@@ -56,20 +56,25 @@ stores_of : {F : Type 0} (e : Environment F) (net : List (NodeState F)) → HasW
 stores_of e net whole p s at = (whole p s at).proven
 
 module _ {F : Type 0} (machine : Machine F) (frame_at : List ℕ → Result (F × List ℕ) ℕ) (contracts : Contracts) where
-  abbrev judged : Identity → Environment F
-  judged id = environment (meaning machine frame_at (verdict_of contracts)) id
+  abbrev judged : Meaning F
+  judged = meaning machine frame_at (verdict_of contracts)
 
-  pub are_lawful : (id : Identity) (net : List (NodeState F)) → HasWholeChains (judged id) net → AreLawful contracts (judged id) net
-  are_lawful id net whole = lawful contracts (judged id) net refl (stores_of (judged id) net whole)
+  are_lawful : (id : Identity) (net : List (NodeState F)) → HasWholeChains (environment judged id) net → AreLawful contracts (environment judged id) net
+  are_lawful id net whole = lawful contracts (environment judged id) net refl (stores_of (environment judged id) net whole)
 
-  pub keep_value : GovernsCash contracts → (id : Identity) (net : List (NodeState F)) → HasWholeChains (judged id) net → KeepsAllValue (judged id) net
-  keep_value cash id net whole = keeps_value contracts cash (judged id) net refl (stores_of (judged id) net whole)
+  pub all_lawful : Everywhere judged (AreLawful contracts)
+  all_lawful = from_chains judged (AreLawful contracts) are_lawful
 
-  pub sign_for : GovernsCash contracts → (id : Identity) (net : List (NodeState F)) → HasWholeChains (judged id) net → AreSignedFor (judged id) net
-  sign_for cash id net whole = signed_for contracts cash (judged id) net refl (stores_of (judged id) net whole)
+  module _ (cash : GovernsCash contracts) where
+    keep_value : (id : Identity) (net : List (NodeState F)) → HasWholeChains (environment judged id) net → KeepsAllValue (environment judged id) net
+    keep_value id net whole = keeps_value contracts cash (environment judged id) net refl (stores_of (environment judged id) net whole)
 
-  pub back_cash : GovernsCash contracts → (id : Identity) (net : List (NodeState F)) → HasWholeChains (judged id) net → HasNoneSpentTwice (judged id) net → AreBacked (judged id) net
-  back_cash cash id net whole spent = are_backed contracts (judged id) net whole spent (are_lawful id net whole) (keep_value cash id net whole)
+    pub all_value_kept : Everywhere judged KeepsAllValue
+    all_value_kept = from_chains judged KeepsAllValue keep_value
 
-  pub name_notaries : (id : Identity) → NamesNotary (judged id)
-  name_notaries id = accepted_names contracts
+    pub all_signed_for : Everywhere judged AreSignedFor
+    all_signed_for = from_chains judged AreSignedFor (λ id net whole. signed_for contracts cash (environment judged id) net refl (stores_of (environment judged id) net whole))
+
+    pub all_backed : KeepsTags machine → BeginsBare machine → Everywhere judged AreBacked
+    all_backed keeps bare = from_both judged AreBacked keeps bare (λ id. accepted_names contracts)
+        (λ id net whole spent. are_backed contracts (environment judged id) net whole spent (are_lawful id net whole) (keep_value id net whole))

@@ -1,3 +1,4 @@
+pub mod Everywhere
 pub mod Lawful
 pub mod Values
 pub mod Authority

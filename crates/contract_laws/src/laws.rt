@@ -2,8 +2,7 @@ ghost use Rattle.std.specs.Prelude.{ℕ, List, Result};
 ghost use Rattle.ledger_types.specs.Verdicts.{verdict_of};
 ghost use Rattle.flow_machine.specs.Machine.{Machine};
 ghost use Rattle.net_model.specs.Environment.{meaning};
-ghost use Rattle.ledger_laws.specs.Places.{Made, InWorlds, OnWays};
-ghost use Rattle.story_laws.specs.Scripts.{InScripts};
+ghost use Rattle.contract_laws.specs.Everywhere.{Everywhere};
 ghost use Rattle.contract_laws.specs.Lawful.{Contracts, AreLawful};
 ghost use Rattle.contract_laws.specs.Values.{GovernsCash, KeepsAllValue};
 ghost use Rattle.contract_laws.specs.Authority.{AreSignedFor};
@@ -17,12 +16,8 @@ use flow_machine::FlowSet;
 /// Whatever the contracts and the flows are, it holds of every coherent world, whichever journals power cuts leave of it; at every moment of
 /// a way, also within a call of a disk, whichever images power cuts leave of the disks; and so throughout a script (`story_laws`).
 pub fn recorded_is_accepted_by_each<F>()
-    ensures worlds { (m : Machine F) (frame_at : List ℕ → Result (F × List ℕ) ℕ) (contracts : Contracts)
-        → InWorlds (meaning m frame_at (verdict_of contracts)) (Made (AreLawful contracts)) }
-    ensures moments { (m : Machine F) (frame_at : List ℕ → Result (F × List ℕ) ℕ) (contracts : Contracts)
-        → OnWays (meaning m frame_at (verdict_of contracts)) (Made (AreLawful contracts)) }
-    ensures scripts { (m : Machine F) (frame_at : List ℕ → Result (F × List ℕ) ℕ) (contracts : Contracts)
-        → InScripts (meaning m frame_at (verdict_of contracts)) (Made (AreLawful contracts)) }
+    ensures { (m : Machine F) (frame_at : List ℕ → Result (F × List ℕ) ℕ) (contracts : Contracts)
+        → Everywhere (meaning m frame_at (verdict_of contracts)) (AreLawful contracts) }
 {}
 
 /// The law that no recorded transaction, at any node, makes or destroys value but by issue and exit: where it consumes or makes Cash the Cash
@@ -30,12 +25,8 @@ pub fn recorded_is_accepted_by_each<F>()
 ///
 /// It asks that the contract of number 1 is that of Cash, as in the program. It holds where the law above does.
 pub fn recorded_cash_is_conserved<F>()
-    ensures worlds { (m : Machine F) (frame_at : List ℕ → Result (F × List ℕ) ℕ) (contracts : Contracts)
-        → GovernsCash contracts → InWorlds (meaning m frame_at (verdict_of contracts)) (Made KeepsAllValue) }
-    ensures moments { (m : Machine F) (frame_at : List ℕ → Result (F × List ℕ) ℕ) (contracts : Contracts)
-        → GovernsCash contracts → OnWays (meaning m frame_at (verdict_of contracts)) (Made KeepsAllValue) }
-    ensures scripts { (m : Machine F) (frame_at : List ℕ → Result (F × List ℕ) ℕ) (contracts : Contracts)
-        → GovernsCash contracts → InScripts (meaning m frame_at (verdict_of contracts)) (Made KeepsAllValue) }
+    ensures { (m : Machine F) (frame_at : List ℕ → Result (F × List ℕ) ℕ) (contracts : Contracts)
+        → GovernsCash contracts → Everywhere (meaning m frame_at (verdict_of contracts)) KeepsAllValue }
 {}
 
 /// The law that, of each recorded transaction that consumes or makes Cash, the issuer of each token that it issues or exits has signed it, and
@@ -43,12 +34,8 @@ pub fn recorded_cash_is_conserved<F>()
 ///
 /// It asks what the law above does, and speaks of parties 0 to 15, of which networks are. It holds where that law does.
 pub fn recorded_cash_is_signed_for<F>()
-    ensures worlds { (m : Machine F) (frame_at : List ℕ → Result (F × List ℕ) ℕ) (contracts : Contracts)
-        → GovernsCash contracts → InWorlds (meaning m frame_at (verdict_of contracts)) (Made AreSignedFor) }
-    ensures moments { (m : Machine F) (frame_at : List ℕ → Result (F × List ℕ) ℕ) (contracts : Contracts)
-        → GovernsCash contracts → OnWays (meaning m frame_at (verdict_of contracts)) (Made AreSignedFor) }
-    ensures scripts { (m : Machine F) (frame_at : List ℕ → Result (F × List ℕ) ℕ) (contracts : Contracts)
-        → GovernsCash contracts → InScripts (meaning m frame_at (verdict_of contracts)) (Made AreSignedFor) }
+    ensures { (m : Machine F) (frame_at : List ℕ → Result (F × List ℕ) ℕ) (contracts : Contracts)
+        → GovernsCash contracts → Everywhere (meaning m frame_at (verdict_of contracts)) AreSignedFor }
 {}
 
 /// The law that, of every token, the Cash that recorded transactions leave unconsumed is what they issued less what they exited, and that the
@@ -59,10 +46,6 @@ pub fn recorded_cash_is_signed_for<F>()
 /// and that SHA-256 tells apart what was hashed to sign each of these transactions. Over all nodes it asks too that two recorded transactions
 /// of one id are one. It holds where the laws above do.
 pub fn outstanding_cash_was_issued<F: FlowSet>()
-    ensures worlds { (contracts : Contracts) → GovernsCash contracts
-        → InWorlds (meaning F.machine F.reading (verdict_of contracts)) (Made AreBacked) }
-    ensures moments { (contracts : Contracts) → GovernsCash contracts
-        → OnWays (meaning F.machine F.reading (verdict_of contracts)) (Made AreBacked) }
-    ensures scripts { (contracts : Contracts) → GovernsCash contracts
-        → InScripts (meaning F.machine F.reading (verdict_of contracts)) (Made AreBacked) }
+    ensures { (contracts : Contracts) → GovernsCash contracts
+        → Everywhere (meaning F.machine F.reading (verdict_of contracts)) AreBacked }
 {}

@@ -27,6 +27,10 @@ shipped_contracts =
     ∷ record { number = 4; says = ious_say }
     ∷ []
 
+-- what they say, by their numbers
+abbrev pub shipped_told : ℕ → Tx → Resolved → Option (Option ℕ)
+shipped_told = told_by (λ c. c.number) (λ c. c.says) shipped_contracts
+
 -- their verdicts
 abbrev pub shipped : Judgement
-shipped = verdict_of (told_by (λ c. c.number) (λ c. c.says) shipped_contracts)
+shipped = verdict_of shipped_told

@@ -10,11 +10,16 @@ ghost use Rattle.std.specs.declared.io.ErrorKind.TheVariants.{OutOfMemory};
 ghost use Rattle.net_model.specs.Environment.{meaning};
 ghost use Rattle.node_disks.specs.Pair.{pair_seen};
 ghost use Rattle.node_shell.specs.Runs.{IsRun};
-ghost use Rattle.corda_net.specs.Book.{contracts_of, shipped_contracts, shipped};
+ghost use Rattle.corda_net.specs.Book.{contracts_of, shipped_contracts, shipped_told, shipped};
 ghost use Rattle.corda_net.specs.Disks.{IsEmpty, AreEmpty};
+ghost use Rattle.corda_net.specs.Kept.{KeepsLedgers};
 
 use app_flows::AppFlow;
 use cash_contract::Cash;
+use contract_laws::{
+    outstanding_cash_was_issued, recorded_cash_is_conserved, recorded_cash_is_signed_for,
+    recorded_is_accepted_by_each,
+};
 use contract_verify::{BoxedContract, ContractBook, Judge, LedgerContract};
 use disk_host::{HostDisk, StdSink, StdSource};
 use flow_machine::FlowSet;
@@ -105,8 +110,20 @@ fn law_shipped(book: &ContractBook)
     let _ = book;
 }
 
-/// Runs a script with the flows and the contracts that the program ships, and gives what the run leaves. Its clause is that of `run`. Where
-/// there is no memory for the contracts nothing was read or written.
+/// The law of what the program's nodes record, by its flows and contracts. It does nothing when it runs.
+fn law_of_ledgers()
+    ensures { KeepsLedgers
+        (meaning ⟦<AppFlow as FlowSet>⟧.machine ⟦<AppFlow as Spelt>⟧.reading shipped) shipped_told }
+{
+    recorded_is_accepted_by_each::<AppFlow>();
+    recorded_cash_is_conserved::<AppFlow>();
+    recorded_cash_is_signed_for::<AppFlow>();
+    outstanding_cash_was_issued::<AppFlow>();
+}
+
+/// Runs a script with the flows and the contracts that the program ships, and gives what the run leaves. Its clause is that of `run`; what its
+/// nodes record is accepted by these contracts, signed for and makes no value, in every coherent world, at every moment of a way and
+/// throughout a script. Where there is no memory for the contracts nothing was read or written.
 fn run_shipped<R: Threads + Wait + Sync, S: Source, K: Sink, B: Bay + Send>(
     rt: &R,
     alloc: Global,
@@ -128,8 +145,11 @@ fn run_shipped<R: Threads + Wait + Sync, S: Source, K: Sink, B: Bay + Send>(
           count = ended.bytes_read;
           status = ended.status;
         })) }
+    ensures ledgers { KeepsLedgers
+        (meaning ⟦<AppFlow as FlowSet>⟧.machine ⟦<AppFlow as Spelt>⟧.reading shipped) shipped_told }
     ensures memory { OnErr result ((source.new ≡ source.old) × (sink.new ≡ sink.old)) }
 {
+    law_of_ledgers();
     let mut contracts: Vec<BoxedContract> = Vec::new(alloc);
     contracts.push(Box::new(alloc, Cash)?)?;
     contracts.push(Box::new(alloc, Locks)?)?;
