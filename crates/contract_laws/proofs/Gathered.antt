@@ -24,9 +24,9 @@ use Rattle.net_model.specs.Tags.{book_of}
 use Rattle.ledger_laws.specs.Ledgers.{HasWholeChains, HasNoneSpentTwice, hashed_to_sign}
 use Rattle.contract_laws.specs.Lawful.{Contracts, AreLawful}
 use Rattle.contract_laws.specs.Values.{KeepsValue, KeepsAllValue}
-use Rattle.contract_laws.specs.Supply.{without_tags, IsBacked, IsAtNode, gathered, recorded_by_all, AreToldApart, AreBacked}
+use Rattle.contract_laws.specs.Supply.{without_tags, IsAccounted, IsAtNode, once_by_id, recorded_by_all, AreToldApart, AreAccounted}
 use Rattle.contract_laws.proofs.Spent.{each_once, apart_once, inputs_once, Item, none_twice}
-use Rattle.contract_laws.proofs.Supply.{backed}
+use Rattle.contract_laws.proofs.Supply.{accounted}
 
 -- ---- gathering
 
@@ -49,35 +49,35 @@ apart_from [] stx new = tt
 apart_from (x ∷ xs) stx new = let both = or_parts (hash_eq (tx_id stx.tx) (tx_id x.tx)) (is_stored (with_ids xs) (tx_id stx.tx)) new in
     (ap (λ b. b || false) (hash_swapped (tx_id x.tx) (tx_id stx.tx) ∙ both.0), apart_from xs stx both.1)
 
-gather_once : (found more : List SignedTx) → has_repeat (λ u t. hash_eq t.0 u.0) (without_tags found) ≡ false → has_repeat (λ u t. hash_eq t.0 u.0) (without_tags (gathered found more)) ≡ false
+gather_once : (found more : List SignedTx) → has_repeat (λ u t. hash_eq t.0 u.0) (without_tags found) ≡ false → has_repeat (λ u t. hash_eq t.0 u.0) (without_tags (once_by_id found more)) ≡ false
 gather_once found [] once = once
 gather_once found (x ∷ more) once = by (is_stored (with_ids found) (tx_id x.tx)) refl (λ next o. gather_once next more o)
   where
-    by : (b : Bool) → is_stored (with_ids found) (tx_id x.tx) ≡ b → ((next : List SignedTx) → has_repeat (λ u t. hash_eq t.0 u.0) (without_tags next) ≡ false → has_repeat (λ u t. hash_eq t.0 u.0) (without_tags (gathered next more)) ≡ false)
-        → has_repeat (λ u t. hash_eq t.0 u.0) (without_tags (gathered (cond b found (found ++ x ∷ [])) more)) ≡ false
+    by : (b : Bool) → is_stored (with_ids found) (tx_id x.tx) ≡ b → ((next : List SignedTx) → has_repeat (λ u t. hash_eq t.0 u.0) (without_tags next) ≡ false → has_repeat (λ u t. hash_eq t.0 u.0) (without_tags (once_by_id next more)) ≡ false)
+        → has_repeat (λ u t. hash_eq t.0 u.0) (without_tags (once_by_id (cond b found (found ++ x ∷ [])) more)) ≡ false
     by true e go = go found once
     by false e go = go (found ++ x ∷ []) (subst (λ (l : List (Hash32 × Tx)). has_repeat (λ u t. hash_eq t.0 u.0) l ≡ false) (sym (ids_push found x))
         (apart_once (λ u t. hash_eq t.0 u.0) (without_tags found) ((tx_id x.tx, x.tx) ∷ []) once refl (apart_from found x e)))
 
-gather_all : (P : SignedTx → Type 0) (found more : List SignedTx) → AllByRecursion P found → AllByRecursion P more → AllByRecursion P (gathered found more)
+gather_all : (P : SignedTx → Type 0) (found more : List SignedTx) → AllByRecursion P found → AllByRecursion P more → AllByRecursion P (once_by_id found more)
 gather_all P found [] all rest = all
 gather_all P found (x ∷ more) all rest = by (is_stored (with_ids found) (tx_id x.tx)) (λ next a. gather_all P next more a rest.1)
   where
-    by : (b : Bool) → ((next : List SignedTx) → AllByRecursion P next → AllByRecursion P (gathered next more)) → AllByRecursion P (gathered (cond b found (found ++ x ∷ [])) more)
+    by : (b : Bool) → ((next : List SignedTx) → AllByRecursion P next → AllByRecursion P (once_by_id next more)) → AllByRecursion P (once_by_id (cond b found (found ++ x ∷ [])) more)
     by true go = go found all
     by false go = go (found ++ x ∷ []) (all_push P found x all rest.0)
 
-gather_keeps : (found more : List SignedTx) (id : Hash32) → is_stored (with_ids found) id ≡ true → is_stored (with_ids (gathered found more)) id ≡ true
+gather_keeps : (found more : List SignedTx) (id : Hash32) → is_stored (with_ids found) id ≡ true → is_stored (with_ids (once_by_id found more)) id ≡ true
 gather_keeps found [] id there = there
 gather_keeps found (x ∷ more) id there = by (is_stored (with_ids found) (tx_id x.tx)) (λ next t. gather_keeps next more id t)
   where
-    by : (b : Bool) → ((next : List SignedTx) → is_stored (with_ids next) id ≡ true → is_stored (with_ids (gathered next more)) id ≡ true) → is_stored (with_ids (gathered (cond b found (found ++ x ∷ [])) more)) id ≡ true
+    by : (b : Bool) → ((next : List SignedTx) → is_stored (with_ids next) id ≡ true → is_stored (with_ids (once_by_id next more)) id ≡ true) → is_stored (with_ids (once_by_id (cond b found (found ++ x ∷ [])) more)) id ≡ true
     by true go = go found there
     by false go = go (found ++ x ∷ []) (stored_push found (x ∷ []) id ∙ ap (λ b. b || is_stored (with_ids (x ∷ [])) id) there)
 
--- the id of a transaction is among these once more are gathered
+-- the id of a transaction is among these once more are once_by_id
 abbrev Has : List SignedTx → List SignedTx → SignedTx → Type 0
-Has found more stx = is_stored (with_ids (gathered found more)) (tx_id stx.tx) ≡ true
+Has found more stx = is_stored (with_ids (once_by_id found more)) (tx_id stx.tx) ≡ true
 
 gather_has : (found more : List SignedTx) → AllByRecursion (Has found more) more
 gather_has found [] = tt
@@ -200,23 +200,23 @@ module _ {F : Type 0} (e : Environment F) (net : List (NodeState F)) (told : Are
 
 -- ---- both
 
-pub are_backed : {F : Type 0} (contracts : Contracts) (e : Environment F) (net : List (NodeState F)) → HasWholeChains e net → HasNoneSpentTwice e net → AreLawful contracts e net → KeepsAllValue e net → AreBacked e net
-are_backed {F} contracts e net chains spent lawful values = record { each = each; together = together }
+pub are_accounted : {F : Type 0} (contracts : Contracts) (e : Environment F) (net : List (NodeState F)) → HasWholeChains e net → HasNoneSpentTwice e net → AreLawful contracts e net → KeepsAllValue e net → AreAccounted e net
+are_accounted {F} contracts e net chains spent lawful values = record { each = each; together = together }
   where
     once_each : (stx : SignedTx) → IsAtNode net stx → has_repeat ref_eq stx.tx.inputs ≡ false
     once_each stx i = let one = lawful i.node i.place i.state stx i.up i.there in inputs_once stx.tx one.states one.rules
 
-    each : (p : ℕ) (s : NodeState F) → slice_get net p ≡ Some s → AllByRecursion (λ stx. AreApart (hashed_to_sign (book_of e net) stx.tx)) s.stored → IsBacked s.stored
+    each : (p : ℕ) (s : NodeState F) → slice_get net p ≡ Some s → AllByRecursion (λ stx. AreApart (hashed_to_sign (book_of e net) stx.tx)) s.stored → IsAccounted s.stored
     each p s at apart =
         let differ = each_once [] (with_ids s.stored) (chains p s at).ordered in
         let items = all_from_get (Item e net spent) s.stored (λ n stx there.
             let i : IsAtNode net stx = record { node = p; state = s; up = at; place = n; there = there } in
             record { there = i; apart = all_get (λ x. AreApart (hashed_to_sign (book_of e net) x.tx)) s.stored n stx apart there; once = once_each stx i }) in
-        backed s.stored differ (all_from_get (λ stx. KeepsValue s.stored stx.tx) s.stored (λ n stx there. values p n s stx at there)) (none_twice e net spent s.stored items differ)
+        accounted s.stored differ (all_from_get (λ stx. KeepsValue s.stored stx.tx) s.stored (λ n stx there. values p n s stx at there)) (none_twice e net spent s.stored items differ)
 
-    together : AreToldApart e net → IsBacked (recorded_by_all net)
+    together : AreToldApart e net → IsAccounted (recorded_by_all net)
     together told =
         let all = recorded_by_all net in
         let items = all_from_get (Item e net spent) all (λ n stx there.
             let i = all_get (IsAtNode net) all n stx (all_recorded e net told) there in record { there = i; apart = told.signed stx i; once = once_each stx i }) in
-        backed all (once e net told) (all_kept e net told values) (none_twice e net spent all items (once e net told))
+        accounted all (once e net told) (all_kept e net told values) (none_twice e net spent all items (once e net told))

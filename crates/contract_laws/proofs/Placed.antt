@@ -17,11 +17,11 @@ use Rattle.contract_laws.specs.Everywhere.{Everywhere}
 use Rattle.contract_laws.specs.Lawful.{Contracts, AreLawful}
 use Rattle.contract_laws.specs.Values.{GovernsCash, KeepsAllValue}
 use Rattle.contract_laws.specs.Authority.{AreSignedFor}
-use Rattle.contract_laws.specs.Supply.{AreBacked}
+use Rattle.contract_laws.specs.Supply.{AreAccounted}
 use Rattle.contract_laws.proofs.Lawful.{lawful}
 use Rattle.contract_laws.proofs.Values.{keeps_value}
 use Rattle.contract_laws.proofs.Authority.{signed_for}
-use Rattle.contract_laws.proofs.Gathered.{are_backed}
+use Rattle.contract_laws.proofs.Gathered.{are_accounted}
 
 module _ {F : Type 0} (m : Meaning F) (fact : Environment F → List (NodeState F) → Type 0) where
   abbrev e : Identity → Environment F
@@ -75,6 +75,6 @@ module _ {F : Type 0} (machine : Machine F) (frame_at : List ℕ → Result (F �
     pub all_signed_for : Everywhere judged AreSignedFor
     all_signed_for = from_chains judged AreSignedFor (λ id net whole. signed_for contracts cash (environment judged id) net refl (stores_of (environment judged id) net whole))
 
-    pub all_backed : KeepsTags machine → BeginsBare machine → Everywhere judged AreBacked
-    all_backed keeps bare = from_both judged AreBacked keeps bare (λ id. accepted_names contracts)
-        (λ id net whole spent. are_backed contracts (environment judged id) net whole spent (are_lawful id net whole) (keep_value id net whole))
+    pub all_accounted : KeepsTags machine → BeginsBare machine → Everywhere judged AreAccounted
+    all_accounted keeps bare = from_both judged AreAccounted keeps bare (λ id. accepted_names contracts)
+        (λ id net whole spent. are_accounted contracts (environment judged id) net whole spent (are_lawful id net whole) (keep_value id net whole))

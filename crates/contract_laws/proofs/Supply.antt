@@ -16,7 +16,7 @@ use Rattle.ledger_types.specs.Vaults.{all_outputs, outputs_from}
 use Rattle.cash_contract.specs.Clauses.{value_in, value_issued, value_exited}
 use Rattle.net_model.specs.State.{with_ids}
 use Rattle.contract_laws.specs.Values.{has_cash, KeepsValue}
-use Rattle.contract_laws.specs.Supply.{without_tags, outstanding, issued_over, exited_over, issued_in, exited_in, IsBacked}
+use Rattle.contract_laws.specs.Supply.{without_tags, outstanding, issued_over, exited_over, issued_in, exited_in, IsAccounted}
 use Rattle.contract_laws.proofs.Outputs.{amount, hit, all_left, all_named, made, inputs_of, unconsumed_is, balances_within}
 
 -- ---- one transaction
@@ -83,8 +83,8 @@ module _ (token : Token) (stored : List SignedTx) (once : has_repeat (λ u t. ha
       omega (arith, unconsumed_is token (without_tags stored), all_left token outputs (inputs_of (without_tags stored)) none_twice, all_kept stored kept)
 
 -- where in addition none of them consumes a state twice
-pub backed : (stored : List SignedTx) → has_repeat (λ u t. hash_eq t.0 u.0) (without_tags stored) ≡ false → AllByRecursion (λ stx. KeepsValue stored stx.tx) stored → has_repeat ref_eq (inputs_of (without_tags stored)) ≡ false → IsBacked stored
-backed stored once kept none_twice = record {
+pub accounted : (stored : List SignedTx) → has_repeat (λ u t. hash_eq t.0 u.0) (without_tags stored) ≡ false → AllByRecursion (λ stx. KeepsValue stored stx.tx) stored → has_repeat ref_eq (inputs_of (without_tags stored)) ≡ false → IsAccounted stored
+accounted stored once kept none_twice = record {
   whole = λ token. whole token stored once kept none_twice;
   held = λ token parties locks differ. balances_within token (without_tags stored) locks parties differ;
 }

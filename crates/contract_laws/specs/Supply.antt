@@ -51,7 +51,7 @@ abbrev pub exited_in : Token → List SignedTx → ℕ
 exited_in token stored = sum_by (λ stx. exited_over token stx.tx (resolved_of (with_ids stored) stx.tx)) stored
 
 -- of every token, what is outstanding is what was issued less what was exited; and the balances of different parties by these transactions, together, are no more, whatever is locked
-pub record IsBacked (stored : List SignedTx) : Type 0 where
+pub record IsAccounted (stored : List SignedTx) : Type 0 where
   pub whole : (token : Token) → outstanding token stored + exited_in token stored ≡ issued_in token stored
   pub held : (token : Token) (parties : List Party) (locks : Party → List Lock) → has_repeat party_eq parties ≡ false → sum_by (λ me. balance_of token (vault_of me (without_tags stored) (locks me))) parties ≤ outstanding token stored
 
@@ -66,13 +66,13 @@ pub record IsAtNode {F : Type 0} (net : List (NodeState F)) (stx : SignedTx) : T
   pub there : slice_get state.stored place ≡ Some stx
 
 -- those found so far, and of more each whose id is not among them
-abbrev pub gathered : List SignedTx → List SignedTx → List SignedTx
-gathered found [] = found
-gathered found (stx ∷ more) = gathered (if is_stored (with_ids found) (tx_id stx.tx) then found else found ++ stx ∷ []) more
+abbrev pub once_by_id : List SignedTx → List SignedTx → List SignedTx
+once_by_id found [] = found
+once_by_id found (stx ∷ more) = once_by_id (if is_stored (with_ids found) (tx_id stx.tx) then found else found ++ stx ∷ []) more
 
 -- what all nodes recorded, each id once
 abbrev pub recorded_by_all : {F : Type 0} → List (NodeState F) → List SignedTx
-recorded_by_all net = gathered [] (flat_map (λ s. s.stored) net)
+recorded_by_all net = once_by_id [] (flat_map (λ s. s.stored) net)
 
 -- of what was hashed to sign a recorded transaction no digests collide, and none is all zeros or all ones; and two that have one id are one
 pub record AreToldApart {F : Type 0} (e : Environment F) (net : List (NodeState F)) : Type 0 where
@@ -80,6 +80,6 @@ pub record AreToldApart {F : Type 0} (e : Environment F) (net : List (NodeState 
   pub named : (one other : SignedTx) → IsAtNode net one → IsAtNode net other → tx_id one.tx ≡ tx_id other.tx → one.tx ≡ other.tx
 
 -- so it is at each node for whose transactions no digests of what was hashed to sign them collide, and none is all zeros or all ones; and of all nodes together, where all that they recorded is told apart
-pub record AreBacked {F : Type 0} (e : Environment F) (net : List (NodeState F)) : Type 0 where
-  pub each : (p : ℕ) (s : NodeState F) → slice_get net p ≡ Some s → AllByRecursion (λ stx. AreApart (hashed_to_sign (book_of e net) stx.tx)) s.stored → IsBacked s.stored
-  pub together : AreToldApart e net → IsBacked (recorded_by_all net)
+pub record AreAccounted {F : Type 0} (e : Environment F) (net : List (NodeState F)) : Type 0 where
+  pub each : (p : ℕ) (s : NodeState F) → slice_get net p ≡ Some s → AllByRecursion (λ stx. AreApart (hashed_to_sign (book_of e net) stx.tx)) s.stored → IsAccounted s.stored
+  pub together : AreToldApart e net → IsAccounted (recorded_by_all net)

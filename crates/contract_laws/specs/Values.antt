@@ -19,7 +19,7 @@ GovernsCash contracts = (tx : Tx) (states : Resolved) → contracts 1 tx states 
 abbrev pub has_cash : Tx → Resolved → Bool
 has_cash tx states = governs states.inputs 1 || governs tx.outputs 1
 
--- where a transaction consumes or makes Cash the Cash contract accepts it with the states that it names among those recorded, and of every token what goes in and is issued is what goes out and is exited; elsewhere nothing goes in or out
+-- where a transaction consumes or makes Cash the Cash contract accepts it with the states that it names among those recorded, and of every token what goes in and is issued is what goes out and is exited; elsewhere no Cash goes in or out
 pub record KeepsValue (stored : List SignedTx) (tx : Tx) : Type 0 where
   pub states : Resolved
   pub resolves : resolved_of (with_ids stored) tx ≡ Some states

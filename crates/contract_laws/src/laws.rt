@@ -6,7 +6,7 @@ ghost use Rattle.contract_laws.specs.Everywhere.{Everywhere};
 ghost use Rattle.contract_laws.specs.Lawful.{Contracts, AreLawful};
 ghost use Rattle.contract_laws.specs.Values.{GovernsCash, KeepsAllValue};
 ghost use Rattle.contract_laws.specs.Authority.{AreSignedFor};
-ghost use Rattle.contract_laws.specs.Supply.{AreBacked};
+ghost use Rattle.contract_laws.specs.Supply.{AreAccounted};
 
 use flow_machine::FlowSet;
 
@@ -14,7 +14,8 @@ use flow_machine::FlowSet;
 /// those recorded with it, and that the contract of each state that it consumes or makes is there and accepts it.
 ///
 /// Whatever the contracts and the flows are, it holds of every coherent world, whichever journals power cuts leave of it; at every moment of
-/// a way, also within a call of a disk, whichever images power cuts leave of the disks; and so throughout a script (`story_laws`).
+/// a way, also within a call of a disk, whichever images power cuts leave of the disks; and so throughout a script but within `workers`
+/// (`story_laws`).
 pub fn recorded_is_accepted_by_each<F>()
     ensures { (m : Machine F) (frame_at : List ℕ → Result (F × List ℕ) ℕ) (contracts : Contracts)
         → Everywhere (meaning m frame_at (verdict_of contracts)) (AreLawful contracts) }
@@ -40,12 +41,12 @@ pub fn recorded_cash_is_signed_for<F>()
 
 /// The law that, of every token, the Cash that recorded transactions leave unconsumed is what they issued less what they exited, and that the
 /// balances of different parties by them, together, are no more: of the transactions of each node, and of those of all nodes together, each id
-/// once.
+/// once. Commands of transactions without Cash count for nothing.
 ///
 /// It asks what `recorded_cash_is_conserved` does, and what `no_state_is_spent_twice` (`ledger_laws`) does: of flows, that none makes a tag up;
-/// and that SHA-256 tells apart what was hashed to sign each of these transactions. Over all nodes it asks too that two recorded transactions
-/// of one id are one. It holds where the laws above do.
+/// and that SHA-256 tells apart what was hashed to sign each of these transactions, and gives no digest of all zeros or all ones. Over all
+/// nodes it asks too that two recorded transactions of one id are one. It holds where the laws above do.
 pub fn outstanding_cash_was_issued<F: FlowSet>()
     ensures { (contracts : Contracts) → GovernsCash contracts
-        → Everywhere (meaning F.machine F.reading (verdict_of contracts)) AreBacked }
+        → Everywhere (meaning F.machine F.reading (verdict_of contracts)) AreAccounted }
 {}

@@ -110,7 +110,7 @@ fn law_shipped(book: &ContractBook)
     let _ = book;
 }
 
-/// The law of what the program's nodes record, by its flows and contracts. It does nothing when it runs.
+/// The laws of what nodes record that go by the program's flows and contracts. It does nothing when it runs.
 fn law_of_ledgers()
     ensures { KeepsLedgers
         (meaning ⟦<AppFlow as FlowSet>⟧.machine ⟦<AppFlow as Spelt>⟧.reading shipped) shipped_told }
@@ -121,9 +121,9 @@ fn law_of_ledgers()
     outstanding_cash_was_issued::<AppFlow>();
 }
 
-/// Runs a script with the flows and the contracts that the program ships, and gives what the run leaves. Its clause is that of `run`; what its
-/// nodes record is accepted by these contracts, signed for and makes no value, in every coherent world, at every moment of a way and
-/// throughout a script. Where there is no memory for the contracts nothing was read or written.
+/// Runs a script with the flows and the contracts that the program ships, and gives what the run leaves. Its first clause is that of `run`. The
+/// second speaks of no single run: it has the laws of `contract_laws` at these flows and contracts. Where there is no memory for the contracts
+/// nothing was read or written.
 fn run_shipped<R: Threads + Wait + Sync, S: Source, K: Sink, B: Bay + Send>(
     rt: &R,
     alloc: Global,

@@ -8,5 +8,5 @@ returns c = record {
   lawful = c.recorded_is_accepted_by_each.ensures _ _ shipped_told;
   conserved = c.recorded_cash_is_conserved.ensures _ _ shipped_told (λ tx states. refl);
   signed = c.recorded_cash_is_signed_for.ensures _ _ shipped_told (λ tx states. refl);
-  backed = c.outstanding_cash_was_issued.ensures shipped_told (λ tx states. refl);
+  accounted = c.outstanding_cash_was_issued.ensures shipped_told (λ tx states. refl);
 }
