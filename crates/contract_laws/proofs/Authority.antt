@@ -1,8 +1,7 @@
 -- What the Cash contract asks to sign has signed.
-use Rattle.std.proofs.Common.{◌≡◌, ◌⊎◌, inl, inr, ℕ, zero, suc, ◌+◌, ◌<◌, ◌≤◌, ◌==◌, ◌&&◌, ◌||◌, not, Bool, true, false, List, [], ◌∷◌, Option, Some, None, slice_get, refl, sym, ap, subst, ◌∙◌, arith, true≢false}
+use Rattle.std.proofs.Common.{◌≡◌, ◌⊎◌, inl, inr, ℕ, zero, suc, ◌+◌, ◌<◌, ◌≤◌, ◌==◌, ◌&&◌, ◌||◌, Bool, true, false, List, [], ◌∷◌, None, refl, sym, subst, arith}
 use Rattle.std.specs.List.{AllByRecursion, Contains, list_any, list_all, range_with_len}
 use Rattle.std.proofs.lemmas.Bool.{and_parts, or_parts, or_left, or_right, not-false, eqb-false}
-use Rattle.std.proofs.lemmas.Bool.Decides.{Decides-eqb}
 use Rattle.net_base.specs.declared.values.Hash32.{Hash32}
 use Rattle.net_base.specs.declared.values.Party.{Party}
 use Rattle.net_base.specs.declared.names.Token.{Token}
@@ -20,13 +19,13 @@ use Rattle.ledger_types.specs.declared.tx.SignedTx.{SignedTx}
 use Rattle.ledger_types.specs.declared.verdict.Verdict.TheVariants as verdict
 use Rattle.ledger_types.specs.Signatures.{signs_command, needs, has_signed, is_signed}
 use Rattle.ledger_types.specs.Verdicts.{contract_of, governs, verdict_of}
-use Rattle.cash_contract.specs.Clauses.{cash_says, clauses, is_unbacked, is_unsigned_cash, is_unsigned_exit, is_taken, spends, signs_spending, has_unbacked_issue, has_unsigned_exit, takes_cash}
+use Rattle.cash_contract.specs.Clauses.{cash_says, clauses, is_unbacked, is_unsigned_cash, is_unsigned_exit, is_taken, spends, signs_spending}
 use Rattle.net_model.specs.Environment.{Environment}
 use Rattle.net_model.specs.State.{NodeState}
 use Rattle.net_model.specs.Stores.{IsProven, StoresHold}
 use Rattle.contract_laws.specs.Lawful.{Contracts}
-use Rattle.contract_laws.specs.Values.{GovernsCash, has_cash}
-use Rattle.contract_laws.specs.Authority.{IsSignedFor, AreSignedFor}
+use Rattle.contract_laws.specs.Values.{GovernsCash}
+use Rattle.contract_laws.specs.Authority.{AreSignedFor}
 use Rattle.contract_laws.proofs.Lawful.{all_false, kept, governed}
 use Rattle.contract_laws.proofs.Values.{cash_accepts}
 

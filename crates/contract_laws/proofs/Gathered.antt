@@ -2,7 +2,6 @@
 use Rattle.std.proofs.Common.{◌≡◌, ℕ, zero, suc, ◌||◌, Bool, true, false, cond, List, [], ◌∷◌, ◌++◌, Option, Some, None, slice_get, flat_map, option_map, option_and_then, refl, sym, ap, subst, ◌∙◌}
 use Rattle.std.specs.List.{AllByRecursion, list_any}
 use Rattle.std.proofs.lemmas.Bool.{or_parts}
-use Rattle.std.proofs.lemmas.List.Folds.{list_any-append}
 use Rattle.net_base.specs.declared.values.Hash32.{Hash32}
 use Rattle.net_base.specs.declared.names.StateRef.{StateRef}
 use Rattle.net_base.proofs.Lists.{all_append, all_front, all_from_get, all_get, all_push}
@@ -89,10 +88,11 @@ gather_has found (x ∷ more) = by (is_stored (with_ids found) (tx_id x.tx)) ref
 
     by : (b : Bool) → is_stored (with_ids found) (tx_id x.tx) ≡ b → ((next : List SignedTx) → AllByRecursion (Has next more) more) → AllByRecursion (Has (cond b found (found ++ x ∷ [])) more) (x ∷ more)
     by true e rest = (gather_keeps found more (tx_id x.tx) e, rest found)
-    by false e rest =
-        (gather_keeps (found ++ x ∷ []) more (tx_id x.tx)
-            (stored_push found (x ∷ []) (tx_id x.tx) ∙ ap (λ b. is_stored (with_ids found) (tx_id x.tx) || (b || false)) (hash_same (tx_id x.tx)) ∙ last (is_stored (with_ids found) (tx_id x.tx))),
-         rest (found ++ x ∷ []))
+    by false e rest = (
+      gather_keeps (found ++ x ∷ []) more (tx_id x.tx)
+          (stored_push found (x ∷ []) (tx_id x.tx) ∙ ap (λ b. is_stored (with_ids found) (tx_id x.tx) || (b || false)) (hash_same (tx_id x.tx)) ∙ last (is_stored (with_ids found) (tx_id x.tx))),
+      rest (found ++ x ∷ []),
+    )
 
 -- ---- lists of lists
 
@@ -143,7 +143,7 @@ module _ {F : Type 0} (e : Environment F) (net : List (NodeState F)) (told : Are
   all_recorded : AllByRecursion (IsAtNode net) all
   all_recorded = gather_all (IsAtNode net) [] (flat_map (λ s. s.stored) net) tt
       (all_flat (IsAtNode net) (λ s. s.stored) net (all_from_get (λ s. AllByRecursion (IsAtNode net) s.stored) net
-          (λ p s at. all_from_get (IsAtNode net) s.stored (λ n stx there. at_place p n s stx at there))))
+      (λ p s at. all_from_get (IsAtNode net) s.stored (λ n stx there. at_place p n s stx at there))))
 
   once : has_repeat (λ u t. hash_eq t.0 u.0) (without_tags all) ≡ false
   once = gather_once [] (flat_map (λ s. s.stored) net) refl
@@ -210,13 +210,13 @@ are_accounted {F} contracts e net chains spent lawful values = record { each = e
     each p s at apart =
         let differ = each_once [] (with_ids s.stored) (chains p s at).ordered in
         let items = all_from_get (Item e net spent) s.stored (λ n stx there.
-            let i : IsAtNode net stx = record { node = p; state = s; up = at; place = n; there = there } in
-            record { there = i; apart = all_get (λ x. AreApart (hashed_to_sign (book_of e net) x.tx)) s.stored n stx apart there; once = once_each stx i }) in
+        let i : IsAtNode net stx = record { node = p; state = s; up = at; place = n; there = there } in
+        record { there = i; apart = all_get (λ x. AreApart (hashed_to_sign (book_of e net) x.tx)) s.stored n stx apart there; once = once_each stx i }) in
         accounted s.stored differ (all_from_get (λ stx. KeepsValue s.stored stx.tx) s.stored (λ n stx there. values p n s stx at there)) (none_twice e net spent s.stored items differ)
 
     together : AreToldApart e net → IsAccounted (recorded_by_all net)
     together told =
         let all = recorded_by_all net in
         let items = all_from_get (Item e net spent) all (λ n stx there.
-            let i = all_get (IsAtNode net) all n stx (all_recorded e net told) there in record { there = i; apart = told.signed stx i; once = once_each stx i }) in
+        let i = all_get (IsAtNode net) all n stx (all_recorded e net told) there in record { there = i; apart = told.signed stx i; once = once_each stx i }) in
         accounted all (once e net told) (all_kept e net told values) (none_twice e net spent all items (once e net told))

@@ -1,5 +1,5 @@
 -- What is accepted keeps the rules, and each contract of its states accepts it.
-use Rattle.std.proofs.Common.{◌≡◌, ℕ, zero, suc, ◌==◌, ◌||◌, Bool, true, false, cond, List, [], ◌∷◌, Option, Some, None, filter, find, option_map, slice_get, refl, sym, ap, subst, ◌∙◌, arith}
+use Rattle.std.proofs.Common.{◌≡◌, ℕ, zero, suc, ◌==◌, ◌||◌, Bool, true, false, cond, List, [], ◌∷◌, Option, Some, None, filter, find, option_map, refl, sym, subst, arith}
 use Rattle.std.specs.List.{AllByRecursion, Contains, list_any}
 use Rattle.std.proofs.lemmas.Bool.{or_left, or_right}
 use Rattle.std.proofs.lemmas.Bool.Decides.{Decides-eqb}
@@ -9,7 +9,6 @@ use Rattle.ledger_types.specs.declared.state.StateData.TheVariants.{Cash, TimeLo
 use Rattle.ledger_types.specs.declared.state.TxState.{TxState}
 use Rattle.ledger_types.specs.declared.tx.Tx.{Tx}
 use Rattle.ledger_types.specs.declared.tx.Resolved.{Resolved}
-use Rattle.ledger_types.specs.declared.tx.SignedTx.{SignedTx}
 use Rattle.ledger_types.specs.declared.verdict.Verdict.{Verdict}
 use Rattle.ledger_types.specs.declared.verdict.Verdict.TheVariants as verdict
 use Rattle.ledger_types.specs.Rules.{first_true, first_broken}
@@ -17,7 +16,7 @@ use Rattle.ledger_types.specs.Verdicts.{contract_of, governs, contracts_on, goes
 use Rattle.net_model.specs.Environment.{Environment}
 use Rattle.net_model.specs.State.{NodeState}
 use Rattle.net_model.specs.Stores.{IsProven, StoresHold}
-use Rattle.contract_laws.specs.Lawful.{Contracts, IsLawful, AreLawful}
+use Rattle.contract_laws.specs.Lawful.{Contracts, AreLawful}
 
 -- ---- a verdict
 

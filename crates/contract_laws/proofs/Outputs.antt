@@ -1,5 +1,5 @@
 -- The outputs of recorded transactions: what a reference names is one of them, and what of a token is left once references are consumed.
-use Rattle.std.proofs.Common.{◌≡◌, ℕ, zero, suc, ◌+◌, ◌<◌, ◌≤◌, ◌==◌, ◌&&◌, ◌||◌, not, Bool, true, false, cond, List, [], ◌∷◌, ◌++◌, map, Option, Some, None, filter, sum_by, flat_map, find, slice_get, option_map, option_and_then, bytes_eq, refl, sym, ap, subst, ◌∙◌, arith}
+use Rattle.std.proofs.Common.{◌≡◌, ℕ, zero, suc, ◌+◌, ◌<◌, ◌≤◌, ◌==◌, ◌&&◌, ◌||◌, not, Bool, true, false, cond, List, [], ◌∷◌, Option, Some, None, filter, sum_by, flat_map, slice_get, refl, sym, ap, subst, ◌∙◌, arith}
 use Rattle.std.specs.List.{list_any}
 use Rattle.std.proofs.lemmas.Bool.{and_left, and_right, or_parts, and_from, ne_eqb}
 use Rattle.std.proofs.lemmas.Bool.Decides.{Decides-eqb}
@@ -17,7 +17,7 @@ use Rattle.ledger_types.specs.declared.tx.Tx.{Tx}
 use Rattle.ledger_types.specs.declared.tx.SignedTx.{SignedTx}
 use Rattle.ledger_types.specs.declared.held.Held.{Held}
 use Rattle.ledger_types.specs.Names.{hash_eq, ref_eq, has_ref, has_repeat, party_eq, token_eq}
-use Rattle.ledger_types.specs.Stores.{stored_of, state_of, states_of, untagged}
+use Rattle.ledger_types.specs.Stores.{state_of, states_of, untagged}
 use Rattle.ledger_types.specs.Tears.{joined}
 use Rattle.ledger_types.specs.Vaults.{Lock, held, outputs_from, is_consumed, all_outputs, is_relevant, vault_of, is_cash_of, cash_amount, balance_of}
 use Rattle.ledger_types.proofs.Names.{hash_exact, hash_swapped, ref_exact, ref_swapped}

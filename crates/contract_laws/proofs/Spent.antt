@@ -1,5 +1,5 @@
 -- Recorded transactions of different ids, told apart, consume no state twice.
-use Rattle.std.proofs.Common.{◌≡◌, ℕ, zero, suc, ◌+◌, ◌&&◌, ◌||◌, not, Bool, true, false, cond, List, [], ◌∷◌, ◌++◌, Option, Some, None, slice_get, option_map, find, true≢false, refl, sym, ap, ◌∙◌, arith}
+use Rattle.std.proofs.Common.{◌≡◌, ℕ, zero, suc, ◌||◌, not, Bool, true, false, List, [], ◌∷◌, ◌++◌, Some, None, slice_get, true≢false, refl, sym, ap, ◌∙◌, arith}
 use Rattle.std.specs.List.{AllByRecursion, Contains, list_any}
 use Rattle.std.proofs.lemmas.Bool.{and_parts, or_parts, or_from, not-true}
 use Rattle.std.proofs.lemmas.List.Folds.{list_any-append}
@@ -98,7 +98,7 @@ module _ {F : Type 0} (e : Environment F) (net : List (NodeState F)) (spent : Ha
       by : hash_eq (tx_id x.tx) (tx_id y.tx) ≡ false → (b : Bool) → has_ref r y.tx.inputs ≡ b → b ≡ false
       by other true e =
           absurd (spent.once r x y (λ same. true≢false (sym (hash_same (tx_id x.tx)) ∙ (ap (λ (id : Hash32). hash_eq (tx_id x.tx) id) same ∙ other)))
-              (spends r x i has) (spends r y items.0 (one_of y.tx.inputs r e)))
+          (spends r x i has) (spends r y items.0 (one_of y.tx.inputs r e)))
       by other false e = refl
 
   pub none_twice : (xs : List SignedTx) → AllByRecursion Item xs → has_repeat (λ u t. hash_eq t.0 u.0) (without_tags xs) ≡ false → has_repeat ref_eq (inputs_of (without_tags xs)) ≡ false

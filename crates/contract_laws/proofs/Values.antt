@@ -1,9 +1,7 @@
 -- A recorded transaction that has Cash is one that the Cash contract accepts, and of any other no value goes in or out.
-use Rattle.std.proofs.Common.{◌≡◌, ℕ, ◌+◌, ◌==◌, ◌||◌, Bool, true, false, List, [], ◌∷◌, Option, Some, None, sum_by, slice_get, refl, sym, ap, subst, ◌∙◌, arith}
-use Rattle.std.specs.List.{list_any}
+use Rattle.std.proofs.Common.{◌≡◌, ◌==◌, true, false, List, [], ◌∷◌, None, refl, sym, subst, ◌∙◌, arith}
 use Rattle.std.proofs.lemmas.Bool.{or_parts}
 use Rattle.std.proofs.lemmas.List.Sums.{sum_by-cons}
-use Rattle.net_base.specs.declared.values.Party.{Party}
 use Rattle.net_base.specs.declared.names.Token.{Token}
 use Rattle.net_base.proofs.Lists.{all_get}
 use Rattle.net_base.proofs.Options.{some_eq}
@@ -14,13 +12,13 @@ use Rattle.ledger_types.specs.declared.tx.Tx.{Tx}
 use Rattle.ledger_types.specs.declared.tx.Resolved.{Resolved}
 use Rattle.ledger_types.specs.declared.verdict.Verdict.TheVariants as verdict
 use Rattle.ledger_types.specs.Verdicts.{contract_of, governs, verdict_of}
-use Rattle.cash_contract.specs.Clauses.{cash_says, amount_in, value_in, value_issued, value_exited}
+use Rattle.cash_contract.specs.Clauses.{cash_says, amount_in, value_in}
 use Rattle.cash_contract.proofs.Conserved.{conserves}
 use Rattle.net_model.specs.Environment.{Environment}
 use Rattle.net_model.specs.State.{NodeState}
 use Rattle.net_model.specs.Stores.{IsProven, StoresHold}
 use Rattle.contract_laws.specs.Lawful.{Contracts}
-use Rattle.contract_laws.specs.Values.{GovernsCash, has_cash, KeepsValue, KeepsAllValue}
+use Rattle.contract_laws.specs.Values.{GovernsCash, has_cash, KeepsAllValue}
 use Rattle.contract_laws.proofs.Lawful.{accepts}
 
 -- a state that is not Cash has no amount

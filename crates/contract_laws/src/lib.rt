@@ -5,4 +5,7 @@
 
 mod laws;
 
-pub use laws::{outstanding_cash_was_issued, recorded_cash_is_conserved, recorded_cash_is_signed_for, recorded_is_accepted_by_each};
+pub use laws::{
+    outstanding_cash_was_issued, recorded_cash_is_conserved, recorded_cash_is_signed_for,
+    recorded_is_accepted_by_each,
+};
