@@ -1,7 +1,6 @@
 -- What follows from whole back-chains, or from these and that no state is spent twice, holds wherever these do: of every coherent world, at every moment of a way, and throughout a script.
-use Rattle.std.proofs.Common.{ℕ, List, map, Result, refl}
+use Rattle.std.proofs.Common.{ℕ, List, Result, refl}
 use Rattle.net_base.specs.declared.names.Identity.{Identity}
-use Rattle.node_core.specs.Disks.{spelt}
 use Rattle.ledger_types.specs.Verdicts.{verdict_of}
 use Rattle.contract_verify.specs.Naming.{accepted_names}
 use Rattle.flow_machine.specs.Machine.{Machine}
