@@ -38,6 +38,10 @@ module _ (mark : Party → Hash32 → Hash32) (me : Identity) where
   unfolding IsBook
   no_book = tt
 
+-- the entry was added for a fresh answer over the entries before it, at this moment
+abbrev pub IsBookedAt : (Party → Hash32 → Hash32) → Identity → List Entry → Moment → Entry → Type 0
+IsBookedAt mark me before now e = ((reply mark before e.request me now).fresh ≡ true) × (entry_of e.request (reply mark before e.request me now).answer ≡ e)
+
 -- a booked entry is the one of a reply over the entries that stand
 abbrev IsReplied : {F : Type 0} → Environment F → ℕ → NodeState F → ℕ → Change → Type 0
 IsReplied w me s now change = (change.booked ≡ None) ⊎ ((q : Request) × (change.booked ≡ booked_by q (reply w.mark s.entries q (identity w me) (record { 0 = now }))))
@@ -71,20 +75,25 @@ module _ {F : Type 0} (w : Environment F) (me : ℕ) (s : NodeState F) (now : �
   does_replied ev body e (arrives key direction number b session i j k l m) = inl (ap (λ (x : Effect F). x.change.booked) m)
   does_replied ev body e (acts f at i j g) = gives_replied at at.waiting e g
 
-  asked : (q : Request) (b : Entry) → booked_by q (reply w.mark s.entries q (identity w me) (record { 0 = now })) ≡ Some b → IsBooked w.mark (identity w me) s.entries b
+  asked : (q : Request) (b : Entry) → booked_by q (reply w.mark s.entries q (identity w me) (record { 0 = now })) ≡ Some b → IsBookedAt w.mark (identity w me) s.entries (record { 0 = now }) b
   asked q b h =
       let at : Moment = record { 0 = now } in
       let a = added w.mark (identity w me) s.entries q at b h in
       let same : q ≡ b.request = ap (λ (x : Entry). x.request) a.is in
-      subst (λ (x : Request). (n : Moment) × ((reply w.mark s.entries x (identity w me) n).fresh ≡ true) × (entry_of x (reply w.mark s.entries x (identity w me) n).answer ≡ b)) same (at, a.fresh, a.is)
+      subst (λ (x : Request). ((reply w.mark s.entries x (identity w me) at).fresh ≡ true) × (entry_of x (reply w.mark s.entries x (identity w me) at).answer ≡ b)) same (a.fresh, a.is)
 
-  replied_booked : (change : Change) → IsReplied w me s now change → (b : Entry) → change.booked ≡ Some b → IsBooked w.mark (identity w me) s.entries b
+  replied_booked : (change : Change) → IsReplied w me s now change → (b : Entry) → change.booked ≡ Some b → IsBookedAt w.mark (identity w me) s.entries (record { 0 = now }) b
   replied_booked change r b h = ⊎_elim (λ k. let no : None ≡ Some b = sym k ∙ h in cc) (λ k. asked k.0 b (sym k.1 ∙ h)) r
+
+-- what a step books is added at the moment of its cause
+pub step_booked : {F : Type 0} (w : Environment F) (p : ℕ) (s : NodeState F) (cause : Cause) (body : Option Body) (e : Effect F) → effect_of w p s cause.moment.0 cause.event body ≡ Some e → (b : Entry) → e.change.booked ≡ Some b
+    → IsBookedAt w.mark (identity w p) s.entries (record { 0 = cause.moment.0 }) b
+step_booked w p s cause body e h b is = replied_booked w p s cause.moment.0 e.change (does_replied w p s cause.moment.0 cause.event body e (effect_does w p s cause.moment.0 cause.event body e h)) b is
 
 pub step_book : {F : Type 0} (w : Environment F) (p : ℕ) (s : NodeState F) (cause : Cause) (body : Option Body) (e : Effect F) → effect_of w p s cause.moment.0 cause.event body ≡ Some e → IsBook w.mark (identity w p) s.entries → IsBook w.mark (identity w p) (apply_effect s cause e).entries
 step_book w p s cause body e h book =
     subst (IsBook w.mark (identity w p)) (sym (apply_entries s cause e))
-    (book_more w.mark (identity w p) s.entries e.change.booked book (replied_booked w p s cause.moment.0 e.change (does_replied w p s cause.moment.0 cause.event body e (effect_does w p s cause.moment.0 cause.event body e h))))
+    (book_more w.mark (identity w p) s.entries e.change.booked book (λ b is. (record { 0 = cause.moment.0 }, step_booked w p s cause body e h b is)))
 
 local_book_from : {F : Type 0} (w : Environment F) (p : ℕ) (s : NodeState F) (rs : List (Record F)) → IsLocalFrom w p s rs → IsBook w.mark (identity w p) s.entries → IsBook w.mark (identity w p) (replay_from s rs).entries
 local_book_from w p s [] h book = book
