@@ -93,7 +93,7 @@ step_booked w p s cause body e h b is = replied_booked w p s cause.moment.0 e.ch
 pub step_book : {F : Type 0} (w : Environment F) (p : ℕ) (s : NodeState F) (cause : Cause) (body : Option Body) (e : Effect F) → effect_of w p s cause.moment.0 cause.event body ≡ Some e → IsBook w.mark (identity w p) s.entries → IsBook w.mark (identity w p) (apply_effect s cause e).entries
 step_book w p s cause body e h book =
     subst (IsBook w.mark (identity w p)) (sym (apply_entries s cause e))
-    (book_more w.mark (identity w p) s.entries e.change.booked book (λ b is. (record { 0 = cause.moment.0 }, step_booked w p s cause body e h b is)))
+    (book_more w.mark (identity w p) s.entries e.change.booked book (λ b is. let at = step_booked w p s cause body e h b is in (record { 0 = cause.moment.0 }, at.0, at.1)))
 
 local_book_from : {F : Type 0} (w : Environment F) (p : ℕ) (s : NodeState F) (rs : List (Record F)) → IsLocalFrom w p s rs → IsBook w.mark (identity w p) s.entries → IsBook w.mark (identity w p) (replay_from s rs).entries
 local_book_from w p s [] h book = book
