@@ -11,7 +11,7 @@ use flow_machine::{
 };
 use ledger_laws::{
     back_chains_are_whole, each_state_has_one_consumer, no_state_is_spent_twice,
-    what_is_held_was_signed,
+    recorded_was_signed_in_its_window, what_is_held_was_signed,
 };
 use net_base::{Cause, one_spelling};
 use net_model::{
@@ -140,6 +140,7 @@ fn of_ledgers() {
     what_is_held_was_signed::<AppFlow, ContractBook>();
     back_chains_are_whole::<AppFlow>();
     no_state_is_spent_twice::<AppFlow, ContractBook>();
+    recorded_was_signed_in_its_window::<AppFlow, ContractBook>();
 }
 
 /// The law of ledgers throughout a script, at the program's flows and contracts.

@@ -32,7 +32,7 @@ use Rattle.contract_laws.proofs.Values.{cash_accepts}
 -- ---- lists
 
 -- what no item passes, none that is contained does; what one passes, some does
-not_one : {X : Type 0} (test : X → Bool) (xs : List X) (x : X) → list_any test xs ≡ false → Contains xs x → test x ≡ false
+pub not_one : {X : Type 0} (test : X → Bool) (xs : List X) (x : X) → list_any test xs ≡ false → Contains xs x → test x ≡ false
 not_one test [] x none (k, lt, is) = absurd (omega (arith, lt))
 not_one test (y ∷ ys) x none (zero, lt, is) = subst (λ z. test z ≡ false) is (or_parts (test y) (list_any test ys) none).0
 not_one test (y ∷ ys) x none (suc k, lt, is) = not_one test ys x (or_parts (test y) (list_any test ys) none).1 (k, omega (arith, lt), is)
@@ -42,7 +42,7 @@ some_one test [] x passes (k, lt, is) = absurd (omega (arith, lt))
 some_one test (y ∷ ys) x passes (zero, lt, is) = or_left (test y) (list_any test ys) (subst (λ z. test z ≡ true) (sym is) passes)
 some_one test (y ∷ ys) x passes (suc k, lt, is) = or_right (test y) (list_any test ys) (some_one test ys x passes (k, omega (arith, lt), is))
 
-weaker : {X : Type 0} (test other : X → Bool) (xs : List X) → ((x : X) → test x ≡ true → other x ≡ true) → list_any test xs ≡ true → list_any other xs ≡ true
+pub weaker : {X : Type 0} (test other : X → Bool) (xs : List X) → ((x : X) → test x ≡ true → other x ≡ true) → list_any test xs ≡ true → list_any other xs ≡ true
 weaker test other [] each some = some
 weaker test other (x ∷ xs) each some = by (test x) refl some (weaker test other xs each)
   where
@@ -87,7 +87,7 @@ module _ (tx : Tx) (states : Resolved) (accepted : cash_says tx states ≡ None)
 
 -- ---- who has to sign has signed
 
-by_signer : (mark : Party → Hash32 → Hash32) (stx : SignedTx) (p : ℕ) → is_signed mark stx ≡ true → p < 16 → signs_command stx.tx p ≡ true → has_signed mark stx p ≡ true
+pub by_signer : (mark : Party → Hash32 → Hash32) (stx : SignedTx) (p : ℕ) → is_signed mark stx ≡ true → p < 16 → signs_command stx.tx p ≡ true → has_signed mark stx p ≡ true
 by_signer mark stx p signed few signs =
     kept (λ q. has_signed mark stx q ≡ true) (needs stx.tx) p (range_with_len 0 16) (or_left (signs_command stx.tx p) _ signs) (in_range 0 16 p (omega arith) (omega (arith, few)))
     (each_passes (has_signed mark stx) _ signed)

@@ -1,6 +1,7 @@
 pub mod Lawful
 pub mod Values
 pub mod Authority
+pub mod Locks
 pub mod Sums
 pub mod Outputs
 pub mod Supply

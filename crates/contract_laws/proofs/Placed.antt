@@ -1,4 +1,4 @@
--- What follows from whole back-chains, or from these and that no state is spent twice, holds wherever these do: of every coherent world, at every moment of a way, and throughout a script.
+-- What follows from whole back-chains, or from these and another law of `ledger_laws`, holds wherever these do: of every coherent world, at every moment of a way, and throughout a script.
 use Rattle.std.proofs.Common.{ℕ, List, Result, refl}
 use Rattle.net_base.specs.declared.names.Identity.{Identity}
 use Rattle.ledger_types.specs.Verdicts.{verdict_of}
@@ -8,46 +8,40 @@ use Rattle.flow_machine.specs.Tags.{KeepsTags, BeginsBare}
 use Rattle.net_model.specs.Environment.{Environment, environment, Meaning, meaning}
 use Rattle.net_model.specs.State.{NodeState}
 use Rattle.net_model.specs.Stores.{StoresHold, NamesNotary}
+use Rattle.network_core.specs.Worlds.{states_of}
 use Rattle.ledger_laws.specs.Ledgers.{HasWholeChains, HasNoneSpentTwice}
-use Rattle.ledger_laws.specs.Places.{Made, InWorlds, OnWays}
-use Rattle.ledger_laws.proofs.Placed.{in_worlds, on_ways, chains_each_run, spent_each_run}
+use Rattle.ledger_laws.specs.Windows.{KeepsWindows}
+use Rattle.ledger_laws.specs.Places.{Fact, Made}
+use Rattle.ledger_laws.proofs.Placed.{OfRuns, in_worlds, on_ways, chains_each_run, spent_each_run, windows_each_run}
 use Rattle.story_laws.proofs.Scripted.{in_scripts}
 use Rattle.contract_laws.specs.Everywhere.{Everywhere}
 use Rattle.contract_laws.specs.Lawful.{Contracts, AreLawful}
 use Rattle.contract_laws.specs.Values.{GovernsCash, KeepsAllValue}
 use Rattle.contract_laws.specs.Authority.{AreSignedFor}
+use Rattle.contract_laws.specs.Locks.{GovernsLocks, KeepsLocks}
 use Rattle.contract_laws.specs.Supply.{AreAccounted}
 use Rattle.contract_laws.proofs.Lawful.{lawful}
 use Rattle.contract_laws.proofs.Values.{keeps_value}
 use Rattle.contract_laws.proofs.Authority.{signed_for}
+use Rattle.contract_laws.proofs.Locks.{open_in_time}
 use Rattle.contract_laws.proofs.Gathered.{are_accounted}
 
-module _ {F : Type 0} (m : Meaning F) (fact : Environment F → List (NodeState F) → Type 0) where
+module _ {F : Type 0} (m : Meaning F) where
   abbrev e : Identity → Environment F
   e id = environment m id
 
-  module _ (turns : (id : Identity) (net : List (NodeState F)) → HasWholeChains (e id) net → fact (e id) net) where
-    worlds : InWorlds m (Made fact)
-    worlds id w lists is coherent choice = turns id _ (in_worlds m (Made HasWholeChains) (chains_each_run m) id w lists is coherent choice)
+  of_runs : (fact : Fact F) → OfRuns m fact → Everywhere m fact
+  of_runs fact by = record { worlds = in_worlds m fact by; moments = on_ways m fact by; scripts = in_scripts m fact (in_worlds m fact by) (on_ways m fact by) }
 
-    moments : OnWays m (Made fact)
-    moments id a b way s images is on choice = turns id _ (on_ways m (Made HasWholeChains) (chains_each_run m) id a b way s images is on choice)
+  pub from_chains : (fact : Environment F → List (NodeState F) → Type 0) → ((id : Identity) (net : List (NodeState F)) → HasWholeChains (e id) net → fact (e id) net) → Everywhere m (Made fact)
+  from_chains fact turns = of_runs (Made fact) (λ id lists is count faithful. turns id _ (chains_each_run m id lists is count faithful))
 
-    pub from_chains : Everywhere m fact
-    from_chains = record { worlds = worlds; moments = moments; scripts = in_scripts m (Made fact) worlds moments }
+  module _ (keeps : KeepsTags m.machine) (bare : BeginsBare m.machine) (names : (id : Identity) → NamesNotary (e id)) where
+    pub from_both : (fact : Environment F → List (NodeState F) → Type 0) → ((id : Identity) (net : List (NodeState F)) → HasWholeChains (e id) net → HasNoneSpentTwice (e id) net → fact (e id) net) → Everywhere m (Made fact)
+    from_both fact turns = of_runs (Made fact) (λ id lists is count faithful. turns id _ (chains_each_run m id lists is count faithful) (spent_each_run m keeps bare names id lists is count faithful))
 
-  module _ (keeps : KeepsTags m.machine) (bare : BeginsBare m.machine) (names : (id : Identity) → NamesNotary (e id))
-      (turns : (id : Identity) (net : List (NodeState F)) → HasWholeChains (e id) net → HasNoneSpentTwice (e id) net → fact (e id) net) where
-    spent_worlds : InWorlds m (Made fact)
-    spent_worlds id w lists is coherent choice =
-        turns id _ (in_worlds m (Made HasWholeChains) (chains_each_run m) id w lists is coherent choice) (in_worlds m (Made HasNoneSpentTwice) (spent_each_run m keeps bare names) id w lists is coherent choice)
-
-    spent_moments : OnWays m (Made fact)
-    spent_moments id a b way s images is on choice =
-        turns id _ (on_ways m (Made HasWholeChains) (chains_each_run m) id a b way s images is on choice) (on_ways m (Made HasNoneSpentTwice) (spent_each_run m keeps bare names) id a b way s images is on choice)
-
-    pub from_both : Everywhere m fact
-    from_both = record { worlds = spent_worlds; moments = spent_moments; scripts = in_scripts m (Made fact) spent_worlds spent_moments }
+    pub from_windows : (fact : Fact F) → ((id : Identity) (lists : List (List (List ℕ))) → HasWholeChains (e id) (states_of (e id) lists) → KeepsWindows (e id) lists → fact (e id) lists) → Everywhere m fact
+    from_windows fact turns = of_runs fact (λ id lists is count faithful. turns id lists (chains_each_run m id lists is count faithful) (windows_each_run m keeps bare names id lists is count faithful))
 
 -- ---- by any contracts
 
@@ -61,19 +55,23 @@ module _ {F : Type 0} (machine : Machine F) (frame_at : List ℕ → Result (F �
   are_lawful : (id : Identity) (net : List (NodeState F)) → HasWholeChains (environment judged id) net → AreLawful contracts (environment judged id) net
   are_lawful id net whole = lawful contracts (environment judged id) net refl (stores_of (environment judged id) net whole)
 
-  pub all_lawful : Everywhere judged (AreLawful contracts)
+  pub all_lawful : Everywhere judged (Made (AreLawful contracts))
   all_lawful = from_chains judged (AreLawful contracts) are_lawful
 
   module _ (cash : GovernsCash contracts) where
     keep_value : (id : Identity) (net : List (NodeState F)) → HasWholeChains (environment judged id) net → KeepsAllValue (environment judged id) net
     keep_value id net whole = keeps_value contracts cash (environment judged id) net refl (stores_of (environment judged id) net whole)
 
-    pub all_value_kept : Everywhere judged KeepsAllValue
+    pub all_value_kept : Everywhere judged (Made KeepsAllValue)
     all_value_kept = from_chains judged KeepsAllValue keep_value
 
-    pub all_signed_for : Everywhere judged AreSignedFor
+    pub all_signed_for : Everywhere judged (Made AreSignedFor)
     all_signed_for = from_chains judged AreSignedFor (λ id net whole. signed_for contracts cash (environment judged id) net refl (stores_of (environment judged id) net whole))
 
-    pub all_accounted : KeepsTags machine → BeginsBare machine → Everywhere judged AreAccounted
-    all_accounted keeps bare = from_both judged AreAccounted keeps bare (λ id. accepted_names contracts)
+    pub all_accounted : KeepsTags machine → BeginsBare machine → Everywhere judged (Made AreAccounted)
+    all_accounted keeps bare = from_both judged keeps bare (λ id. accepted_names contracts) AreAccounted
         (λ id net whole spent. are_accounted contracts (environment judged id) net whole spent (are_lawful id net whole) (keep_value id net whole))
+
+  pub all_opened : GovernsLocks contracts → KeepsTags machine → BeginsBare machine → Everywhere judged KeepsLocks
+  all_opened locks keeps bare = from_windows judged keeps bare (λ id. accepted_names contracts) KeepsLocks
+      (λ id lists whole windows. open_in_time contracts locks (environment judged id) lists _ refl (stores_of (environment judged id) _ whole) windows)

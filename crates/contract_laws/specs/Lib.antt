@@ -2,4 +2,5 @@ pub mod Everywhere
 pub mod Lawful
 pub mod Values
 pub mod Authority
+pub mod Locks
 pub mod Supply

@@ -2,10 +2,12 @@ ghost use Rattle.std.specs.Prelude.{ℕ, List, Result};
 ghost use Rattle.ledger_types.specs.Verdicts.{verdict_of};
 ghost use Rattle.flow_machine.specs.Machine.{Machine};
 ghost use Rattle.net_model.specs.Environment.{meaning};
+ghost use Rattle.ledger_laws.specs.Places.{Made};
 ghost use Rattle.contract_laws.specs.Everywhere.{Everywhere};
 ghost use Rattle.contract_laws.specs.Lawful.{Contracts, AreLawful};
 ghost use Rattle.contract_laws.specs.Values.{GovernsCash, KeepsAllValue};
 ghost use Rattle.contract_laws.specs.Authority.{AreSignedFor};
+ghost use Rattle.contract_laws.specs.Locks.{GovernsLocks, KeepsLocks};
 ghost use Rattle.contract_laws.specs.Supply.{AreAccounted};
 
 use flow_machine::FlowSet;
@@ -18,7 +20,7 @@ use flow_machine::FlowSet;
 /// (`story_laws`).
 pub fn recorded_is_accepted_by_each<F>()
     ensures { (m : Machine F) (frame_at : List ℕ → Result (F × List ℕ) ℕ) (contracts : Contracts)
-        → Everywhere (meaning m frame_at (verdict_of contracts)) (AreLawful contracts) }
+        → Everywhere (meaning m frame_at (verdict_of contracts)) (Made (AreLawful contracts)) }
 {}
 
 /// The law that no recorded transaction, at any node, makes or destroys value but by issue and exit: where it consumes or makes Cash the Cash
@@ -27,7 +29,7 @@ pub fn recorded_is_accepted_by_each<F>()
 /// It asks that the contract of number 1 is that of Cash, as in the program. It holds where the law above does.
 pub fn recorded_cash_is_conserved<F>()
     ensures { (m : Machine F) (frame_at : List ℕ → Result (F × List ℕ) ℕ) (contracts : Contracts)
-        → GovernsCash contracts → Everywhere (meaning m frame_at (verdict_of contracts)) KeepsAllValue }
+        → GovernsCash contracts → Everywhere (meaning m frame_at (verdict_of contracts)) (Made KeepsAllValue) }
 {}
 
 /// The law that, of each recorded transaction that consumes or makes Cash, the issuer of each token that it issues or exits has signed it, and
@@ -36,7 +38,18 @@ pub fn recorded_cash_is_conserved<F>()
 /// It asks what the law above does, and speaks of parties 0 to 15, of which networks are. It holds where that law does.
 pub fn recorded_cash_is_signed_for<F>()
     ensures { (m : Machine F) (frame_at : List ℕ → Result (F × List ℕ) ℕ) (contracts : Contracts)
-        → GovernsCash contracts → Everywhere (meaning m frame_at (verdict_of contracts)) AreSignedFor }
+        → GovernsCash contracts → Everywhere (meaning m frame_at (verdict_of contracts)) (Made AreSignedFor) }
+{}
+
+/// The law that each time lock that a recorded transaction consumes was due: the lock's owner has signed the transaction, and the notary first
+/// signed it at the lock's end or later, by the moment of its journal's record.
+///
+/// It asks that the contract of number 2 is that of time locks, as in the program; and of one transaction what `no_state_is_spent_twice`
+/// (`ledger_laws`) does, and that the moments of its window have 64 bits, as those of `Window` have. Of owners it speaks of parties 0 to 15. It
+/// holds where the laws above do.
+pub fn recorded_time_locks_were_due<F: FlowSet>()
+    ensures { (contracts : Contracts) → GovernsLocks contracts
+        → Everywhere (meaning F.machine F.reading (verdict_of contracts)) KeepsLocks }
 {}
 
 /// The law that, of every token, the Cash that recorded transactions leave unconsumed is what they issued less what they exited, and that the
@@ -48,5 +61,5 @@ pub fn recorded_cash_is_signed_for<F>()
 /// nodes it asks too that two recorded transactions of one id are one. It holds where the laws above do.
 pub fn outstanding_cash_was_issued<F: FlowSet>()
     ensures { (contracts : Contracts) → GovernsCash contracts
-        → Everywhere (meaning F.machine F.reading (verdict_of contracts)) AreAccounted }
+        → Everywhere (meaning F.machine F.reading (verdict_of contracts)) (Made AreAccounted) }
 {}

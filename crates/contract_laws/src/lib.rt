@@ -7,5 +7,5 @@ mod laws;
 
 pub use laws::{
     outstanding_cash_was_issued, recorded_cash_is_conserved, recorded_cash_is_signed_for,
-    recorded_is_accepted_by_each,
+    recorded_is_accepted_by_each, recorded_time_locks_were_due,
 };

@@ -1,6 +1,6 @@
--- The tear-off over which an id was signed shows the inputs of the transaction of that id, where no digests collide.
+-- The tear-off over which an id was signed shows the inputs and the time window of the transaction of that id, where no digests collide.
 use Rattle.std.proofs.Common.{◌≡◌, ℕ, zero, ◌+◌, ◌<◌, Bool, true, false, cond, List, [], ◌∷◌, length, map, Option, Some, None, Result, option_map, option_to_list, bytes_eq, find, slice_get, refl, sym, ◌∙◌, ap, subst, arith}
-use Rattle.std.specs.Prelude.{is_some}
+use Rattle.std.specs.Prelude.{is_some, IfSome}
 use Rattle.std.specs.List.{AllByRecursion, Contains, flat_map}
 use Rattle.std.proofs.lemmas.List.{length-take}
 use Rattle.std.proofs.lemmas.Option.{slice_get_within}
@@ -14,6 +14,7 @@ use Rattle.net_base.proofs.Lists.{all_front}
 use Rattle.net_base.proofs.Options.{some_eq}
 use Rattle.component_merkle.specs.Merkle.{root_of}
 use Rattle.ledger_types.specs.declared.state.TxState.{TxState}
+use Rattle.ledger_types.specs.declared.tx.Window.{Window}
 use Rattle.ledger_types.specs.declared.tx.Tx.{Tx}
 use Rattle.ledger_types.specs.declared.tx.SignedTx.{SignedTx}
 use Rattle.ledger_types.specs.declared.tx.Resolved.{Resolved}
@@ -26,6 +27,7 @@ use Rattle.ledger_types.specs.Ids.{groups, present, id_of, values_from}
 use Rattle.ledger_types.specs.Names.{hash_eq}
 use Rattle.ledger_types.specs.Signatures.{tx_id}
 use Rattle.ledger_types.specs.Stores.{stored_of, state_of, states_of, resolved_of}
+use Rattle.ledger_types.specs.Txs.{IsWindow, window_at, window_laws}
 use Rattle.ledger_types.specs.Tears.{group_value, torn_root, parts_of, parts_at, whole, joined, spelt_by, at_most_one, shown_refs, shown_notary, shown_window, shown_by, visible_of}
 use Rattle.ledger_types.proofs.Names.{hash_exact}
 use Rattle.tx_tear.specs.Tearing.{parts_from, shown_group, hidden_group, is_shown, torn_from, tear_of}
@@ -139,13 +141,18 @@ one_part o [] e n = absurd (omega (arith, n))
 one_part o (p ∷ []) e n = (p, one_shown o p e)
 one_part o (p ∷ q ∷ ps) e n = absurd (omega (arith, n))
 
--- its groups give its id, its inputs are spelt in parts, and it shows one part that names a notary
+-- its groups give its id, its inputs and its window are spelt in parts, and it shows one part that names a notary
 record IsSeen (torn : TornTx) (seen : Visible) : Type 0 where
   root : torn_root torn ≡ torn.id.0
   parts : List TornPart
   there : parts_at torn 0 ≡ Some parts
   inputs : spelt_by state_ref_at parts ≡ Some seen.inputs
   named : (p : TornPart) × (slice_get torn.groups 4 ≡ Some (Shown (p ∷ [])))
+  of_window : List TornPart
+  window_there : parts_at torn 5 ≡ Some of_window
+  windows : List Window
+  spelt_window : spelt_by window_at of_window ≡ Some windows
+  window : at_most_one windows ≡ Some seen.window
 
 seen_is : (torn : TornTx) (seen : Visible) → visible_of torn ≡ Some seen → is_some seen.notary ≡ true → IsSeen torn seen
 unfolding visible_of
@@ -158,13 +165,20 @@ seen_is torn seen e named =
     from_then (IsSeen torn _) (spelt_by state_ref_at) (parts_at torn 0) inputs a (λ parts there spelt.
     from_then (IsSeen torn _) at_most_one _ notary b (λ ps f most.
     from_then (IsSeen torn _) (spelt_by party_at) (parts_at torn 4) ps f (λ qs at spelt4.
+    from_then (IsSeen torn _) at_most_one _ window c (λ ws g one.
+    from_then (IsSeen torn _) (spelt_by window_at) (parts_at torn 5) ws g (λ of_window at5 spelt5.
     record {
       root = (bytes_eq-Decides (torn_root torn) torn.id.0).0 same;
       parts = parts;
       there = there;
       inputs = spelt;
       named = one_part (slice_get torn.groups 4) qs at (spelt_long party_at qs ps spelt4 ∙ one_named ps notary most is);
-    })))) named))))
+      of_window = of_window;
+      window_there = at5;
+      windows = ws;
+      spelt_window = spelt5;
+      window = one;
+    })))))) named))))
 
 -- ---- both
 
@@ -187,19 +201,38 @@ own_inside : (hashed : List (List ℕ)) (tx : Tx) → Includes hashed (hashed_fo
 unfolding tear_of
 own_inside hashed tx has = in_groups hashed (tear_of tx) has
 
-pub signed_inputs : (tx : Tx) (torn : TornTx) (seen : Visible) → AreApart (hashed_for_all [] (tear_of tx ∷ torn ∷ [])) → IsSizedTorn torn → AllByRecursion IsStateRef tx.inputs → tx_id tx ≡ torn.id → visible_of torn ≡ Some seen → is_some tx.notary ≡ true → is_some seen.notary ≡ true
-    → seen.inputs ≡ tx.inputs
-signed_inputs tx torn seen apart sized limits same sees named seen_named =
-    let hashed = hashed_for_all [] (tear_of tx ∷ torn ∷ []) in
-    let gs = torn_from tx.salt.0 0 (present (groups tx)) in
-    let own_in = own_inside hashed tx (tear_included [] (tear_of tx ∷ torn ∷ []) (tear_of tx) (zero, omega arith, refl)) in
-    let torn_in = in_groups hashed torn (tear_included [] (tear_of tx ∷ torn ∷ []) torn (1, omega arith, refl)) in
-    let good = seen_is torn seen sees seen_named in
-    let own = own_notary tx named in
-    let roots : root_of (map group_value gs) ≡ root_of (map group_value torn.groups) = root_own tx ∙ ap (λ (id : Hash32). id.0) same ∙ sym good.root in
-    let bytes =
-    same_bytes_named hashed apart gs torn.groups own.0 good.named.0 (sound_all hashed gs (sized_from tx.salt.0 0 (present (groups tx))) own_in) (sound_all hashed torn.groups sized.1 torn_in) (for_root hashed gs own_in) (for_root hashed torn.groups torn_in)
-    (slice_get_within gs 4 (Shown (own.0 ∷ [])) own.1) (few_groups tx) (slice_get_within torn.groups 4 (Shown (good.named.0 ∷ [])) good.named.1) (omega (arith, sized.0)) own.1 good.named.1 roots 0
-    (parts_from tx.salt.0 0 0 (components_of (slice_get (present (groups tx)) 0))) good.parts (omega arith) (torn_at tx.salt.0 0 0 0 (present (groups tx)) (omega arith) refl) good.there in
-    let spelt = spelt_of state_ref_laws good.parts tx.inputs limits (sym bytes ∙ bytes_parts tx.salt.0 0 0 (components_of (slice_get (present (groups tx)) 0)) ∙ present_at (groups tx) 0) in
-    some_eq (sym good.inputs ∙ spelt)
+module _ (tx : Tx) (torn : TornTx) (seen : Visible) (apart : AreApart (hashed_for_all [] (tear_of tx ∷ torn ∷ []))) (sized : IsSizedTorn torn) (same : tx_id tx ≡ torn.id) (sees : visible_of torn ≡ Some seen) (named : is_some tx.notary ≡ true) (seen_named : is_some seen.notary ≡ true) where
+  good : IsSeen torn seen
+  good = seen_is torn seen sees seen_named
+
+  -- a group that it shows has the bytes of the transaction's
+  shown_bytes : (k : ℕ) (parts : List TornPart) → k < 8 → is_shown k ≡ true → parts_at torn k ≡ Some parts → bytes_of parts ≡ components_of (slice_get (groups tx) k)
+  shown_bytes k parts lt shows there =
+      let hashed = hashed_for_all [] (tear_of tx ∷ torn ∷ []) in
+      let gs = torn_from tx.salt.0 0 (present (groups tx)) in
+      let own_in = own_inside hashed tx (tear_included [] (tear_of tx ∷ torn ∷ []) (tear_of tx) (zero, omega arith, refl)) in
+      let torn_in = in_groups hashed torn (tear_included [] (tear_of tx ∷ torn ∷ []) torn (1, omega arith, refl)) in
+      let own = own_notary tx named in
+      let roots : root_of (map group_value gs) ≡ root_of (map group_value torn.groups) = root_own tx ∙ ap (λ (id : Hash32). id.0) same ∙ sym good.root in
+      sym
+      (same_bytes_named hashed apart gs torn.groups own.0 good.named.0 (sound_all hashed gs (sized_from tx.salt.0 0 (present (groups tx))) own_in) (sound_all hashed torn.groups sized.1 torn_in) (for_root hashed gs own_in) (for_root hashed torn.groups torn_in)
+      (slice_get_within gs 4 (Shown (own.0 ∷ [])) own.1) (few_groups tx) (slice_get_within torn.groups 4 (Shown (good.named.0 ∷ [])) good.named.1) (omega (arith, sized.0)) own.1 good.named.1 roots k
+      (parts_from tx.salt.0 k 0 (components_of (slice_get (present (groups tx)) k))) parts lt (torn_at tx.salt.0 0 k k (present (groups tx)) (omega arith) shows) there)
+      ∙ bytes_parts tx.salt.0 k 0 (components_of (slice_get (present (groups tx)) k)) ∙ present_at (groups tx) k
+
+  pub signed_inputs : AllByRecursion IsStateRef tx.inputs → seen.inputs ≡ tx.inputs
+  signed_inputs limits = some_eq (sym good.inputs ∙ spelt_of state_ref_laws good.parts tx.inputs limits (shown_bytes 0 good.parts (omega arith) refl good.there))
+
+  -- the window is shown, if there is one, where its moments are of 64 bits
+  pub signed_window : IfSome tx.window IsWindow → seen.window ≡ tx.window
+  signed_window limits =
+      let windows : good.windows ≡ option_to_list tx.window = some_eq (sym good.spelt_window ∙ spelt_of window_laws good.of_window (option_to_list tx.window) (each tx.window limits) (shown_bytes 5 good.of_window (omega arith) refl good.window_there)) in
+      some_eq (sym good.window ∙ ap at_most_one windows ∙ only tx.window)
+    where
+      each : (o : Option Window) → IfSome o IsWindow → AllByRecursion IsWindow (option_to_list o)
+      each None limits = tt
+      each (Some w) limits = (limits, tt)
+
+      only : (o : Option Window) → at_most_one (option_to_list o) ≡ Some o
+      only None = refl
+      only (Some w) = refl

@@ -5,4 +5,5 @@ pub mod Reading
 pub mod Inputs
 pub mod Limits
 pub mod Spending
+pub mod Windows
 pub mod Placed

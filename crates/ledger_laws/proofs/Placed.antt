@@ -12,19 +12,22 @@ use Rattle.net_model.specs.State.{NodeState, Record, replay}
 use Rattle.net_model.specs.Runs.{IsFaithful}
 use Rattle.net_model.specs.Stores.{NamesNotary}
 use Rattle.net_model.specs.Tags.{entries_at, book_of}
+use Rattle.net_model.proofs.Faithful.{faithful_exactly}
 use Rattle.node_tables.specs.Journals.{records_of, state_of}
 use Rattle.network_core.specs.Worlds.{World, Coherent, Choice, states_of}
 use Rattle.network_core.proofs.Faithful.{coherent_is_faithful}
 use Rattle.network_core.proofs.KeepingWays.{kept_on_ways}
 use Rattle.ledger_laws.specs.Ledgers.{HasOneConsumerEach, IsSignedInBook, HasWholeChains, HasNoneSpentTwice}
+use Rattle.ledger_laws.specs.Windows.{AreSignedInWindows, KeepsWindows}
 use Rattle.ledger_laws.specs.Places.{Fact, Made, InWorlds, OnWays}
 use Rattle.ledger_laws.proofs.Runs.{is_book, one_each, signed_in_book, all_proven, whole_chains}
-use Rattle.ledger_laws.proofs.Reading.{HasFewOutputs, IsSizedEntry}
+use Rattle.ledger_laws.proofs.Reading.{IsSizedEntry}
 use Rattle.ledger_laws.proofs.Limits.{IsWithin, state_within}
 use Rattle.ledger_laws.proofs.Spending.{none_twice}
+use Rattle.ledger_laws.proofs.Windows.{in_windows}
 
 -- a fact of all journals of a run
-abbrev OfRuns : {F : Type 0} → Meaning F → Fact F → Type 0
+abbrev pub OfRuns : {F : Type 0} → Meaning F → Fact F → Type 0
 OfRuns m fact = (id : Identity) (lists : List (List (List ℕ))) → IsIdentity id → length lists ≡ id.nodes → IsFaithful (environment m id) (map (records_of m.frame_at) lists) → fact (environment m id) lists
 
 pub in_worlds : {F : Type 0} (m : Meaning F) (fact : Fact F) → OfRuns m fact → InWorlds m fact
@@ -69,24 +72,24 @@ module _ {F : Type 0} (m : Meaning F) (id : Identity) (lists : List (List (List 
     signed_of_run : IsSignedInBook e (map replay journals)
     signed_of_run = signed_in_book e journals all faithful keeps bare names is.1.1
 
-    spent_of_run : HasNoneSpentTwice e (map replay journals)
-    spent_of_run = none_twice e (map replay journals) (is_book e journals all faithful) (all_proven e journals all faithful) signed_of_run names stored booked
+    within : (p : ℕ) (s : NodeState F) → slice_get (map replay journals) p ≡ Some s → IsWithin s
+    within p s at =
+        let records = of_map replay journals p s at in
+        let bodies = of_map (records_of m.frame_at) lists p records.0 records.1 in
+        subst IsWithin records.2 (subst (λ (rs : List (Record F)). IsWithin (replay rs)) bodies.2 (state_within m.frame_at bodies.0))
+
+    booked : AllByRecursion IsSizedEntry (book_of e (map replay journals))
+    booked = booked_at (slice_get (map replay journals) e.notary.0) refl
       where
-        within : (p : ℕ) (s : NodeState F) → slice_get (map replay journals) p ≡ Some s → IsWithin s
-        within p s at =
-            let records = of_map replay journals p s at in
-            let bodies = of_map (records_of m.frame_at) lists p records.0 records.1 in
-            subst IsWithin records.2 (subst (λ (rs : List (Record F)). IsWithin (replay rs)) bodies.2 (state_within m.frame_at bodies.0))
-
-        stored : (p : ℕ) (s : NodeState F) → slice_get (map replay journals) p ≡ Some s → AllByRecursion HasFewOutputs s.stored
-        stored p s at = (within p s at).stored
-
         booked_at : (o : Option (NodeState F)) → slice_get (map replay journals) e.notary.0 ≡ o → AllByRecursion IsSizedEntry (entries_at o)
         booked_at None at = tt
         booked_at (Some s) at = (within e.notary.0 s at).entries
 
-        booked : AllByRecursion IsSizedEntry (book_of e (map replay journals))
-        booked = booked_at (slice_get (map replay journals) e.notary.0) refl
+    spent_of_run : HasNoneSpentTwice e (map replay journals)
+    spent_of_run = none_twice e (map replay journals) (is_book e journals all faithful) (all_proven e journals all faithful) signed_of_run names (λ p s at. (within p s at).stored) booked
+
+    windows_of_run : AreSignedInWindows e lists (map replay journals)
+    windows_of_run = in_windows e lists (is_book e journals all faithful) (((faithful_exactly e journals all).0 faithful).0) (all_proven e journals all faithful) signed_of_run names booked
 
 -- ---- of all runs
 
@@ -102,3 +105,6 @@ module _ {F : Type 0} (m : Meaning F) (keeps : KeepsTags m.machine) (bare : Begi
 
   pub spent_each_run : OfRuns m (Made HasNoneSpentTwice)
   spent_each_run id lists is count faithful = subst (HasNoneSpentTwice (environment m id)) (made m id lists is count faithful) (spent_of_run m id lists is count faithful keeps bare (names id))
+
+  pub windows_each_run : OfRuns m KeepsWindows
+  windows_each_run id lists is count faithful = subst (AreSignedInWindows (environment m id) lists) (made m id lists is count faithful) (windows_of_run m id lists is count faithful keeps bare (names id))

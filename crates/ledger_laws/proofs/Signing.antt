@@ -23,7 +23,7 @@ use Rattle.notary_book.proofs.Once.{added}
 -- ---- what is signed was shown
 
 -- of two answers of which the second is no signature, a signature is the first
-if_signed : (b : Bool) (x y : NotaryAnswer) → is_signature y ≡ false → is_signature (cond b x y) ≡ true → (b ≡ true) × (is_signature x ≡ true)
+pub if_signed : (b : Bool) (x y : NotaryAnswer) → is_signature y ≡ false → is_signature (cond b x y) ≡ true → (b ≡ true) × (is_signature x ≡ true)
 if_signed true x y unsigned h = (refl, h)
 if_signed false x y unsigned h = absurd (true≢false (sym h ∙ unsigned))
 
@@ -54,9 +54,10 @@ booked_shown mark me before e booked h =
 
 -- ---- the first entry that signed an id
 
--- it is of the id, and was shown
+-- it signed the id, and was shown
 pub record IsFirst (id : Hash32) (e : Entry) : Type 0 where
   pub of : id ≡ e.request.torn.id
+  pub signed : is_signature e.answer ≡ true
   pub shown : IsShown e
 
 first_after : (mark : Party → Hash32 → Hash32) (me : Identity) (before es : List Entry) (id : Hash32) (e : Entry) → IsBookAfter mark me before es → find (signs id) es ≡ Some e → IsFirst id e
@@ -66,7 +67,7 @@ first_after mark me before (x ∷ xs) id e book h = by (signs id x) refl h (firs
     by : (b : Bool) → signs id x ≡ b → cond b (Some x) (find (signs id) xs) ≡ Some e → (find (signs id) xs ≡ Some e → IsFirst id e) → IsFirst id e
     by true s h more =
         let parts = and_parts (is_signature x.answer) (hash_eq id x.request.torn.id) s in
-        subst (IsFirst id) (some_eq h) (record { of = hash_exact id x.request.torn.id parts.1; shown = booked_shown mark me before x book.0 parts.0 })
+        subst (IsFirst id) (some_eq h) (record { of = hash_exact id x.request.torn.id parts.1; signed = parts.0; shown = booked_shown mark me before x book.0 parts.0 })
     by false s h more = more h
 
 pub first_signed : (mark : Party → Hash32 → Hash32) (me : Identity) (book : List Entry) (id : Hash32) (e : Entry) → IsBook mark me book → find (signs id) book ≡ Some e → IsFirst id e

@@ -45,7 +45,7 @@ input_asks tx r has = or_left _ _ (by tx.inputs has)
 
 -- ---- an entry that is found
 
-found_first : {X : Type 0} (P : X → Bool) (xs : List X) → list_any P xs ≡ true → (x : X) × (find P xs ≡ Some x)
+pub found_first : {X : Type 0} (P : X → Bool) (xs : List X) → list_any P xs ≡ true → (x : X) × (find P xs ≡ Some x)
 found_first P [] h = absurd (true≢false (sym h))
 found_first {X} P (x ∷ xs) h = by (P x) h (found_first P xs)
   where
@@ -53,7 +53,7 @@ found_first {X} P (x ∷ xs) h = by (P x) h (found_first P xs)
     by true h more = (x, refl)
     by false h more = more h
 
-over_is : (book : List Entry) (id : Hash32) (entry : Entry) → find (signs id) book ≡ Some entry → signed_over book id ≡ entry.request.torn ∷ []
+pub over_is : (book : List Entry) (id : Hash32) (entry : Entry) → find (signs id) book ≡ Some entry → signed_over book id ≡ entry.request.torn ∷ []
 over_is book id entry is = ap (λ (o : Option Entry). map (λ (x : Entry). x.request.torn) (option_to_list o)) is
 
 -- ---- a spent state
@@ -66,7 +66,7 @@ module _ {F : Type 0} (e : Environment F) (net : List (NodeState F)) (book : IsB
       let first = first_signed e.mark (identity e e.notary.0) (book_of e net) (tx_id tx) entry book is in
       let apart_two : AreApart (hashed_for_all [] (tear_of tx ∷ entry.request.torn ∷ [])) = subst (λ (l : List TornTx). AreApart (hashed_for_all [] (tear_of tx ∷ l))) (over_is (book_of e net) (tx_id tx) entry is) apart in
       let sized : IsSizedEntry entry = all_find IsSizedEntry (signs (tx_id tx)) (book_of e net) entry booked_sized is in
-      first.shown.inputs ∙ signed_inputs tx entry.request.torn first.shown.seen apart_two sized within first.of first.shown.sees named first.shown.names
+      first.shown.inputs ∙ signed_inputs tx entry.request.torn first.shown.seen apart_two sized first.of first.shown.sees named first.shown.names within
 
   one_spender : (r : StateRef) (stx : SignedTx) → Spends e net r stx → consumers (book_of e net) r ≡ tx_id stx.tx ∷ []
   one_spender r stx h =

@@ -1,6 +1,7 @@
 ghost use Rattle.net_model.specs.Environment.{meaning, Meaning};
 ghost use Rattle.ledger_laws.specs.Ledgers.{HasOneConsumerEach, IsSignedInBook, HasWholeChains, HasNoneSpentTwice};
 ghost use Rattle.ledger_laws.specs.Places.{Made, InWorlds, OnWays};
+ghost use Rattle.ledger_laws.specs.Windows.{KeepsWindows};
 
 use contract_verify::Judge;
 use flow_machine::FlowSet;
@@ -46,4 +47,13 @@ pub fn no_state_is_spent_twice<F: FlowSet, J: Judge>()
         (Made HasNoneSpentTwice) }
     ensures moments { (contracts : J) → OnWays (meaning F.machine F.reading (J.judges contracts))
         (Made HasNoneSpentTwice) }
+{}
+
+/// The law that each recorded transaction that has an input, a reference or a time window was first signed by the notary at a moment that its
+/// window holds, if it has one: a record of the notary's journal, of that moment, booked the first entry of its book that signed its id.
+///
+/// It asks what the law above asks, of the one transaction, and that the moments of its window have 64 bits, as those of `Window` have.
+pub fn recorded_was_signed_in_its_window<F: FlowSet, J: Judge>()
+    ensures worlds { (contracts : J) → InWorlds (meaning F.machine F.reading (J.judges contracts)) KeepsWindows }
+    ensures moments { (contracts : J) → OnWays (meaning F.machine F.reading (J.judges contracts)) KeepsWindows }
 {}

@@ -1,5 +1,6 @@
 ghost use Rattle.net_model.specs.Environment.{meaning};
 ghost use Rattle.ledger_laws.specs.Ledgers.{HasOneConsumerEach, IsSignedInBook, HasWholeChains, HasNoneSpentTwice};
+ghost use Rattle.ledger_laws.specs.Windows.{KeepsWindows};
 ghost use Rattle.ledger_laws.specs.Places.{Made};
 ghost use Rattle.story_laws.specs.Scripts.{InScripts};
 
@@ -18,4 +19,5 @@ pub fn ledgers_hold_in_scripts<F: FlowSet, J: Judge>()
         → InScripts (meaning F.machine F.reading (J.judges contracts)) (Made HasWholeChains) }
     ensures none_twice { (contracts : J)
         → InScripts (meaning F.machine F.reading (J.judges contracts)) (Made HasNoneSpentTwice) }
+    ensures windows { (contracts : J) → InScripts (meaning F.machine F.reading (J.judges contracts)) KeepsWindows }
 {}
