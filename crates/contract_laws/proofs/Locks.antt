@@ -1,5 +1,5 @@
 -- What the contract of time locks asks of a transaction, and so of the notary's clock.
-use Rattle.std.proofs.Common.{◌≡◌, ℕ, ◌<◌, ◌≤◌, ◌&&◌, ◌||◌, Bool, true, false, List, Option, Some, None, slice_get, nat_le, nat_lt, refl, sym, subst, arith}
+use Rattle.std.proofs.Common.{◌≡◌, ℕ, ◌<◌, ◌≤◌, ◌&&◌, ◌||◌, Bool, true, false, List, Option, Some, None, slice_get, nat_le, nat_lt, refl, sym, subst, ◌∙◌, arith}
 use Rattle.std.specs.Prelude.{IfSome, is_some}
 use Rattle.std.specs.List.{AllByRecursion, Contains}
 use Rattle.std.proofs.lemmas.Bool.{and_parts, or_left, or_right, not-false}
@@ -41,17 +41,17 @@ no_more a b h = grind (arith, nat_tests)
 
 -- a window that begins at a lock's end or later, and holds a moment, holds one that is no earlier than the end
 held_after : (o : Option Window) (until now : Moment) → is_later (start_of o) until ≡ false → is_inside o now ≡ true → until.0 ≤ now.0
-held_after None until now open inside = absurd cc
-held_after (Some w) until now open inside = by w.from open (and_parts (has_begun w.from now) (is_before_end w.until now) inside).0
+held_after None until now begins inside = absurd cc
+held_after (Some w) until now begins inside = by w.from begins (and_parts (has_begun w.from now) (is_before_end w.until now) inside).0
   where
     by : (o : Option Moment) → is_later o until ≡ false → has_begun o now ≡ true → until.0 ≤ now.0
-    by None open begun = absurd cc
-    by (Some start) open begun = omega (arith, no_less start.0 until.0 open, no_more start.0 now.0 begun)
+    by None begins begun = absurd cc
+    by (Some start) begins begun = omega (arith, no_less start.0 until.0 begins, no_more start.0 now.0 begun)
 
 -- such a window is one
 is_there : (o : Option Window) (until : Moment) → is_later (start_of o) until ≡ false → is_some o ≡ true
-is_there None until open = absurd cc
-is_there (Some w) until open = refl
+is_there None until begins = absurd cc
+is_there (Some w) until begins = refl
 
 module _ (tx : Tx) (states : Resolved) (accepted : locks_say tx states ≡ None) (s : TxState) (owner : Party) (until : Moment) (has : Contains states.inputs s) (is : s.body ≡ TimeLock owner until) where
   outcomes : AllByRecursion (λ o. o.1 ≡ false) (lock_clauses tx states)
@@ -80,7 +80,7 @@ open_in_time contracts locks e lists net judged proven windows p n s stx at ther
       resolves = one.resolves;
       owner = λ x owner until has is few. by_signer e.mark stx owner.0 one.signed few (owner_signs stx.tx one.states (says x owner until has is) x owner until has is);
       after = λ x owner until has is limits apart.
-          let open = opened stx.tx one.states (says x owner until has is) x owner until has is in
-          let signed = windows p n s stx at there (or_right _ _ (or_right _ _ (is_there stx.tx.window until open))) limits apart in
-          (signed, held_after stx.tx.window until signed.at.cause.moment open signed.inside);
+          let begins = opened stx.tx one.states (says x owner until has is) x owner until has is in
+          let signed = windows p n s stx at there (or_right _ _ (or_right _ _ (is_there stx.tx.window until begins))) limits apart in
+          (signed, held_after stx.tx.window until signed.at.cause.moment begins signed.inside);
     }
