@@ -1,6 +1,6 @@
 -- What the contract of time locks asks of a transaction, and so of the notary's clock.
-use Rattle.std.proofs.Common.{◌≡◌, ℕ, ◌<◌, ◌≤◌, ◌&&◌, ◌||◌, Bool, true, false, List, Option, Some, None, slice_get, nat_le, nat_lt, refl, sym, subst, ◌∙◌, arith}
-use Rattle.std.specs.Prelude.{IfSome, is_some}
+use Rattle.std.proofs.Common.{◌≡◌, ℕ, ◌≤◌, ◌&&◌, true, false, List, Option, Some, None, nat_le, nat_lt, refl, sym, subst, ◌∙◌, arith}
+use Rattle.std.specs.Prelude.{is_some}
 use Rattle.std.specs.List.{AllByRecursion, Contains}
 use Rattle.std.proofs.lemmas.Bool.{and_parts, or_left, or_right, not-false}
 use Rattle.std.proofs.lemmas.Bool.Decides.{nat_tests}
@@ -15,10 +15,8 @@ use Rattle.ledger_types.specs.declared.state.TxState.{TxState}
 use Rattle.ledger_types.specs.declared.tx.Window.{Window}
 use Rattle.ledger_types.specs.declared.tx.Tx.{Tx}
 use Rattle.ledger_types.specs.declared.tx.Resolved.{Resolved}
-use Rattle.ledger_types.specs.declared.tx.SignedTx.{SignedTx}
 use Rattle.ledger_types.specs.declared.verdict.Verdict.TheVariants as verdict
 use Rattle.ledger_types.specs.Notary.{is_inside}
-use Rattle.ledger_types.specs.Rules.{asks_notary}
 use Rattle.ledger_types.specs.Signatures.{signs_command}
 use Rattle.ledger_types.specs.Verdicts.{contract_of, governs, verdict_of}
 use Rattle.ledger_types.specs.Windows.{has_begun, is_before_end}

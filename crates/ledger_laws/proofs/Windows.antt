@@ -1,6 +1,5 @@
 -- An id is signed first at a moment inside the window that its tear-off shows, which is the transaction's where no digests collide.
-use Rattle.std.proofs.Common.{◌≡◌, ℕ, zero, suc, List, [], ◌∷◌, ◌++◌, length, map, Option, Some, None, Bool, true, false, cond, not, find, is_some, option_to_list, slice_get, refl, sym, ap, subst, ◌∙◌, append_assoc, append-nil, true≢false}
-use Rattle.std.specs.Prelude.{IfSome}
+use Rattle.std.proofs.Common.{◌≡◌, ℕ, zero, suc, List, [], ◌∷◌, ◌++◌, map, Option, Some, None, Bool, true, false, cond, not, find, option_to_list, slice_get, refl, sym, ap, subst, ◌∙◌, append_assoc, append-nil, true≢false}
 use Rattle.std.specs.List.{AllByRecursion, list_any}
 use Rattle.std.proofs.lemmas.Bool.{or_parts}
 use Rattle.std.proofs.lemmas.Option.{none-some}
@@ -23,7 +22,6 @@ use Rattle.ledger_types.specs.Names.{is_party}
 use Rattle.ledger_types.specs.Notary.{is_signature, signs, conflicts, is_inside, tag_by, has_good_tag, answer_unsigned, answer_shown, answer_torn, answer_new, is_notary, IsBook}
 use Rattle.ledger_types.specs.Signatures.{tx_id}
 use Rattle.ledger_types.specs.Tears.{visible_of}
-use Rattle.ledger_types.specs.Txs.{IsWindow}
 use Rattle.tx_tear.specs.Hashed.{AreApart, hashed_for_all}
 use Rattle.tx_tear.specs.Tearing.{tear_of}
 use Rattle.notary_book.proofs.Once.{added}
@@ -35,8 +33,8 @@ use Rattle.net_model.specs.Tags.{entries_at, book_of}
 use Rattle.net_model.proofs.Basics.{apply_entries}
 use Rattle.net_model.proofs.BookKept.{IsBookedAt, step_booked}
 use Rattle.net_model.proofs.Effects.{Stepped, step_taken}
-use Rattle.node_tables.specs.Journals.{Reads, records_of}
-use Rattle.ledger_laws.specs.Ledgers.{IsSignedInBook, hashed_to_sign}
+use Rattle.node_tables.specs.Journals.{records_of}
+use Rattle.ledger_laws.specs.Ledgers.{IsSignedInBook}
 use Rattle.ledger_laws.specs.Windows.{IsSignedInWindow, AreSignedInWindows}
 use Rattle.ledger_laws.proofs.Reading.{IsSizedEntry}
 use Rattle.ledger_laws.proofs.Inputs.{signed_window}
