@@ -20,7 +20,8 @@ use flow_machine::FlowSet;
 /// (`story_laws`).
 pub fn recorded_is_accepted_by_each<F>()
     ensures { (m : Machine F) (frame_at : List ℕ → Result (F × List ℕ) ℕ) (contracts : Contracts)
-        → Everywhere (meaning m frame_at (verdict_of contracts)) (Made (AreLawful contracts)) }
+        → Everywhere (meaning m frame_at (verdict_of contracts))
+        (Made (AreLawful contracts)) }
 {}
 
 /// The law that no recorded transaction, at any node, makes or destroys value but by issue and exit: where it consumes or makes Cash the Cash
@@ -29,7 +30,8 @@ pub fn recorded_is_accepted_by_each<F>()
 /// It asks that the contract of number 1 is that of Cash, as in the program. It holds where the law above does.
 pub fn recorded_cash_is_conserved<F>()
     ensures { (m : Machine F) (frame_at : List ℕ → Result (F × List ℕ) ℕ) (contracts : Contracts)
-        → GovernsCash contracts → Everywhere (meaning m frame_at (verdict_of contracts)) (Made KeepsAllValue) }
+        → GovernsCash contracts → Everywhere (meaning m frame_at (verdict_of contracts))
+        (Made KeepsAllValue) }
 {}
 
 /// The law that, of each recorded transaction that consumes or makes Cash, the issuer of each token that it issues or exits has signed it, and
@@ -38,7 +40,8 @@ pub fn recorded_cash_is_conserved<F>()
 /// It asks what the law above does, and speaks of parties 0 to 15, of which networks are. It holds where that law does.
 pub fn recorded_cash_is_signed_for<F>()
     ensures { (m : Machine F) (frame_at : List ℕ → Result (F × List ℕ) ℕ) (contracts : Contracts)
-        → GovernsCash contracts → Everywhere (meaning m frame_at (verdict_of contracts)) (Made AreSignedFor) }
+        → GovernsCash contracts → Everywhere (meaning m frame_at (verdict_of contracts))
+        (Made AreSignedFor) }
 {}
 
 /// The law that each time lock that a recorded transaction consumes was due: the lock's owner has signed the transaction, and the notary first
@@ -61,5 +64,6 @@ pub fn recorded_time_locks_were_due<F: FlowSet>()
 /// nodes it asks too that two recorded transactions of one id are one. It holds where the laws above do.
 pub fn outstanding_cash_was_issued<F: FlowSet>()
     ensures { (contracts : Contracts) → GovernsCash contracts
-        → Everywhere (meaning F.machine F.reading (verdict_of contracts)) (Made AreAccounted) }
+        → Everywhere (meaning F.machine F.reading (verdict_of contracts))
+        (Made AreAccounted) }
 {}

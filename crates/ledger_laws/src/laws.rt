@@ -54,6 +54,8 @@ pub fn no_state_is_spent_twice<F: FlowSet, J: Judge>()
 ///
 /// It asks what the law above asks, of the one transaction, and that the moments of its window have 64 bits, as those of `Window` have.
 pub fn recorded_was_signed_in_its_window<F: FlowSet, J: Judge>()
-    ensures worlds { (contracts : J) → InWorlds (meaning F.machine F.reading (J.judges contracts)) KeepsWindows }
-    ensures moments { (contracts : J) → OnWays (meaning F.machine F.reading (J.judges contracts)) KeepsWindows }
+    ensures worlds { (contracts : J) → InWorlds (meaning F.machine F.reading (J.judges contracts))
+        KeepsWindows }
+    ensures moments { (contracts : J) → OnWays (meaning F.machine F.reading (J.judges contracts))
+        KeepsWindows }
 {}

@@ -19,5 +19,6 @@ pub fn ledgers_hold_in_scripts<F: FlowSet, J: Judge>()
         → InScripts (meaning F.machine F.reading (J.judges contracts)) (Made HasWholeChains) }
     ensures none_twice { (contracts : J)
         → InScripts (meaning F.machine F.reading (J.judges contracts)) (Made HasNoneSpentTwice) }
-    ensures windows { (contracts : J) → InScripts (meaning F.machine F.reading (J.judges contracts)) KeepsWindows }
+    ensures windows { (contracts : J) → InScripts (meaning F.machine F.reading (J.judges contracts))
+        KeepsWindows }
 {}
