@@ -2,6 +2,7 @@ pub mod Lawful
 pub mod Values
 pub mod Authority
 pub mod Locks
+pub mod Deals
 pub mod Sums
 pub mod Outputs
 pub mod Supply

@@ -1,5 +1,5 @@
 -- What the contract of time locks asks of a transaction, and so of the notary's clock.
-use Rattle.std.proofs.Common.{◌≡◌, ℕ, ◌≤◌, ◌&&◌, true, false, List, Option, Some, None, nat_le, nat_lt, refl, sym, subst, ◌∙◌, arith}
+use Rattle.std.proofs.Common.{◌≡◌, ℕ, ◌≤◌, ◌&&◌, Bool, true, false, List, Option, Some, None, nat_le, nat_lt, refl, sym, subst, ◌∙◌, arith}
 use Rattle.std.specs.Prelude.{is_some}
 use Rattle.std.specs.List.{AllByRecursion, Contains}
 use Rattle.std.proofs.lemmas.Bool.{and_parts, or_left, or_right, not-false}
@@ -12,6 +12,7 @@ use Rattle.net_base.proofs.Options.{some_eq}
 use Rattle.ledger_types.specs.declared.state.StateData.{StateData}
 use Rattle.ledger_types.specs.declared.state.StateData.TheVariants.{TimeLock}
 use Rattle.ledger_types.specs.declared.state.TxState.{TxState}
+use Rattle.ledger_types.specs.declared.tx.Deed.{Deed}
 use Rattle.ledger_types.specs.declared.tx.Window.{Window}
 use Rattle.ledger_types.specs.declared.tx.Tx.{Tx}
 use Rattle.ledger_types.specs.declared.tx.Resolved.{Resolved}
@@ -31,11 +32,15 @@ use Rattle.contract_laws.specs.Locks.{GovernsLocks, OpenInTime}
 use Rattle.contract_laws.proofs.Lawful.{all_false, governed, accepts}
 use Rattle.contract_laws.proofs.Authority.{not_one, weaker, by_signer}
 
-no_less : (a b : ℕ) → nat_lt a b ≡ false → b ≤ a
+pub no_less : (a b : ℕ) → nat_lt a b ≡ false → b ≤ a
 no_less a b h = grind (arith, nat_tests)
 
 no_more : (a b : ℕ) → nat_le a b ≡ true → a ≤ b
 no_more a b h = grind (arith, nat_tests)
+
+-- who signs a command of a kind signs one
+pub some_signs : (test : Deed → Bool) (tx : Tx) (p : Party) → signs test tx p ≡ true → signs_command tx p.0 ≡ true
+some_signs test tx p signed = weaker (λ c. test c.deed && has_party c.signers p.0) (λ c. has_party c.signers p.0) tx.commands (λ c both. (and_parts (test c.deed) (has_party c.signers p.0) both).1) signed
 
 -- a window that begins at a lock's end or later, and holds a moment, holds one that is no earlier than the end
 held_after : (o : Option Window) (until now : Moment) → is_later (start_of o) until ≡ false → is_inside o now ≡ true → until.0 ≤ now.0
@@ -62,10 +67,7 @@ module _ (tx : Tx) (states : Resolved) (accepted : locks_say tx states ≡ None)
 
   -- and the owner signs a command
   owner_signs : signs_command tx owner.0 ≡ true
-  owner_signs =
-      let signed : signs is_lock_open tx owner ≡ true = not-false (signs is_lock_open tx owner) (subst (λ (d : StateData). is_forced tx d ≡ false) is (not_one (λ x. is_forced tx x.body) states.inputs s outcomes.1.0 has)) in
-      weaker (λ c. is_lock_open c.deed && has_party c.signers owner.0) (λ c. has_party c.signers owner.0) tx.commands
-      (λ c both. (and_parts (is_lock_open c.deed) (has_party c.signers owner.0) both).1) signed
+  owner_signs = some_signs is_lock_open tx owner (not-false (signs is_lock_open tx owner) (subst (λ (d : StateData). is_forced tx d ≡ false) is (not_one (λ x. is_forced tx x.body) states.inputs s outcomes.1.0 has)))
 
 pub open_in_time : {F : Type 0} (contracts : Contracts) → GovernsLocks contracts → (e : Environment F) (lists : List (List (List ℕ))) (net : List (NodeState F)) → e.judge ≡ verdict_of contracts → StoresHold e net → AreSignedInWindows e lists net → OpenInTime e lists net
 open_in_time contracts locks e lists net judged proven windows p n s stx at there =

@@ -3,4 +3,5 @@ pub mod Lawful
 pub mod Values
 pub mod Authority
 pub mod Locks
+pub mod Deals
 pub mod Supply

@@ -8,6 +8,7 @@ ghost use Rattle.contract_laws.specs.Lawful.{Contracts, AreLawful};
 ghost use Rattle.contract_laws.specs.Values.{GovernsCash, KeepsAllValue};
 ghost use Rattle.contract_laws.specs.Authority.{AreSignedFor};
 ghost use Rattle.contract_laws.specs.Locks.{GovernsLocks, KeepsLocks};
+ghost use Rattle.contract_laws.specs.Deals.{GovernsFacts, FactsAreClaimed, GovernsIous, DebtsAreAgreed};
 ghost use Rattle.contract_laws.specs.Supply.{AreAccounted};
 
 use flow_machine::FlowSet;
@@ -53,6 +54,28 @@ pub fn recorded_cash_is_signed_for<F>()
 pub fn recorded_time_locks_were_due<F: FlowSet>()
     ensures { (contracts : Contracts) → GovernsLocks contracts
         → Everywhere (meaning F.machine F.reading (verdict_of contracts)) KeepsLocks }
+{}
+
+/// The law that each fact that a recorded transaction makes or consumes was signed for by its issuer, and that it makes no two of one issuer and
+/// name.
+///
+/// It asks that the contract of number 3 is that of facts, as in the program, and speaks of parties 0 to 15. It holds where the laws above do.
+pub fn recorded_facts_were_signed_for<F>()
+    ensures { (m : Machine F) (frame_at : List ℕ → Result (F × List ℕ) ℕ) (contracts : Contracts)
+        → GovernsFacts contracts → Everywhere (meaning m frame_at (verdict_of contracts))
+        (Made FactsAreClaimed) }
+{}
+
+/// The law that each debt that a recorded transaction makes is of some amount and between two parties that both have signed it; and that the
+/// lender of each debt that it consumes has, and gets in Cash of the debt's token at least what all debts of that token that it consumes owe that
+/// lender.
+///
+/// It asks that the contract of number 4 is that of debts, as in the program; of who signed it speaks of parties 0 to 15. It holds where the laws
+/// above do.
+pub fn recorded_debts_were_agreed<F>()
+    ensures { (m : Machine F) (frame_at : List ℕ → Result (F × List ℕ) ℕ) (contracts : Contracts)
+        → GovernsIous contracts → Everywhere (meaning m frame_at (verdict_of contracts))
+        (Made DebtsAreAgreed) }
 {}
 
 /// The law that, of every token, the Cash that recorded transactions leave unconsumed is what they issued less what they exited, and that the

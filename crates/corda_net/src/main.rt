@@ -18,7 +18,8 @@ use app_flows::AppFlow;
 use cash_contract::Cash;
 use contract_laws::{
     outstanding_cash_was_issued, recorded_cash_is_conserved, recorded_cash_is_signed_for,
-    recorded_is_accepted_by_each, recorded_time_locks_were_due,
+    recorded_debts_were_agreed, recorded_facts_were_signed_for, recorded_is_accepted_by_each,
+    recorded_time_locks_were_due,
 };
 use contract_verify::{BoxedContract, ContractBook, Judge, LedgerContract};
 use disk_host::{HostDisk, StdSink, StdSource};
@@ -118,6 +119,8 @@ fn law_of_ledgers()
     recorded_is_accepted_by_each::<AppFlow>();
     recorded_cash_is_conserved::<AppFlow>();
     recorded_cash_is_signed_for::<AppFlow>();
+    recorded_facts_were_signed_for::<AppFlow>();
+    recorded_debts_were_agreed::<AppFlow>();
     recorded_time_locks_were_due::<AppFlow>();
     outstanding_cash_was_issued::<AppFlow>();
 }
