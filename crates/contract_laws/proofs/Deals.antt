@@ -132,8 +132,8 @@ module _ (tx : Tx) (states : Resolved) (accepted : ious_say tx states ≡ None) 
     settler_signs has =
         some_signs is_iou_settle tx lender (not-false (signs is_iou_settle tx lender) (subst (λ (d : StateData). is_forgotten tx d ≡ false) is (not_one (λ x. is_forgotten tx x.body) states.inputs s iou_outcomes.1.1.0 has)))
 
-    pays : Contains states.inputs s → owed_in lender token states.inputs ≤ paid_in lender token tx.outputs
-    pays has = no_less (paid_in lender token tx.outputs) (owed_in lender token states.inputs) (subst (λ (d : StateData). is_unpaid tx states d ≡ false) is (not_one (λ x. is_unpaid tx states x.body) states.inputs s iou_outcomes.1.1.1.0 has))
+    covers : Contains states.inputs s → owed_in lender token states.inputs ≤ paid_in lender token tx.outputs
+    covers has = no_less (paid_in lender token tx.outputs) (owed_in lender token states.inputs) (subst (λ (d : StateData). is_unpaid tx states d ≡ false) is (not_one (λ x. is_unpaid tx states x.body) states.inputs s iou_outcomes.1.1.1.0 has))
 
 pub agree_debts : {F : Type 0} (contracts : Contracts) → GovernsIous contracts → (e : Environment F) (net : List (NodeState F)) → e.judge ≡ verdict_of contracts → StoresHold e net → DebtsAreAgreed e net
 agree_debts contracts ious e net judged proven p n s stx at there =
@@ -152,5 +152,5 @@ agree_debts contracts ious e net judged proven p n s stx at there =
       lent = λ x l b t a has is few. by_signer e.mark stx l.0 one.signed few (lender_signs stx.tx one.states (makes x l b t a has is) x l b t a is has);
       borrowed = λ x l b t a has is few. by_signer e.mark stx b.0 one.signed few (borrower_signs stx.tx one.states (makes x l b t a has is) x l b t a is has);
       settled = λ x l b t a has is few. by_signer e.mark stx l.0 one.signed few (settler_signs stx.tx one.states (takes x l b t a has is) x l b t a is has);
-      paid = λ x l b t a has is. pays stx.tx one.states (takes x l b t a has is) x l b t a is has;
+      covered = λ x l b t a has is. covers stx.tx one.states (takes x l b t a has is) x l b t a is has;
     }

@@ -1,4 +1,4 @@
--- Who signed for the facts and debts that recorded transactions make and consume, and what lenders got.
+-- Who signed for the facts and debts that recorded transactions make and consume, and what the outputs have for lenders.
 use Rattle.std.specs.Prelude.{◌≡◌, ℕ, ◌<◌, ◌≤◌, true, List, Some, slice_get, Contains}
 use Rattle.net_base.specs.declared.values.Party.{Party}
 use Rattle.net_base.specs.declared.names.Token.{Token}
@@ -39,7 +39,7 @@ FactsAreClaimed {F} e net = (p n : ℕ) (s : NodeState F) (stx : SignedTx) → s
 abbrev pub GovernsIous : Contracts → Type 0
 GovernsIous contracts = (tx : Tx) (states : Resolved) → contracts 4 tx states ≡ Some (ious_say tx states)
 
--- each debt that a transaction makes is of some amount and between two parties, which both, of parties 0 to 15, have a tag on it, over its id, that checks; and the lender of each debt that it consumes has one, and gets in Cash of the debt's token at least what all debts of that token that it consumes owe that lender
+-- each debt that a transaction makes is of some amount and between two parties, which both, of parties 0 to 15, have a tag on it, over its id, that checks; and the lender of each debt that it consumes has one, and the outputs have Cash of the debt's token for that lender, of at least what all debts of that token that it consumes owe it
 pub record AgreesDebts {F : Type 0} (e : Environment F) (stored : List SignedTx) (stx : SignedTx) : Type 0 where
   pub states : Resolved
   pub resolves : resolved_of (with_ids stored) stx.tx ≡ Some states
@@ -47,7 +47,7 @@ pub record AgreesDebts {F : Type 0} (e : Environment F) (stored : List SignedTx)
   pub lent : (s : TxState) (lender borrower : Party) (token : Token) (amount : ℕ) → Contains stx.tx.outputs s → s.body ≡ Iou lender borrower token amount → lender.0 < 16 → has_signed e.mark stx lender.0 ≡ true
   pub borrowed : (s : TxState) (lender borrower : Party) (token : Token) (amount : ℕ) → Contains stx.tx.outputs s → s.body ≡ Iou lender borrower token amount → borrower.0 < 16 → has_signed e.mark stx borrower.0 ≡ true
   pub settled : (s : TxState) (lender borrower : Party) (token : Token) (amount : ℕ) → Contains states.inputs s → s.body ≡ Iou lender borrower token amount → lender.0 < 16 → has_signed e.mark stx lender.0 ≡ true
-  pub paid : (s : TxState) (lender borrower : Party) (token : Token) (amount : ℕ) → Contains states.inputs s → s.body ≡ Iou lender borrower token amount → owed_in lender token states.inputs ≤ paid_in lender token stx.tx.outputs
+  pub covered : (s : TxState) (lender borrower : Party) (token : Token) (amount : ℕ) → Contains states.inputs s → s.body ≡ Iou lender borrower token amount → owed_in lender token states.inputs ≤ paid_in lender token stx.tx.outputs
 
 -- so it is of each recorded transaction of every node
 abbrev pub DebtsAreAgreed : {F : Type 0} → Environment F → List (NodeState F) → Type 0

@@ -67,8 +67,8 @@ pub fn recorded_facts_were_signed_for<F>()
 {}
 
 /// The law that each debt that a recorded transaction makes is of some amount and between two parties that both have signed it; and that the
-/// lender of each debt that it consumes has, and gets in Cash of the debt's token at least what all debts of that token that it consumes owe that
-/// lender.
+/// lender of each debt that it consumes has, and its outputs have Cash of the debt's token for that lender, of at least what all debts of that
+/// token that it consumes owe it, whoever brought it.
 ///
 /// It asks that the contract of number 4 is that of debts, as in the program; of who signed it speaks of parties 0 to 15. It holds where the laws
 /// above do.
