@@ -20,6 +20,7 @@ use Rattle.ledger_types.specs.declared.verdict.Verdict.TheVariants as verdict
 use Rattle.ledger_types.specs.Signatures.{signs_command, needs, has_signed, is_signed}
 use Rattle.ledger_types.specs.Verdicts.{contract_of, governs, verdict_of}
 use Rattle.cash_contract.specs.Clauses.{cash_says, clauses, is_unbacked, is_unsigned_cash, is_unsigned_exit, is_taken, spends, signs_spending}
+use Rattle.small_contracts.specs.Signing.{signs}
 use Rattle.net_model.specs.Environment.{Environment}
 use Rattle.net_model.specs.State.{NodeState}
 use Rattle.net_model.specs.Stores.{IsProven, StoresHold}
@@ -86,6 +87,10 @@ module _ (tx : Tx) (states : Resolved) (accepted : cash_says tx states ≡ None)
       (λ c both. (and_parts (spends token c.deed) (has_party c.signers owner.0) both).1) spent
 
 -- ---- who has to sign has signed
+
+-- who signs a command of a kind signs one
+pub some_signs : (test : Deed → Bool) (tx : Tx) (p : Party) → signs test tx p ≡ true → signs_command tx p.0 ≡ true
+some_signs test tx p signed = weaker (λ c. test c.deed && has_party c.signers p.0) (λ c. has_party c.signers p.0) tx.commands (λ c both. (and_parts (test c.deed) (has_party c.signers p.0) both).1) signed
 
 pub by_signer : (mark : Party → Hash32 → Hash32) (stx : SignedTx) (p : ℕ) → is_signed mark stx ≡ true → p < 16 → signs_command stx.tx p ≡ true → has_signed mark stx p ≡ true
 by_signer mark stx p signed few signs =

@@ -1,7 +1,7 @@
 -- What the contracts of facts and debts ask of a transaction.
-use Rattle.std.proofs.Common.{◌≡◌, ℕ, zero, suc, ◌+◌, ◌<◌, ◌≤◌, ◌==◌, ◌&&◌, ◌||◌, not, Bool, true, false, List, [], ◌∷◌, Some, None, slice_get, refl, sym, ap, subst, ◌∙◌, arith, true≢false}
+use Rattle.std.proofs.Common.{◌≡◌, ⊎_elim, ℕ, zero, suc, ◌+◌, ◌<◌, ◌≤◌, ◌==◌, ◌&&◌, ◌||◌, not, Bool, true, false, List, [], ◌∷◌, Some, None, slice_get, refl, sym, ap, subst, ◌∙◌, arith}
 use Rattle.std.specs.List.{AllByRecursion, Contains, list_any, enumerate_from}
-use Rattle.std.proofs.lemmas.Bool.{and_parts, and_from, or_parts, or_left, or_right, not-false, eqb-false}
+use Rattle.std.proofs.lemmas.Bool.{and_parts, and_from, and_cases, both_ways, or_parts, or_left, or_right, not-false, eqb-false, ltb-false}
 use Rattle.std.proofs.lemmas.Bool.Decides.{Decides-eqb}
 use Rattle.net_base.specs.declared.values.Party.{Party}
 use Rattle.net_base.specs.declared.names.Token.{Token}
@@ -24,39 +24,22 @@ use Rattle.net_model.specs.Environment.{Environment}
 use Rattle.net_model.specs.State.{NodeState}
 use Rattle.net_model.specs.Stores.{IsProven, StoresHold}
 use Rattle.contract_laws.specs.Lawful.{Contracts}
-use Rattle.contract_laws.specs.Deals.{GovernsFacts, FactsAreClaimed, GovernsIous, DebtsAreAgreed}
+use Rattle.contract_laws.specs.Deals.{GovernsFacts, KeepsAllFacts, GovernsDebts, KeepsAllDebts}
 use Rattle.contract_laws.proofs.Lawful.{all_false, governed, accepts}
-use Rattle.contract_laws.proofs.Authority.{not_one, weaker, by_signer}
-use Rattle.contract_laws.proofs.Locks.{no_less, some_signs}
+use Rattle.contract_laws.proofs.Authority.{not_one, weaker, some_signs, by_signer}
+use Rattle.contract_laws.proofs.Spent.{contained}
 
 -- ---- lists
 
--- what no item passes, that of a place does not
-fails_at : {X : Type 0} (test : X → Bool) (xs : List X) (i : ℕ) (x : X) → list_any test xs ≡ false → slice_get xs i ≡ Some x → test x ≡ false
-fails_at test [] i x none h = absurd cc
-fails_at test (y ∷ ys) zero x none h = subst (λ z. test z ≡ false) (some_eq h) (or_parts (test y) (list_any test ys) none).0
-fails_at test (y ∷ ys) (suc i) x none h = fails_at test ys i x (or_parts (test y) (list_any test ys) none).1 h
+-- each item with its place
+enumerated : {X : Type 0} (k : ℕ) (xs : List X) (i : ℕ) (x : X) → slice_get xs i ≡ Some x → slice_get (enumerate_from k xs) i ≡ Some (k + i, x)
+enumerated k [] i x h = absurd cc
+enumerated {X} k (y ∷ ys) zero x h = let e : k ≡ k + 0 = omega arith in ap (λ (n : ℕ). Some (n, y)) e ∙ ap (λ (z : X). Some (k + 0, z)) (some_eq h)
+enumerated {X} k (y ∷ ys) (suc i) x h = let e : k + 1 + i ≡ k + suc i = omega arith in enumerated (k + 1) ys i x h ∙ ap (λ (n : ℕ). Some (n, x)) e
 
--- it is contained
-placed : {X : Type 0} (xs : List X) (i : ℕ) (x : X) → slice_get xs i ≡ Some x → Contains xs x
-placed [] i x h = absurd cc
-placed (y ∷ ys) zero x h = (zero, omega arith, some_eq h)
-placed (y ∷ ys) (suc i) x h = behind (placed ys i x h)
-  where
-    behind : Contains ys x → Contains (y ∷ ys) x
-    behind (k, lt, is) = (suc k, omega (arith, lt), is)
-
--- each with its place
-numbered : {X : Type 0} (k : ℕ) (xs : List X) (i : ℕ) (x : X) → slice_get xs i ≡ Some x → slice_get (enumerate_from k xs) i ≡ Some (k + i, x)
-numbered k [] i x h = absurd cc
-numbered {X} k (y ∷ ys) zero x h = let e : k ≡ k + 0 = omega arith in ap (λ (n : ℕ). Some (n, y)) e ∙ ap (λ (z : X). Some (k + 0, z)) (some_eq h)
-numbered {X} k (y ∷ ys) (suc i) x h = let e : k + 1 + i ≡ k + suc i = omega arith in numbered (k + 1) ys i x h ∙ ap (λ (n : ℕ). Some (n, x)) e
-
--- of two tests of which one fails, it is the first where the second does not
-first_fails : (a b : Bool) → (a && b) ≡ false → b ≡ true → a ≡ false
-first_fails true true e h = absurd (true≢false e)
-first_fails true false e h = absurd (true≢false (sym h))
-first_fails false b e h = refl
+-- what is so of no item is not so of one at a place, nor of that with its place
+none_at : {X : Type 0} (test : ℕ × X → Bool) (xs : List X) (i : ℕ) (x : X) → list_any test (enumerate_from 0 xs) ≡ false → slice_get xs i ≡ Some x → test (0 + i, x) ≡ false
+none_at test xs i x none at = not_one test (enumerate_from 0 xs) (0 + i, x) none (contained (enumerate_from 0 xs) i (0 + i, x) (enumerated 0 xs i x at))
 
 -- ---- facts
 
@@ -78,14 +61,14 @@ module _ (tx : Tx) (states : Resolved) (accepted : facts_say tx states ≡ None)
 
   told_once : (i j : ℕ) (s t : TxState) (issuer : Party) (name one other : ℕ) → slice_get tx.outputs i ≡ Some s → slice_get tx.outputs j ≡ Some t → s.body ≡ Fact issuer name one → t.body ≡ Fact issuer name other → i ≡ j
   told_once i j s t issuer name one other at_i at_j is_s is_t =
-      let second = fails_at (λ p. is_told_twice tx.outputs p) (enumerate_from 0 tx.outputs) j (0 + j, t) fact_outcomes.1.1.0 (numbered 0 tx.outputs j t at_j) in
-      let both = fails_at (λ q. not (q.0 == 0 + j) && same_fact q.1.body t.body) (enumerate_from 0 tx.outputs) i (0 + i, s) second (numbered 0 tx.outputs i s at_i) in
+      let second = none_at (λ p. is_told_twice tx.outputs p) tx.outputs j t fact_outcomes.1.1.0 at_j in
+      let both = none_at (λ q. not (q.0 == 0 + j) && same_fact q.1.body t.body) tx.outputs i s second at_i in
       let same : same_fact s.body t.body ≡ true = subst (λ (d : StateData). same_fact d t.body ≡ true) (sym is_s) (subst (λ (d : StateData). same_fact (Fact issuer name one) d ≡ true) (sym is_t) (same_name issuer name one other)) in
-      let places : 0 + i ≡ 0 + j = (Decides-eqb (0 + i) (0 + j)).0 (not-false (0 + i == 0 + j) (first_fails (not (0 + i == 0 + j)) (same_fact s.body t.body) both same)) in
+      let places : 0 + i ≡ 0 + j = (Decides-eqb (0 + i) (0 + j)).0 (not-false (0 + i == 0 + j) (⊎_elim (λ k. k) (λ k. absurd (both_ways (same_fact s.body t.body) k same)) (and_cases (not (0 + i == 0 + j)) (same_fact s.body t.body) both))) in
       omega (arith, places)
 
-pub claim_facts : {F : Type 0} (contracts : Contracts) → GovernsFacts contracts → (e : Environment F) (net : List (NodeState F)) → e.judge ≡ verdict_of contracts → StoresHold e net → FactsAreClaimed e net
-claim_facts contracts facts e net judged proven p n s stx at there =
+pub keep_facts : {F : Type 0} (contracts : Contracts) → GovernsFacts contracts → (e : Environment F) (net : List (NodeState F)) → e.judge ≡ verdict_of contracts → StoresHold e net → KeepsAllFacts e net
+keep_facts contracts facts e net judged proven p n s stx at there =
     let one : IsProven e s.stored stx = all_get (IsProven e s.stored) s.stored n stx (proven p s at) there in
     let accepted : verdict_of contracts stx.tx one.states ≡ verdict.Accepted = subst (λ judge. judge stx.tx one.states ≡ verdict.Accepted) judged one.accepted in
     let says : (issuer : Party) (name value : ℕ) → (governs one.states.inputs 3 || governs stx.tx.outputs 3) ≡ true → facts_say stx.tx one.states ≡ None = λ issuer name value has.
@@ -98,7 +81,7 @@ claim_facts contracts facts e net judged proven p n s stx at there =
       made = λ x issuer name value has is few. by_signer e.mark stx issuer.0 one.signed few (maker_signs stx.tx one.states (makes x issuer name value has is) x issuer name value has is);
       consumed = λ x issuer name value has is few. by_signer e.mark stx issuer.0 one.signed few
           (changer_signs stx.tx one.states (says issuer name value (or_left _ _ (subst (λ (d : StateData). governs one.states.inputs (contract_of d) ≡ true) is (governed one.states.inputs x has)))) x issuer name value has is);
-      once = λ i j x y issuer name a b at_i at_j is_x is_y. told_once stx.tx one.states (makes x issuer name a (placed stx.tx.outputs i x at_i) is_x) i j x y issuer name a b at_i at_j is_x is_y;
+      once = λ i j x y issuer name a b at_i at_j is_x is_y. told_once stx.tx one.states (makes x issuer name a (contained stx.tx.outputs i x at_i) is_x) i j x y issuer name a b at_i at_j is_x is_y;
     }
 
 -- ---- debts
@@ -133,10 +116,10 @@ module _ (tx : Tx) (states : Resolved) (accepted : ious_say tx states ≡ None) 
         some_signs is_iou_settle tx lender (not-false (signs is_iou_settle tx lender) (subst (λ (d : StateData). is_forgotten tx d ≡ false) is (not_one (λ x. is_forgotten tx x.body) states.inputs s iou_outcomes.1.1.0 has)))
 
     covers : Contains states.inputs s → owed_in lender token states.inputs ≤ paid_in lender token tx.outputs
-    covers has = no_less (paid_in lender token tx.outputs) (owed_in lender token states.inputs) (subst (λ (d : StateData). is_unpaid tx states d ≡ false) is (not_one (λ x. is_unpaid tx states x.body) states.inputs s iou_outcomes.1.1.1.0 has))
+    covers has = ltb-false (paid_in lender token tx.outputs) (owed_in lender token states.inputs) (subst (λ (d : StateData). is_unpaid tx states d ≡ false) is (not_one (λ x. is_unpaid tx states x.body) states.inputs s iou_outcomes.1.1.1.0 has))
 
-pub agree_debts : {F : Type 0} (contracts : Contracts) → GovernsIous contracts → (e : Environment F) (net : List (NodeState F)) → e.judge ≡ verdict_of contracts → StoresHold e net → DebtsAreAgreed e net
-agree_debts contracts ious e net judged proven p n s stx at there =
+pub keep_debts : {F : Type 0} (contracts : Contracts) → GovernsDebts contracts → (e : Environment F) (net : List (NodeState F)) → e.judge ≡ verdict_of contracts → StoresHold e net → KeepsAllDebts e net
+keep_debts contracts ious e net judged proven p n s stx at there =
     let one : IsProven e s.stored stx = all_get (IsProven e s.stored) s.stored n stx (proven p s at) there in
     let accepted : verdict_of contracts stx.tx one.states ≡ verdict.Accepted = subst (λ judge. judge stx.tx one.states ≡ verdict.Accepted) judged one.accepted in
     let says : (lender borrower : Party) (token : Token) (amount : ℕ) → (governs one.states.inputs 4 || governs stx.tx.outputs 4) ≡ true → ious_say stx.tx one.states ≡ None = λ lender borrower token amount has.
@@ -148,7 +131,8 @@ agree_debts contracts ious e net judged proven p n s stx at there =
     record {
       states = one.states;
       resolves = one.resolves;
-      sound = λ x l b t a has is. has_sense stx.tx one.states (makes x l b t a has is) x l b t a is has;
+      sensible = λ x l b t a has is. has_sense stx.tx one.states (makes x l b t a has is) x l b t a is has;
+      asked = λ x l b t a has is. agreed stx.tx one.states (makes x l b t a has is) x l b t a is has;
       lent = λ x l b t a has is few. by_signer e.mark stx l.0 one.signed few (lender_signs stx.tx one.states (makes x l b t a has is) x l b t a is has);
       borrowed = λ x l b t a has is few. by_signer e.mark stx b.0 one.signed few (borrower_signs stx.tx one.states (makes x l b t a has is) x l b t a is has);
       settled = λ x l b t a has is few. by_signer e.mark stx l.0 one.signed few (settler_signs stx.tx one.states (takes x l b t a has is) x l b t a is has);

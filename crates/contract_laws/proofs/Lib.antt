@@ -1,8 +1,8 @@
 pub mod Lawful
 pub mod Values
 pub mod Authority
-pub mod Locks
 pub mod Deals
+pub mod Locks
 pub mod Sums
 pub mod Outputs
 pub mod Supply

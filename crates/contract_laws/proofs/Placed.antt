@@ -18,14 +18,14 @@ use Rattle.contract_laws.specs.Everywhere.{Everywhere}
 use Rattle.contract_laws.specs.Lawful.{Contracts, AreLawful}
 use Rattle.contract_laws.specs.Values.{GovernsCash, KeepsAllValue}
 use Rattle.contract_laws.specs.Authority.{AreSignedFor}
-use Rattle.contract_laws.specs.Locks.{GovernsLocks, KeepsLocks}
-use Rattle.contract_laws.specs.Deals.{GovernsFacts, FactsAreClaimed, GovernsIous, DebtsAreAgreed}
+use Rattle.contract_laws.specs.Locks.{GovernsLocks, LocksWereDue}
+use Rattle.contract_laws.specs.Deals.{GovernsFacts, KeepsAllFacts, GovernsDebts, KeepsAllDebts}
 use Rattle.contract_laws.specs.Supply.{AreAccounted}
 use Rattle.contract_laws.proofs.Lawful.{lawful}
 use Rattle.contract_laws.proofs.Values.{keeps_value}
 use Rattle.contract_laws.proofs.Authority.{signed_for}
-use Rattle.contract_laws.proofs.Locks.{open_in_time}
-use Rattle.contract_laws.proofs.Deals.{claim_facts, agree_debts}
+use Rattle.contract_laws.proofs.Locks.{open_when_due}
+use Rattle.contract_laws.proofs.Deals.{keep_facts, keep_debts}
 use Rattle.contract_laws.proofs.Gathered.{are_accounted}
 
 module _ {F : Type 0} (m : Meaning F) where
@@ -74,12 +74,12 @@ module _ {F : Type 0} (machine : Machine F) (frame_at : List ℕ → Result (F �
     all_accounted keeps bare = from_both judged keeps bare (λ id. accepted_names contracts) AreAccounted
         (λ id net whole spent. are_accounted contracts (environment judged id) net whole spent (are_lawful id net whole) (keep_value id net whole))
 
-  pub all_opened : GovernsLocks contracts → KeepsTags machine → BeginsBare machine → Everywhere judged KeepsLocks
-  all_opened locks keeps bare = from_windows judged keeps bare (λ id. accepted_names contracts) KeepsLocks
-      (λ id lists whole windows. open_in_time contracts locks (environment judged id) lists _ refl (stores_of (environment judged id) _ whole) windows)
+  pub all_due : GovernsLocks contracts → KeepsTags machine → BeginsBare machine → Everywhere judged LocksWereDue
+  all_due locks keeps bare = from_windows judged keeps bare (λ id. accepted_names contracts) LocksWereDue
+      (λ id lists whole windows. open_when_due contracts locks (environment judged id) lists _ refl (stores_of (environment judged id) _ whole) windows)
 
-  pub all_claimed : GovernsFacts contracts → Everywhere judged (Made FactsAreClaimed)
-  all_claimed facts = from_chains judged FactsAreClaimed (λ id net whole. claim_facts contracts facts (environment judged id) net refl (stores_of (environment judged id) net whole))
+  pub all_claimed : GovernsFacts contracts → Everywhere judged (Made KeepsAllFacts)
+  all_claimed facts = from_chains judged KeepsAllFacts (λ id net whole. keep_facts contracts facts (environment judged id) net refl (stores_of (environment judged id) net whole))
 
-  pub all_agreed : GovernsIous contracts → Everywhere judged (Made DebtsAreAgreed)
-  all_agreed ious = from_chains judged DebtsAreAgreed (λ id net whole. agree_debts contracts ious (environment judged id) net refl (stores_of (environment judged id) net whole))
+  pub all_agreed : GovernsDebts contracts → Everywhere judged (Made KeepsAllDebts)
+  all_agreed ious = from_chains judged KeepsAllDebts (λ id net whole. keep_debts contracts ious (environment judged id) net refl (stores_of (environment judged id) net whole))

@@ -64,10 +64,10 @@ apart_once same (x ∷ xs) ys one other apart =
     or_from _ _ (list_any-append (λ y. same y x) xs ys ∙ or_from _ _ both.0 apart.0) (apart_once same xs ys both.1 other apart.1)
 
 -- what stands at a place is contained, and so is a reference that is one of these
-contained : (refs : List StateRef) (n : ℕ) (r : StateRef) → slice_get refs n ≡ Some r → Contains refs r
-contained [] n r at = absurd cc
-contained (x ∷ xs) zero r at = (zero, omega arith, some_eq at)
-contained (x ∷ xs) (suc n) r at = let h = contained xs n r at in let lt = h.1 in (suc h.0, omega (arith, lt), h.2)
+pub contained : {X : Type 0} (xs : List X) (n : ℕ) (x : X) → slice_get xs n ≡ Some x → Contains xs x
+contained [] n x at = absurd cc
+contained (y ∷ ys) zero x at = (zero, omega arith, some_eq at)
+contained (y ∷ ys) (suc n) x at = let h = contained ys n x at in let lt = h.1 in (suc h.0, omega (arith, lt), h.2)
 
 one_of : (refs : List StateRef) (r : StateRef) → has_ref r refs ≡ true → Contains refs r
 one_of [] r has = absurd cc

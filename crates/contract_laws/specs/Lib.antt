@@ -2,6 +2,6 @@ pub mod Everywhere
 pub mod Lawful
 pub mod Values
 pub mod Authority
-pub mod Locks
 pub mod Deals
+pub mod Locks
 pub mod Supply

@@ -1,4 +1,4 @@
--- When, and by whom, time locks were opened that recorded transactions consume.
+-- When, and by whom, time locks were made and opened by recorded transactions.
 use Rattle.std.specs.Prelude.{◌≡◌, ℕ, ◌<◌, ◌≤◌, true, List, Some, IfSome, slice_get, Contains}
 use Rattle.net_base.specs.declared.values.Moment.{Moment}
 use Rattle.net_base.specs.declared.values.Party.{Party}
@@ -24,18 +24,20 @@ use Rattle.contract_laws.specs.Lawful.{Contracts}
 abbrev pub GovernsLocks : Contracts → Type 0
 GovernsLocks contracts = (tx : Tx) (states : Resolved) → contracts 2 tx states ≡ Some (locks_say tx states)
 
--- of each time lock that a transaction consumes: its owner, of parties 0 to 15, has a tag on the transaction, over its id, that checks; and the notary first signed that id at the lock's end or later, by the moment of its journal's record, where the window has moments of 64 bits and no digests of what was hashed to sign it collide, and none is all zeros or all ones
-pub record OpensInTime {F : Type 0} (e : Environment F) (lists : List (List (List ℕ))) (net : List (NodeState F)) (stored : List SignedTx) (stx : SignedTx) : Type 0 where
+-- the owner, of parties 0 to 15, of each time lock that a transaction makes or consumes has a tag on it, over its id, that checks; and the notary first signed a transaction that consumes one, by a record of its journal whose moment is the lock's end or later, where the window's moments have 64 bits, no digests of what was hashed to sign the transaction collide, and none is all zeros or all ones
+pub record OpensWhenDue {F : Type 0} (e : Environment F) (lists : List (List (List ℕ))) (net : List (NodeState F)) (stored : List SignedTx) (stx : SignedTx) : Type 0 where
   pub states : Resolved
   pub resolves : resolved_of (with_ids stored) stx.tx ≡ Some states
-  pub owner : (s : TxState) (owner : Party) (until : Moment) → Contains states.inputs s → s.body ≡ TimeLock owner until → owner.0 < 16 → has_signed e.mark stx owner.0 ≡ true
-  pub after : (s : TxState) (owner : Party) (until : Moment) → Contains states.inputs s → s.body ≡ TimeLock owner until → IfSome stx.tx.window IsWindow → AreApart (hashed_to_sign (book_of e net) stx.tx)
-      → (signed : IsSignedInWindow e lists net stx.tx) × (until.0 ≤ signed.at.cause.moment.0)
+  pub made : (s : TxState) (owner : Party) (until : Moment) → Contains stx.tx.outputs s → s.body ≡ TimeLock owner until → owner.0 < 16 → has_signed e.mark stx owner.0 ≡ true
+  pub opened : (s : TxState) (owner : Party) (until : Moment) → Contains states.inputs s → s.body ≡ TimeLock owner until → owner.0 < 16 → has_signed e.mark stx owner.0 ≡ true
+  pub signed : (s : TxState) (owner : Party) (until : Moment) → Contains states.inputs s → s.body ≡ TimeLock owner until → IsSignedInWindow e lists net stx.tx
+  pub due : (s : TxState) (owner : Party) (until : Moment) (has : Contains states.inputs s) (is : s.body ≡ TimeLock owner until) → IfSome stx.tx.window IsWindow → AreApart (hashed_to_sign (book_of e net) stx.tx)
+      → until.0 ≤ (signed s owner until has is).at.cause.moment.0
 
--- so it is of each recorded transaction of these nodes
-abbrev pub OpenInTime : {F : Type 0} → Environment F → List (List (List ℕ)) → List (NodeState F) → Type 0
-OpenInTime {F} e lists net = (p n : ℕ) (s : NodeState F) (stx : SignedTx) → slice_get net p ≡ Some s → slice_get s.stored n ≡ Some stx → OpensInTime e lists net s.stored stx
+-- so does each recorded transaction of these nodes
+abbrev pub OpenWhenDue : {F : Type 0} → Environment F → List (List (List ℕ)) → List (NodeState F) → Type 0
+OpenWhenDue {F} e lists net = (p n : ℕ) (s : NodeState F) (stx : SignedTx) → slice_get net p ≡ Some s → slice_get s.stored n ≡ Some stx → OpensWhenDue e lists net s.stored stx
 
 -- so it is of what journals make
-abbrev pub KeepsLocks : {F : Type 0} → Environment F → List (List (List ℕ)) → Type 0
-KeepsLocks e lists = OpenInTime e lists (states_of e lists)
+abbrev pub LocksWereDue : {F : Type 0} → Environment F → List (List (List ℕ)) → Type 0
+LocksWereDue e lists = OpenWhenDue e lists (states_of e lists)

@@ -7,8 +7,8 @@ ghost use Rattle.contract_laws.specs.Everywhere.{Everywhere};
 ghost use Rattle.contract_laws.specs.Lawful.{Contracts, AreLawful};
 ghost use Rattle.contract_laws.specs.Values.{GovernsCash, KeepsAllValue};
 ghost use Rattle.contract_laws.specs.Authority.{AreSignedFor};
-ghost use Rattle.contract_laws.specs.Locks.{GovernsLocks, KeepsLocks};
-ghost use Rattle.contract_laws.specs.Deals.{GovernsFacts, FactsAreClaimed, GovernsIous, DebtsAreAgreed};
+ghost use Rattle.contract_laws.specs.Deals.{GovernsFacts, KeepsAllFacts, GovernsDebts, KeepsAllDebts};
+ghost use Rattle.contract_laws.specs.Locks.{GovernsLocks, LocksWereDue};
 ghost use Rattle.contract_laws.specs.Supply.{AreAccounted};
 
 use flow_machine::FlowSet;
@@ -45,37 +45,37 @@ pub fn recorded_cash_is_signed_for<F>()
         (Made AreSignedFor) }
 {}
 
-/// The law that each time lock that a recorded transaction consumes was due: the lock's owner has signed the transaction, and the notary first
-/// signed it at the lock's end or later, by the moment of its journal's record.
-///
-/// It asks that the contract of number 2 is that of time locks, as in the program; and of one transaction what `no_state_is_spent_twice`
-/// (`ledger_laws`) does, and that the moments of its window have 64 bits, as those of `Window` have. Of owners it speaks of parties 0 to 15. It
-/// holds where the laws above do.
-pub fn recorded_time_locks_were_due<F: FlowSet>()
-    ensures { (contracts : Contracts) → GovernsLocks contracts
-        → Everywhere (meaning F.machine F.reading (verdict_of contracts)) KeepsLocks }
-{}
-
-/// The law that each fact that a recorded transaction makes or consumes was signed for by its issuer, and that it makes no two of one issuer and
-/// name.
+/// The law that the issuer of each fact that a recorded transaction makes or consumes has signed the transaction, and that the transaction makes
+/// no two facts of one issuer and name.
 ///
 /// It asks that the contract of number 3 is that of facts, as in the program, and speaks of parties 0 to 15. It holds where the laws above do.
 pub fn recorded_facts_were_signed_for<F>()
     ensures { (m : Machine F) (frame_at : List ℕ → Result (F × List ℕ) ℕ) (contracts : Contracts)
         → GovernsFacts contracts → Everywhere (meaning m frame_at (verdict_of contracts))
-        (Made FactsAreClaimed) }
+        (Made KeepsAllFacts) }
 {}
 
-/// The law that each debt that a recorded transaction makes is of some amount and between two parties that both have signed it; and that the
-/// lender of each debt that it consumes has, and its outputs have Cash of the debt's token for that lender, of at least what all debts of that
-/// token that it consumes owe it, whoever brought it.
+/// The law that each debt that a recorded transaction makes is of an amount above 0 and between two parties, whom one command that makes debts
+/// names as signers, and who both have signed the transaction; that the lender of each debt that it consumes has; and that its outputs have Cash
+/// of that debt's token for that lender, of at least what all debts of the token that it consumes owe the lender, whoever brought it.
 ///
-/// It asks that the contract of number 4 is that of debts, as in the program; of who signed it speaks of parties 0 to 15. It holds where the laws
-/// above do.
+/// It asks that the contract of number 4 is that of debts, as in the program; of who has signed it speaks of parties 0 to 15. It holds where the
+/// laws above do.
 pub fn recorded_debts_were_agreed<F>()
     ensures { (m : Machine F) (frame_at : List ℕ → Result (F × List ℕ) ℕ) (contracts : Contracts)
-        → GovernsIous contracts → Everywhere (meaning m frame_at (verdict_of contracts))
-        (Made DebtsAreAgreed) }
+        → GovernsDebts contracts → Everywhere (meaning m frame_at (verdict_of contracts))
+        (Made KeepsAllDebts) }
+{}
+
+/// The law that the owner of each time lock that a recorded transaction makes or consumes has signed the transaction, and that each one that it
+/// consumes was due: the notary first signed the transaction at the lock's end or later, by the moment of its journal's record.
+///
+/// It asks that the contract of number 2 is that of time locks, as in the program, and of flows that none makes a tag up. That the moment is late
+/// enough asks what `recorded_was_signed_in_its_window` (`ledger_laws`) does, of digests and of the window. Of owners the law speaks of parties 0
+/// to 15. It holds where the laws above do.
+pub fn recorded_time_locks_were_due<F: FlowSet>()
+    ensures { (contracts : Contracts) → GovernsLocks contracts
+        → Everywhere (meaning F.machine F.reading (verdict_of contracts)) LocksWereDue }
 {}
 
 /// The law that, of every token, the Cash that recorded transactions leave unconsumed is what they issued less what they exited, and that the

@@ -36,6 +36,7 @@ use Rattle.tx_tear.proofs.Collisions.{Inside, Nonces32, bytes_of, inside, all_ri
 use Rattle.tx_tear.proofs.Groups.{values_torn, truncated, components_of, present_at, torn_at}
 use Rattle.tx_tear.proofs.Lengths.{length_digest, long_root, long_value, long_values}
 use Rattle.tx_tear.proofs.Places.{IsSized, IsSound, sound, same_bytes_named}
+use Rattle.tx_tear.proofs.Shows.{one_of, all_of}
 use Rattle.tx_tear.proofs.Sights.{tear_included}
 use Rattle.tx_tear.proofs.Spelling.{spelt_of}
 use Rattle.net_model.specs.State.{with_ids}
@@ -223,16 +224,8 @@ module _ (tx : Tx) (torn : TornTx) (seen : Visible) (apart : AreApart (hashed_fo
   pub signed_inputs : AllByRecursion IsStateRef tx.inputs → seen.inputs ≡ tx.inputs
   signed_inputs limits = some_eq (sym good.inputs ∙ spelt_of state_ref_laws good.parts tx.inputs limits (shown_bytes 0 good.parts (omega arith) refl good.there))
 
-  -- the window is shown, if there is one, where its moments are of 64 bits
+  -- the window is shown, if there is one, where its moments have 64 bits
   pub signed_window : IfSome tx.window IsWindow → seen.window ≡ tx.window
   signed_window limits =
-      let windows : good.windows ≡ option_to_list tx.window = some_eq (sym good.spelt_window ∙ spelt_of window_laws good.of_window (option_to_list tx.window) (each tx.window limits) (shown_bytes 5 good.of_window (omega arith) refl good.window_there)) in
-      some_eq (sym good.window ∙ ap at_most_one windows ∙ only tx.window)
-    where
-      each : (o : Option Window) → IfSome o IsWindow → AllByRecursion IsWindow (option_to_list o)
-      each None limits = tt
-      each (Some w) limits = (limits, tt)
-
-      only : (o : Option Window) → at_most_one (option_to_list o) ≡ Some o
-      only None = refl
-      only (Some w) = refl
+      let windows : good.windows ≡ option_to_list tx.window = some_eq (sym good.spelt_window ∙ spelt_of window_laws good.of_window (option_to_list tx.window) (all_of IsWindow tx.window limits) (shown_bytes 5 good.of_window (omega arith) refl good.window_there)) in
+      some_eq (sym good.window ∙ ap at_most_one windows ∙ one_of tx.window)

@@ -1,5 +1,6 @@
 -- An id is signed first at a moment inside the window that its tear-off shows, which is the transaction's where no digests collide.
-use Rattle.std.proofs.Common.{◌≡◌, ℕ, zero, suc, List, [], ◌∷◌, ◌++◌, map, Option, Some, None, Bool, true, false, cond, not, find, option_to_list, slice_get, refl, sym, ap, subst, ◌∙◌, append_assoc, append-nil, true≢false}
+use Rattle.std.proofs.Common.{◌≡◌, ℕ, zero, suc, List, [], ◌∷◌, ◌++◌, map, Option, Some, None, Bool, true, false, cond, not, find, take, option_to_list, slice_get, refl, sym, ap, subst, ◌∙◌, append_assoc, append-nil, true≢false}
+use Rattle.std.specs.Prelude.{IfSome}
 use Rattle.std.specs.List.{AllByRecursion, list_any}
 use Rattle.std.proofs.lemmas.Bool.{or_parts}
 use Rattle.std.proofs.lemmas.Option.{none-some}
@@ -7,7 +8,7 @@ use Rattle.net_base.specs.declared.values.Hash32.{Hash32}
 use Rattle.net_base.specs.declared.values.Party.{Party}
 use Rattle.net_base.specs.declared.values.Moment.{Moment}
 use Rattle.net_base.specs.declared.names.Identity.{Identity}
-use Rattle.net_base.proofs.Lists.{all_find, all_get, none_push, of_map}
+use Rattle.net_base.proofs.Lists.{all_find, all_get, find_push, none_push, of_map}
 use Rattle.net_base.proofs.Options.{some_eq}
 use Rattle.ledger_types.specs.declared.tx.Window.{Window}
 use Rattle.ledger_types.specs.declared.tx.Tx.{Tx}
@@ -22,6 +23,7 @@ use Rattle.ledger_types.specs.Names.{is_party}
 use Rattle.ledger_types.specs.Notary.{is_signature, signs, conflicts, is_inside, tag_by, has_good_tag, answer_unsigned, answer_shown, answer_torn, answer_new, is_notary, IsBook}
 use Rattle.ledger_types.specs.Signatures.{tx_id}
 use Rattle.ledger_types.specs.Tears.{visible_of}
+use Rattle.ledger_types.specs.Txs.{IsWindow}
 use Rattle.tx_tear.specs.Hashed.{AreApart, hashed_for_all}
 use Rattle.tx_tear.specs.Tearing.{tear_of}
 use Rattle.notary_book.proofs.Once.{added}
@@ -30,11 +32,11 @@ use Rattle.net_model.specs.State.{NodeState, Record, apply_effect, fresh, replay
 use Rattle.net_model.specs.Runs.{stamped, IsLocalFrom, IsLocal, AreLocal}
 use Rattle.net_model.specs.Stores.{IsProven, StoresHold, NamesNotary}
 use Rattle.net_model.specs.Tags.{entries_at, book_of}
-use Rattle.net_model.proofs.Basics.{apply_entries}
+use Rattle.net_model.proofs.Basics.{apply_entries, find_before}
 use Rattle.net_model.proofs.BookKept.{IsBookedAt, step_booked}
 use Rattle.net_model.proofs.Effects.{Stepped, step_taken}
 use Rattle.node_tables.specs.Journals.{records_of}
-use Rattle.ledger_laws.specs.Ledgers.{IsSignedInBook}
+use Rattle.ledger_laws.specs.Ledgers.{IsSignedInBook, hashed_to_sign}
 use Rattle.ledger_laws.specs.Windows.{IsSignedInWindow, AreSignedInWindows}
 use Rattle.ledger_laws.proofs.Reading.{IsSizedEntry}
 use Rattle.ledger_laws.proofs.Inputs.{signed_window}
@@ -43,7 +45,7 @@ use Rattle.ledger_laws.proofs.Spending.{found_first, over_is}
 
 -- ---- what is signed anew is signed inside the window
 
--- of two answers of which the first is no signature or not given, a signature is the second
+-- of two answers, of which the first is no signature, or is not the one that is given, a signature is the second
 if_other : (b : Bool) (x y : NotaryAnswer) → is_signature x ≡ false → is_signature (cond b x y) ≡ true → is_signature y ≡ true
 if_other true x y unsigned h = absurd (true≢false (sym h ∙ unsigned))
 if_other false x y unsigned h = h
@@ -71,14 +73,10 @@ module _ (mark : Party → Hash32 → Hash32) where
 
 -- ---- the record that booked the first entry that signed an id
 
--- where none passes none is found, and where none passed before one that does, it is found
+-- where none passes none is found
 unfound : {X : Type 0} (P : X → Bool) (xs : List X) → list_any P xs ≡ false → find P xs ≡ None
 unfound P [] none = refl
 unfound P (x ∷ xs) none = let both = or_parts (P x) (list_any P xs) none in ap (λ (b : Bool). cond b (Some x) (find P xs)) both.0 ∙ unfound P xs both.1
-
-found_here : {X : Type 0} (P : X → Bool) (xs more : List X) (x : X) → list_any P xs ≡ false → P x ≡ true → find P ((xs ++ x ∷ []) ++ more) ≡ Some x
-found_here P [] more x none passes = ap (λ (b : Bool). cond b (Some x) (find P more)) passes
-found_here P (y ∷ ys) more x none passes = let both = or_parts (P y) (list_any P ys) none in ap (λ (b : Bool). cond b (Some y) (find P ((ys ++ x ∷ []) ++ more))) both.0 ∙ found_here P ys more x both.1 passes
 
 -- entries that were booked stay
 grown : {F : Type 0} (s : NodeState F) (rs : List (Record F)) → (more : List Entry) × ((replay_from s rs).entries ≡ s.entries ++ more)
@@ -88,21 +86,20 @@ grown s (r ∷ rs) =
     let later = grown (apply_effect s r.cause r.effect) rs in
     (new ++ later.0, later.1 ∙ ap (λ (l : List Entry). l ++ later.0) (apply_entries s r.cause r.effect) ∙ append_assoc s.entries new later.0)
 
--- a record of the journal booked the entry, at its moment, over entries that had not signed the id
-record IsFirstOf {F : Type 0} (w : Environment F) (p : ℕ) (id : Hash32) (entry : Entry) (rs : List (Record F)) : Type 0 where
+-- a record that follows a state booked the entry, at its moment, over entries that had not signed the id
+record IsFirstOf {F : Type 0} (w : Environment F) (p : ℕ) (id : Hash32) (entry : Entry) (s : NodeState F) (rs : List (Record F)) : Type 0 where
   place : ℕ
   at : Record F
   there : slice_get rs place ≡ Some at
   booked : at.effect.change.booked ≡ Some entry
-  before : List Entry
-  unsigned : list_any (signs id) before ≡ false
-  fresh : IsBookedAt w.mark (identity w p) before (record { 0 = at.cause.moment.0 }) entry
+  unsigned : list_any (signs id) (replay_from s (take place rs)).entries ≡ false
+  fresh : IsBookedAt w.mark (identity w p) (replay_from s (take place rs)).entries (record { 0 = at.cause.moment.0 }) entry
 
 module _ {F : Type 0} (w : Environment F) (p : ℕ) (id : Hash32) (entry : Entry) where
-  behind : (r : Record F) (rs : List (Record F)) → IsFirstOf w p id entry rs → IsFirstOf w p id entry (r ∷ rs)
-  behind r rs f = record { place = suc f.place; at = f.at; there = f.there; booked = f.booked; before = f.before; unsigned = f.unsigned; fresh = f.fresh }
+  behind : (s : NodeState F) (r : Record F) (rs : List (Record F)) → IsFirstOf w p id entry (apply_effect s r.cause r.effect) rs → IsFirstOf w p id entry s (r ∷ rs)
+  behind s r rs f = record { place = suc f.place; at = f.at; there = f.there; booked = f.booked; unsigned = f.unsigned; fresh = f.fresh }
 
-  first_from : (s : NodeState F) (rs : List (Record F)) → IsLocalFrom w p s rs → list_any (signs id) s.entries ≡ false → find (signs id) (replay_from s rs).entries ≡ Some entry → IsFirstOf w p id entry rs
+  first_from : (s : NodeState F) (rs : List (Record F)) → IsLocalFrom w p s rs → list_any (signs id) s.entries ≡ false → find (signs id) (replay_from s rs).entries ≡ Some entry → IsFirstOf w p id entry s rs
   first_from s [] local none is = absurd (none-some entry (sym (unfound (signs id) s.entries none) ∙ is))
   first_from s (r ∷ rs) local none is = by r.effect.change.booked refl (λ still. first_from next rs (subst (λ (x : NodeState F). IsLocalFrom w p x rs) st.state local.3) still is)
     where
@@ -112,32 +109,36 @@ module _ {F : Type 0} (w : Environment F) (p : ℕ) (id : Hash32) (entry : Entry
       st : Stepped w p s r.cause (stamped local.0 r.effect.change.came) local.1 r.effect
       st = step_taken w p s local.1 r.cause _ r.effect local.2
 
-      by : (o : Option Entry) → r.effect.change.booked ≡ o → (list_any (signs id) next.entries ≡ false → IsFirstOf w p id entry rs) → IsFirstOf w p id entry (r ∷ rs)
-      by None e later = behind r rs (later (subst (λ (l : List Entry). list_any (signs id) l ≡ false) (sym (apply_entries s r.cause r.effect ∙ ap (λ (o : Option Entry). s.entries ++ option_to_list o) e ∙ append-nil s.entries)) none))
+      by : (o : Option Entry) → r.effect.change.booked ≡ o → (list_any (signs id) next.entries ≡ false → IsFirstOf w p id entry next rs) → IsFirstOf w p id entry s (r ∷ rs)
+      by None e later = behind s r rs (later (subst (λ (l : List Entry). list_any (signs id) l ≡ false) (sym (apply_entries s r.cause r.effect ∙ ap (λ (o : Option Entry). s.entries ++ option_to_list o) e ∙ append-nil s.entries)) none))
       by (Some b) e later = on (signs id b) refl
         where
           after : next.entries ≡ s.entries ++ b ∷ []
           after = apply_entries s r.cause r.effect ∙ ap (λ (o : Option Entry). s.entries ++ option_to_list o) e
 
-          on : (t : Bool) → signs id b ≡ t → IsFirstOf w p id entry (r ∷ rs)
+          on : (t : Bool) → signs id b ≡ t → IsFirstOf w p id entry s (r ∷ rs)
           on true signed =
               let more = grown next rs in
-              let found : find (signs id) (replay_from next rs).entries ≡ Some b = ap (find (signs id)) (more.1 ∙ ap (λ (l : List Entry). l ++ more.0) after) ∙ found_here (signs id) s.entries more.0 b none signed in
+              let found : find (signs id) (replay_from next rs).entries ≡ Some b =
+              ap (find (signs id)) (more.1 ∙ ap (λ (l : List Entry). l ++ more.0) after) ∙ find_before (signs id) (s.entries ++ b ∷ []) more.0 b (find_push (signs id) s.entries b (unfound (signs id) s.entries none) signed) in
               let same : b ≡ entry = some_eq (sym found ∙ is) in
               record {
                 place = zero;
                 at = r;
                 there = refl;
                 booked = e ∙ ap Some same;
-                before = s.entries;
                 unsigned = none;
                 fresh = subst (IsBookedAt w.mark (identity w p) s.entries (record { 0 = r.cause.moment.0 })) same (step_booked w p s r.cause _ r.effect st.effect b e);
               }
-          on false other = behind r rs (later (subst (λ (l : List Entry). list_any (signs id) l ≡ false) (sym after) (none_push (signs id) s.entries b none other)))
+          on false other = behind s r rs (later (subst (λ (l : List Entry). list_any (signs id) l ≡ false) (sym after) (none_push (signs id) s.entries b none other)))
 
-  first_of : (rs : List (Record F)) → IsLocal w p rs → find (signs id) (replay rs).entries ≡ Some entry → IsFirstOf w p id entry rs
+  first_of : (rs : List (Record F)) → IsLocal w p rs → find (signs id) (replay rs).entries ≡ Some entry → IsFirstOf w p id entry fresh rs
   unfolding replay
   first_of rs local is = first_from fresh rs local refl is
+
+  unsigned_before : (rs : List (Record F)) (f : IsFirstOf w p id entry fresh rs) → list_any (signs id) (replay (take f.place rs)).entries ≡ false
+  unfolding replay
+  unsigned_before rs f = f.unsigned
 
 -- ---- a recorded transaction
 
@@ -149,7 +150,8 @@ module _ {F : Type 0} (e : Environment F) (lists : List (List (List ℕ))) where
   net = map replay journals
 
   module _ (book : IsBook e.mark (identity e e.notary.0) (book_of e net)) (local : AreLocal e journals) (proven : StoresHold e net) (signed : IsSignedInBook e net) (names : NamesNotary e) (booked_sized : AllByRecursion IsSizedEntry (book_of e net)) where
-    booked_in : (tx : Tx) (entry : Entry) (v : Visible) → find (signs (tx_id tx)) (book_of e net) ≡ Some entry → tx_id tx ≡ entry.request.torn.id → is_signature entry.answer ≡ true → visible_of entry.request.torn ≡ Some v → v.window ≡ tx.window → IsSignedInWindow e lists net tx
+    booked_in : (tx : Tx) (entry : Entry) (v : Visible) → find (signs (tx_id tx)) (book_of e net) ≡ Some entry → tx_id tx ≡ entry.request.torn.id → is_signature entry.answer ≡ true → visible_of entry.request.torn ≡ Some v
+        → (IfSome tx.window IsWindow → AreApart (hashed_to_sign (book_of e net) tx) → v.window ≡ tx.window) → IsSignedInWindow e lists net tx
     booked_in tx entry v is of signature sees window = by (slice_get net e.notary.0) refl is
       where
         by : (o : Option (NodeState F)) → slice_get net e.notary.0 ≡ o → find (signs (tx_id tx)) (entries_at o) ≡ Some entry → IsSignedInWindow e lists net tx
@@ -167,15 +169,18 @@ module _ {F : Type 0} (e : Environment F) (lists : List (List (List ℕ))) where
               entry = entry;
               booked = one.booked;
               first = is;
-              inside = subst (λ (o : Option Window). is_inside o one.at.cause.moment ≡ true) window
-                  (booked_inside e.mark (identity e e.notary.0) one.before one.at.cause.moment entry v one.fresh sees signature (subst (λ (id : Hash32). list_any (signs id) one.before ≡ false) of one.unsigned));
+              unsigned = subst (λ (rs : List (Record F)). list_any (signs (tx_id tx)) (replay (take one.place rs)).entries ≡ false) (sym bodies.2) (unsigned_before e e.notary.0 (tx_id tx) entry records.0 one);
+              inside = λ limits apart. subst (λ (o : Option Window). is_inside o one.at.cause.moment ≡ true) (window limits apart)
+                  (booked_inside e.mark (identity e e.notary.0) (replay_from fresh (take one.place records.0)).entries one.at.cause.moment entry v one.fresh sees signature
+                  (subst (λ (id : Hash32). list_any (signs id) (replay_from fresh (take one.place records.0)).entries ≡ false) of one.unsigned));
             }
 
     pub in_windows : AreSignedInWindows e lists net
-    in_windows p n s stx at there asks limits apart =
+    in_windows p n s stx at there asks =
         let one = all_get (IsProven e s.stored) s.stored n stx (proven p s at) there in
         let found = found_first (signs (tx_id stx.tx)) (book_of e net) (signed.stored p n s stx at there asks) in
         let first = first_signed e.mark (identity e e.notary.0) (book_of e net) (tx_id stx.tx) found.0 book found.1 in
-        let apart_two : AreApart (hashed_for_all [] (tear_of stx.tx ∷ found.0.request.torn ∷ [])) = subst (λ (l : List TornTx). AreApart (hashed_for_all [] (tear_of stx.tx ∷ l))) (over_is (book_of e net) (tx_id stx.tx) found.0 found.1) apart in
         let sized : IsSizedEntry found.0 = all_find IsSizedEntry (signs (tx_id stx.tx)) (book_of e net) found.0 booked_sized found.1 in
-        booked_in stx.tx found.0 first.shown.seen found.1 first.of first.signed first.shown.sees (signed_window stx.tx found.0.request.torn first.shown.seen apart_two sized first.of first.shown.sees (names stx.tx one.states one.accepted asks) first.shown.names limits)
+        booked_in stx.tx found.0 first.shown.seen found.1 first.of first.signed first.shown.sees (λ limits apart.
+        let apart_two : AreApart (hashed_for_all [] (tear_of stx.tx ∷ found.0.request.torn ∷ [])) = subst (λ (l : List TornTx). AreApart (hashed_for_all [] (tear_of stx.tx ∷ l))) (over_is (book_of e net) (tx_id stx.tx) found.0 found.1) apart in
+        signed_window stx.tx found.0.request.torn first.shown.seen apart_two sized first.of first.shown.sees (names stx.tx one.states one.accepted asks) first.shown.names limits)

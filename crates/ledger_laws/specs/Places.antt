@@ -1,4 +1,4 @@
--- Where a fact of all ledgers holds: of every coherent world, at every moment of a way, and after every line of a script.
+-- Where a fact of all journals holds: of every coherent world, and at every moment of a way.
 use Rattle.std.specs.Prelude.{ℕ, List, map}
 use Rattle.node_core.specs.Disks.{Image, spelt}
 use Rattle.net_base.specs.declared.names.Identity.{Identity}

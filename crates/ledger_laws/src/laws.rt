@@ -50,9 +50,10 @@ pub fn no_state_is_spent_twice<F: FlowSet, J: Judge>()
 {}
 
 /// The law that each recorded transaction that has an input, a reference or a time window was first signed by the notary at a moment that its
-/// window holds, if it has one: a record of the notary's journal, of that moment, booked the first entry of its book that signed its id.
+/// window holds, if it has one: a record of the notary's journal, of that moment, booked the first entry of its book that signed the id.
 ///
-/// It asks what the law above asks, of the one transaction, and that the moments of its window have 64 bits, as those of `Window` have.
+/// It asks of flows and contracts what `what_is_held_was_signed` does. Only that the window holds the moment asks more: of digests what the law
+/// above does, of the one transaction; and that the moments of the window have 64 bits, as those of `Window` have.
 pub fn recorded_was_signed_in_its_window<F: FlowSet, J: Judge>()
     ensures worlds { (contracts : J) → InWorlds (meaning F.machine F.reading (J.judges contracts))
         KeepsWindows }

@@ -1,8 +1,8 @@
 //! What those who depend on a ledger may rely on, whatever its network does: the notary signs one consumer of each state; what it signed
-//! is in its book, and was signed within its time window; what a node recorded has its whole back-chain there; and no state is spent twice.
+//! is in its book; what a node recorded has its whole back-chain there, and was first signed within its time window; and no state is spent twice.
 //!
-//! The definitions stand in `specs/`: `Ledgers` says what holds of the ledgers of all nodes, `Windows` when they were signed, `Places` where it
-//! holds. The functions do nothing when they run; their contracts are the laws.
+//! The definitions stand in `specs/`: `Ledgers` says what holds of the ledgers of all nodes, `Windows` when the notary signed what they recorded,
+//! `Places` where this holds. The functions do nothing when they run; their contracts are the laws.
 #![tactic(auto)]
 
 mod laws;

@@ -8,8 +8,8 @@ returns c = record {
   lawful = c.recorded_is_accepted_by_each.ensures _ _ shipped_told;
   conserved = c.recorded_cash_is_conserved.ensures _ _ shipped_told (λ tx states. refl);
   signed = c.recorded_cash_is_signed_for.ensures _ _ shipped_told (λ tx states. refl);
-  claimed = c.recorded_facts_were_signed_for.ensures _ _ shipped_told (λ tx states. refl);
-  agreed = c.recorded_debts_were_agreed.ensures _ _ shipped_told (λ tx states. refl);
-  due = c.recorded_time_locks_were_due.ensures shipped_told (λ tx states. refl);
+  facts = c.recorded_facts_were_signed_for.ensures _ _ shipped_told (λ tx states. refl);
+  debts = c.recorded_debts_were_agreed.ensures _ _ shipped_told (λ tx states. refl);
+  locks = c.recorded_time_locks_were_due.ensures shipped_told (λ tx states. refl);
   accounted = c.outstanding_cash_was_issued.ensures shipped_told (λ tx states. refl);
 }
