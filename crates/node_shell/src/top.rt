@@ -271,11 +271,11 @@ fn run_in_folder<
 /// each line but `workers` a way of its own (`lines_are_passages`). So at every moment of it but those within a line `workers`, also within
 /// any call of a disk in the middle of a line, whichever image a power loss leaves of each disk, the journals are those of one run, what
 /// was acknowledged before stands there once, and over disks that tell these images this network may begin again
-/// (`network_core::left_is_coherent`). At every such moment,
-/// and after every line, the laws of `ledger_laws` hold of these journals (`story_laws::ledgers_hold_in_scripts`): each state has at most
-/// one consumer in the notary's book, each tag by the notary is over an id that the book signed, the back-chain of each recorded
-/// transaction is whole, and, where the digests of what was hashed to sign them do not collide, no two recorded transactions of different
-/// ids have an input in common, and each with a time window was first signed by the notary within it. Of the openings before it this is not said; and of a moment within `workers` only what each disk alone may
+/// (`network_core::left_is_coherent`). At every such moment, and after every line, the laws of `ledger_laws` hold of these journals
+/// (`story_laws::ledgers_hold_in_scripts`): each state has at most one consumer in the notary's book, each tag by the notary is over an id that
+/// the book signed, the back-chain of each recorded transaction is whole, and, where the digests of what was hashed to sign them do not
+/// collide, no two recorded transactions of different ids have an input in common, and each with a time window (of 64-bit moments) was first
+/// signed by the notary within it. Of the openings before it this is not said; and of a moment within `workers` only what each disk alone may
 /// leave (`work_law::histories_last`).
 ///
 /// As it ends, whichever journals power cuts leave of such disks, in the notary's book of their run each state has at most one consumer, and
