@@ -1,12 +1,12 @@
 -- What the Cash contract asks to sign has signed.
-use Rattle.std.proofs.Common.{◌≡◌, ◌⊎◌, inl, inr, ℕ, zero, suc, ◌+◌, ◌<◌, ◌≤◌, ◌==◌, ◌&&◌, ◌||◌, Bool, true, false, List, [], ◌∷◌, None, refl, sym, subst, arith}
+use Rattle.std.proofs.Common.{◌≡◌, ◌⊎◌, inl, inr, ℕ, zero, suc, ◌+◌, ◌<◌, ◌≤◌, ◌==◌, ◌&&◌, ◌||◌, Bool, true, false, List, [], ◌∷◌, None, refl, subst, arith}
 use Rattle.std.specs.List.{AllByRecursion, Contains, list_any, list_all, range_with_len}
-use Rattle.std.proofs.lemmas.Bool.{and_parts, or_parts, or_left, or_right, not-false, eqb-false}
+use Rattle.std.proofs.lemmas.Bool.{and_parts, or_parts, or_left, not-false, eqb-false}
 use Rattle.net_base.specs.declared.values.Hash32.{Hash32}
 use Rattle.net_base.specs.declared.values.Party.{Party}
 use Rattle.net_base.specs.declared.names.Token.{Token}
 use Rattle.net_base.specs.Parties.{has_party}
-use Rattle.net_base.proofs.Lists.{all_get}
+use Rattle.net_base.proofs.Lists.{all_get, any_contained, any_weaken}
 use Rattle.ledger_types.specs.declared.state.StateData.{StateData}
 use Rattle.ledger_types.specs.declared.state.StateData.TheVariants.{Cash}
 use Rattle.ledger_types.specs.declared.state.TxState.{TxState}
@@ -32,24 +32,11 @@ use Rattle.contract_laws.proofs.Values.{cash_accepts}
 
 -- ---- lists
 
--- what no item passes, none that is contained does; what one passes, some does
+-- what no item passes, none that is contained does
 pub not_one : {X : Type 0} (test : X → Bool) (xs : List X) (x : X) → list_any test xs ≡ false → Contains xs x → test x ≡ false
 not_one test [] x none (k, lt, is) = absurd (omega (arith, lt))
 not_one test (y ∷ ys) x none (zero, lt, is) = subst (λ z. test z ≡ false) is (or_parts (test y) (list_any test ys) none).0
 not_one test (y ∷ ys) x none (suc k, lt, is) = not_one test ys x (or_parts (test y) (list_any test ys) none).1 (k, omega (arith, lt), is)
-
-some_one : {X : Type 0} (test : X → Bool) (xs : List X) (x : X) → test x ≡ true → Contains xs x → list_any test xs ≡ true
-some_one test [] x passes (k, lt, is) = absurd (omega (arith, lt))
-some_one test (y ∷ ys) x passes (zero, lt, is) = or_left (test y) (list_any test ys) (subst (λ z. test z ≡ true) (sym is) passes)
-some_one test (y ∷ ys) x passes (suc k, lt, is) = or_right (test y) (list_any test ys) (some_one test ys x passes (k, omega (arith, lt), is))
-
-pub weaker : {X : Type 0} (test other : X → Bool) (xs : List X) → ((x : X) → test x ≡ true → other x ≡ true) → list_any test xs ≡ true → list_any other xs ≡ true
-weaker test other [] each some = some
-weaker test other (x ∷ xs) each some = by (test x) refl some (weaker test other xs each)
-  where
-    by : (b : Bool) → test x ≡ b → (b || list_any test xs) ≡ true → (list_any test xs ≡ true → list_any other xs ≡ true) → (other x || list_any other xs) ≡ true
-    by true e some rest = or_left (other x) (list_any other xs) (each x e)
-    by false e some rest = or_right (other x) (list_any other xs) (rest some)
 
 each_passes : {X : Type 0} (test : X → Bool) (xs : List X) → list_all test xs ≡ true → AllByRecursion (λ x. test x ≡ true) xs
 each_passes test [] all = tt
@@ -83,14 +70,14 @@ module _ (tx : Tx) (states : Resolved) (accepted : cash_says tx states ≡ None)
   owner_signs s token amount owner has is =
       let spent : signs_spending tx token owner ≡ true =
       not-false (signs_spending tx token owner) (subst (λ (d : StateData). is_taken tx d ≡ false) is (not_one (λ x. is_taken tx x.body) states.inputs s outcomes.1.1.1.1.1.0 has)) in
-      weaker (λ c. spends token c.deed && has_party c.signers owner.0) (λ c. has_party c.signers owner.0) tx.commands
+      any_weaken (λ c. spends token c.deed && has_party c.signers owner.0) (λ c. has_party c.signers owner.0) tx.commands
       (λ c both. (and_parts (spends token c.deed) (has_party c.signers owner.0) both).1) spent
 
 -- ---- who has to sign has signed
 
 -- who signs a command of a kind signs one
 pub some_signs : (test : Deed → Bool) (tx : Tx) (p : Party) → signs test tx p ≡ true → signs_command tx p.0 ≡ true
-some_signs test tx p signed = weaker (λ c. test c.deed && has_party c.signers p.0) (λ c. has_party c.signers p.0) tx.commands (λ c both. (and_parts (test c.deed) (has_party c.signers p.0) both).1) signed
+some_signs test tx p signed = any_weaken (λ c. test c.deed && has_party c.signers p.0) (λ c. has_party c.signers p.0) tx.commands (λ c both. (and_parts (test c.deed) (has_party c.signers p.0) both).1) signed
 
 pub by_signer : (mark : Party → Hash32 → Hash32) (stx : SignedTx) (p : ℕ) → is_signed mark stx ≡ true → p < 16 → signs_command stx.tx p ≡ true → has_signed mark stx p ≡ true
 by_signer mark stx p signed few signs =
@@ -108,7 +95,7 @@ signed_for contracts cash e net judged proven p n s stx at there =
       states = one.states;
       resolves = one.resolves;
       issuer = λ c token amount has among deed few. by_signer e.mark stx token.issuer.0 one.signed few
-          (some_one (λ x. has_party x.signers token.issuer.0) stx.tx.commands c (issuer_signs stx.tx one.states (says has) c token amount among deed) among);
+          (any_contained (λ x. has_party x.signers token.issuer.0) stx.tx.commands c (issuer_signs stx.tx one.states (says has) c token amount among deed) among);
       owner = λ x token amount owner has is few. by_signer e.mark stx owner.0 one.signed few
           (owner_signs stx.tx one.states (says (or_left _ _ (is_cash one.states.inputs x token amount owner has is))) x token amount owner has is);
     }

@@ -6,7 +6,7 @@ use Rattle.std.proofs.lemmas.Bool.Decides.{Decides-eqb}
 use Rattle.net_base.specs.declared.values.Party.{Party}
 use Rattle.net_base.specs.declared.names.Token.{Token}
 use Rattle.net_base.specs.Parties.{has_party}
-use Rattle.net_base.proofs.Lists.{all_get}
+use Rattle.net_base.proofs.Lists.{all_get, any_weaken}
 use Rattle.net_base.proofs.Options.{some_eq}
 use Rattle.ledger_types.specs.declared.state.StateData.{StateData}
 use Rattle.ledger_types.specs.declared.state.StateData.TheVariants.{Fact, Iou}
@@ -26,7 +26,7 @@ use Rattle.net_model.specs.Stores.{IsProven, StoresHold}
 use Rattle.contract_laws.specs.Lawful.{Contracts}
 use Rattle.contract_laws.specs.Deals.{GovernsFacts, KeepsAllFacts, GovernsDebts, KeepsAllDebts}
 use Rattle.contract_laws.proofs.Lawful.{all_false, governed, accepts}
-use Rattle.contract_laws.proofs.Authority.{not_one, weaker, some_signs, by_signer}
+use Rattle.contract_laws.proofs.Authority.{not_one, some_signs, by_signer}
 use Rattle.contract_laws.proofs.Spent.{contained}
 
 -- ---- lists
@@ -103,12 +103,12 @@ module _ (tx : Tx) (states : Resolved) (accepted : ious_say tx states ≡ None) 
 
     lender_signs : Contains tx.outputs s → signs_command tx lender.0 ≡ true
     lender_signs has =
-        weaker (λ c. is_iou_make c.deed && (has_party c.signers lender.0 && has_party c.signers borrower.0)) (λ c. has_party c.signers lender.0) tx.commands
+        any_weaken (λ c. is_iou_make c.deed && (has_party c.signers lender.0 && has_party c.signers borrower.0)) (λ c. has_party c.signers lender.0) tx.commands
         (λ c all. (and_parts (has_party c.signers lender.0) (has_party c.signers borrower.0) (and_parts (is_iou_make c.deed) _ all).1).0) (agreed has)
 
     borrower_signs : Contains tx.outputs s → signs_command tx borrower.0 ≡ true
     borrower_signs has =
-        weaker (λ c. is_iou_make c.deed && (has_party c.signers lender.0 && has_party c.signers borrower.0)) (λ c. has_party c.signers borrower.0) tx.commands
+        any_weaken (λ c. is_iou_make c.deed && (has_party c.signers lender.0 && has_party c.signers borrower.0)) (λ c. has_party c.signers borrower.0) tx.commands
         (λ c all. (and_parts (has_party c.signers lender.0) (has_party c.signers borrower.0) (and_parts (is_iou_make c.deed) _ all).1).1) (agreed has)
 
     settler_signs : Contains states.inputs s → signs_command tx lender.0 ≡ true

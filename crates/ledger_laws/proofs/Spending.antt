@@ -1,11 +1,11 @@
 -- The one consumer of an input of a recorded transaction is that transaction, where no digests collide.
-use Rattle.std.proofs.Common.{◌≡◌, ℕ, zero, suc, not, List, [], ◌∷◌, map, Option, Some, Bool, true, false, cond, ◌||◌, find, is_some, option_to_list, slice_get, refl, sym, ap, subst, ◌∙◌, arith, true≢false}
+use Rattle.std.proofs.Common.{◌≡◌, ℕ, not, List, [], ◌∷◌, map, Option, Some, Bool, true, false, cond, ◌||◌, find, is_some, option_to_list, slice_get, refl, sym, ap, subst, ◌∙◌, arith, true≢false}
 use Rattle.std.specs.List.{AllByRecursion, Contains, list_any}
-use Rattle.std.proofs.lemmas.Bool.{or_left, or_right}
+use Rattle.std.proofs.lemmas.Bool.{or_left}
 use Rattle.net_base.specs.declared.values.Hash32.{Hash32}
 use Rattle.net_base.specs.declared.names.StateRef.{StateRef}
 use Rattle.net_base.specs.Names.{IsStateRef}
-use Rattle.net_base.proofs.Lists.{all_find, all_get}
+use Rattle.net_base.proofs.Lists.{all_find, all_get, any_contained}
 use Rattle.ledger_types.specs.declared.tx.Tx.{Tx}
 use Rattle.ledger_types.specs.declared.tx.SignedTx.{SignedTx}
 use Rattle.ledger_types.specs.declared.torn.TornTx.{TornTx}
@@ -28,12 +28,6 @@ use Rattle.ledger_laws.proofs.Inputs.{inputs_within, signed_inputs}
 use Rattle.ledger_laws.proofs.Signing.{first_signed, first_consumes}
 
 -- ---- inputs
-
--- what a list contains is one of it
-is_one : (refs : List StateRef) (r : StateRef) → Contains refs r → has_ref r refs ≡ true
-is_one [] r (k, lt, is) = absurd (omega (arith, lt))
-is_one (x ∷ refs) r (zero, lt, is) = or_left (ref_eq x r) (has_ref r refs) (subst (λ (y : StateRef). ref_eq y r ≡ true) (sym is) (ref_same r))
-is_one (x ∷ refs) r (suc k, lt, is) = or_right (ref_eq x r) (has_ref r refs) (is_one refs r (k, omega (arith, lt), is))
 
 -- a transaction with an input asks a notary
 input_asks : (tx : Tx) (r : StateRef) → Contains tx.inputs r → asks_notary tx ≡ true
@@ -74,7 +68,7 @@ module _ {F : Type 0} (e : Environment F) (net : List (NodeState F)) (book : IsB
       let p = all_get (IsProven e h.state.stored) h.state.stored h.place stx (proven h.node h.state h.up) h.there in
       let entry = found_first (signs (tx_id stx.tx)) (book_of e net) (signed.stored h.node h.place h.state stx h.up h.there asks) in
       let inputs = same_inputs stx.tx entry.0 (inputs_within h.state.stored stx.tx p.states (stored_few h.node h.state h.up) p.resolves) (names stx.tx p.states p.accepted asks) h.apart entry.1 in
-      first_consumes (book_of e net) r (tx_id stx.tx) entry.0 (one_consumer e.mark (identity e e.notary.0) (book_of e net) r book) entry.1 (subst (λ (refs : List StateRef). has_ref r refs ≡ true) (sym inputs) (is_one stx.tx.inputs r h.input))
+      first_consumes (book_of e net) r (tx_id stx.tx) entry.0 (one_consumer e.mark (identity e e.notary.0) (book_of e net) r book) entry.1 (subst (λ (refs : List StateRef). has_ref r refs ≡ true) (sym inputs) (any_contained (λ x. ref_eq x r) stx.tx.inputs r (ref_same r) h.input))
 
   pub none_twice : HasNoneSpentTwice e net
   none_twice = record {

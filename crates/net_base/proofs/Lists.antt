@@ -1,6 +1,6 @@
 -- Lists: what every item passes, what is found, and items by their places.
 use Rattle.std.proofs.Common.{◌≡◌, ◌⊎◌, inl, inr, ⊎_elim, ℕ, zero, suc, ◌+◌, ◌<◌, ◌≤◌, ◌==◌, Bool, true, false, ◌||◌, cond, List, [], ◌∷◌, ◌++◌, Some, None, find, option_map, length, reverse, map, filter, take, drop, slice_get, slice_set, refl, sym, ◌∙◌, ap, subst, append-nil, take_all, arith}
-use Rattle.std.specs.List.{list_any, list_all, AllByRecursion}
+use Rattle.std.specs.List.{list_any, list_all, AllByRecursion, Contains}
 use Rattle.std.proofs.lemmas.Bool.{and_parts, and_from, or_parts, or_from, or_left, or_right, or_cases}
 use Rattle.std.proofs.lemmas.List.{reverse-append, drop_all}
 
@@ -96,6 +96,17 @@ any_append P (x ∷ xs) ys h = ⊎_elim (λ p. or_left _ _ p) (λ p. or_right _ 
 pub any_push : {X : Type 0} (P : X → Bool) (xs : List X) (x : X) → P x ≡ true → list_any P (xs ++ x ∷ []) ≡ true
 any_push P [] x h = or_left _ _ h
 any_push P (y ∷ ys) x h = or_right _ _ (any_push P ys x h)
+
+-- another test, which is weaker
+pub any_weaken : {X : Type 0} (P Q : X → Bool) (xs : List X) → ((x : X) → P x ≡ true → Q x ≡ true) → list_any P xs ≡ true → list_any Q xs ≡ true
+any_weaken P Q [] f h = cc
+any_weaken P Q (x ∷ xs) f h = ⊎_elim (λ p. or_left _ _ (f x p)) (λ p. or_right _ _ (any_weaken P Q xs f p)) (or_cases _ _ h)
+
+-- one that is contained, and passes
+pub any_contained : {X : Type 0} (P : X → Bool) (xs : List X) (x : X) → P x ≡ true → Contains xs x → list_any P xs ≡ true
+any_contained P [] x h (k, lt, is) = absurd (omega (arith, lt))
+any_contained P (y ∷ ys) x h (zero, lt, is) = or_left (P y) (list_any P ys) (subst (λ z. P z ≡ true) (sym is) h)
+any_contained P (y ∷ ys) x h (suc k, lt, is) = or_right (P y) (list_any P ys) (any_contained P ys x h (k, omega (arith, lt), is))
 
 -- one more, that fails
 pub none_push : {X : Type 0} (P : X → Bool) (xs : List X) (y : X) → list_any P xs ≡ false → P y ≡ false → list_any P (xs ++ y ∷ []) ≡ false

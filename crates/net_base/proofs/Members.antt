@@ -3,7 +3,7 @@ use Rattle.std.proofs.Common.{◌≡◌, ◌≢◌, ◌⊎◌, inl, inr, ℕ, �
 use Rattle.std.specs.Prelude.{◌==◌, ◌||◌, ◌&&◌, not, bit_and, bit_or, min, max}
 use Rattle.std.specs.Int.{bit_at, w16}
 use Rattle.std.proofs.lemmas.Bool.{cases_lt, eqb-true, eqb-false}
-use Rattle.std.proofs.lemmas.Nat.Bits.{bit_at_or, bit_at_and, bit_at-lt, bit_at-pow_same, bit_at-pow_other, bit_at_above, bit_at_not, bit_at-zero}
+use Rattle.std.proofs.lemmas.Nat.Bits.{bit_at_or, bit_at_and, bit_at-lt, bit_at-pow_same, bit_at-pow_other, bit_at_above, bit_at_not}
 use Rattle.std.proofs.Math.Pow.{pow_mono}
 
 -- a bit is 0 or 1
@@ -29,9 +29,6 @@ or_swap false false = refl
 
 pub union_is : (a b p : ℕ) → (bit_or a b / 2 ^ p % 2 == 1) ≡ ((a / 2 ^ p % 2 == 1) || (b / 2 ^ p % 2 == 1))
 union_is a b p = ap (λ (n : ℕ). n == 1) (bit_at_or a b p) ∙ or_is (bit_at a p) (bit_at b p) (bit_at-lt a p) (bit_at-lt b p)
-
-pub none_is : (p : ℕ) → (0 / 2 ^ p % 2 == 1) ≡ false
-none_is p = ap (λ (n : ℕ). n == 1) (bit_at-zero p)
 
 pub above_is : (a p : ℕ) → a < 2 ^ 16 → 16 ≤ p → (a / 2 ^ p % 2 == 1) ≡ false
 above_is a p lt le = ap (λ (n : ℕ). n == 1) (bit_at_above a 16 p lt le)

@@ -1,5 +1,5 @@
 -- Options, results, and one of two values.
-use Rattle.std.proofs.Common.{◌≡◌, Result, Ok, Err, IfOk, OnOk, Bool, true, false, cond, if◌then◌else◌, Option, Some, None, is_none, refl, subst}
+use Rattle.std.proofs.Common.{◌≡◌, Result, Ok, Err, IfOk, OnOk, Bool, true, false, cond, Option, Some, None, is_none, refl, subst}
 
 -- equal values
 pub some_eq : {A : Type 0} {a b : A} → Some a ≡ Some b → a ≡ b
@@ -23,8 +23,3 @@ on_ok {T} {E} {P} r v is h = let Q : Result T E → Type 0 = λ s. OnOk s P in s
 pub cond_all : {A : Type 0} (P : A → Type 0) (t : Bool) (x y : A) → P x → P y → P (cond t x y)
 cond_all P true x y p q = p
 cond_all P false x y p q = q
-
--- what was given under a test was given because the test holds
-pub given : {X E : Type 0} (test : Bool) (r : Result X E) (fault : E) (x : X) → (if test then r else Err fault) ≡ Ok x → (test ≡ true) × (r ≡ Ok x)
-given true r fault x e = (refl, e)
-given false r fault x e = absurd cc

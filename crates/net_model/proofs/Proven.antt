@@ -49,9 +49,6 @@ module _ {F : Type 0} (w : Environment F) where
     abbrev Here : Change → Type 0
     Here c = Records s.stored c
 
-    here : (c d : Change) → c.recorded ≡ d.recorded → Here d → Here c
-    here c d e h = subst (λ (o : Option SignedTx). AllByRecursion (IsProven w s.stored) (option_to_list o)) (sym e) h
-
     done_records : (f : ℕ) (a : Act F) (d : Done) → Performs w me s now f a d → Here d.1
     done_records f a d (tells told e) = subst Here (sym e) tt
     done_records f a d (opens_to to class first i j k e) = subst (λ (x : Done). Here x.1) (sym e) tt

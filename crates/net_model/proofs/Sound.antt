@@ -10,7 +10,7 @@ use Rattle.net_base.specs.declared.causes.Cause.{Cause}
 use Rattle.net_base.specs.declared.causes.Event.{Event}
 use Rattle.net_base.specs.declared.causes.Event.TheVariants as event
 use Rattle.net_base.proofs.Options.{none_of, some_eq}
-use Rattle.net_base.proofs.Lists.{none_push, passes_weaken}
+use Rattle.net_base.proofs.Lists.{any_weaken, none_push, passes_weaken}
 use Rattle.ledger_types.specs.declared.tx.SignedTx.{SignedTx}
 use Rattle.session_wire.specs.declared.body.Body.{Body}
 use Rattle.session_wire.specs.declared.body.Body.TheVariants as body_of
@@ -117,10 +117,6 @@ kept_append me items ss x h sent new own = record {
 count_other : (me : ℕ) (ss : List Session) (x : Session) → (x.key.initiator.0 == me) ≡ false → count me (ss ++ x ∷ []) ≡ count me ss
 count_other me [] x h = rw h refl
 count_other me (y ∷ ys) x h = let k = count_other me ys x h in elim (y.key.initiator.0 == me) as (λ b. length (cond b (y ∷ filter (λ z. z.key.initiator.0 == me) (ys ++ x ∷ [])) (filter (λ z. z.key.initiator.0 == me) (ys ++ x ∷ []))) ≡ length (cond b (y ∷ filter (λ z. z.key.initiator.0 == me) ys) (filter (λ z. z.key.initiator.0 == me) ys))) [ true ↦ omega arith | false ↦ k ]
-
-any_weaker : {X : Type 0} (P Q : X → Bool) (xs : List X) → ((x : X) → P x ≡ true → Q x ≡ true) → list_any P xs ≡ true → list_any Q xs ≡ true
-any_weaker P Q [] f h = cc
-any_weaker P Q (x ∷ xs) f h = ⊎_elim (λ k. or_left _ _ (f x k)) (λ k. or_right _ _ (any_weaker P Q xs f k)) (or_cases _ _ h)
 
 module _ (change : Session → Session) (same : (x : Session) → (change x).key ≡ x.key) where
   count_map : (me : ℕ) (ss : List Session) → count me (map change ss) ≡ count me ss
@@ -229,7 +225,7 @@ module _ {F : Type 0} (w : Environment F) (me : ℕ) (s : NodeState F) (sound : 
       let number : opened.0.number ≡ count me before = ap (λ (x : Key). x.number) key in
       let bigger = count_own me before new own in
       kept_append me sent before new k
-      (any_weaker (is_init_of opened.0) (λ item. key_eq item.key opened.0) sent (λ item i. let p = and_parts (key_eq opened.0 item.key) _ i in subst (λ (x : Key). key_eq x opened.0 ≡ true) (key_exact opened.0 item.key p.0) (key_same opened.0)) h.opens.init)
+      (any_weaken (is_init_of opened.0) (λ item. key_eq item.key opened.0) sent (λ item i. let p = and_parts (key_eq opened.0 item.key) _ i in subst (λ (x : Key). key_eq x opened.0 ≡ true) (key_exact opened.0 item.key p.0) (key_same opened.0)) h.opens.init)
       none (or_right (not (opened.0.initiator.0 == me)) _ (lt-ltb opened.0.number (count me (before ++ new ∷ [])) (omega arith)))
 
   sessions_sound : (cause : Cause) (e : Effect F) → Fits w me s cause e → Kept me [] (taken_on e.change.taken (sent_on cause.stamp e.change.sent (opened_on e.change.opened (flow_of e.flow) (came_on cause.event (option_to_list e.change.came) (flow_of e.flow) s.sessions))))

@@ -3,7 +3,7 @@ use Rattle.std.proofs.Common.{◌≡◌, ◌<◌, ◌⊎◌, inl, inr, ⊎_elim,
 use Rattle.net_base.specs.declared.names.Identity.{Identity}
 use Rattle.network_core.proofs.Mapping.{Maps, round_map, drains_map}
 use Rattle.net_base.proofs.Lists.{set_length}
-use Rattle.net_model.specs.Environment.{Environment, environment, Meaning}
+use Rattle.net_model.specs.Environment.{environment, Meaning}
 use Rattle.node_core.specs.Seen.{NodeSeen}
 use Rattle.node_core.specs.declared.faults.TurnFault.{TurnFault}
 use Rattle.node_core.specs.declared.faults.TurnFault.TheVariants as turn_fault
@@ -18,42 +18,13 @@ use Rattle.network_core.specs.declared.refusal.Refusal.TheVariants as refusal
 use Rattle.network_core.specs.declared.steps.Outcome.{Outcome}
 use Rattle.network_core.specs.declared.steps.Outcome.TheVariants as outcome
 use Rattle.network_core.specs.Answers.{said, turn_outcome, take_outcome, AtPlace, TurnServes, Posting, PostServes, Handing, HandServes, answer_of, NetTurn, NetPost, NetHand, net_steps}
-use Rattle.network_core.specs.Worlds.{World, NodeWorld, NetSeen, Shows, Coherent, KeepsWorld}
-use Rattle.network_core.specs.WorldSteps.{WorldTurns}
+use Rattle.network_core.specs.Worlds.{World, NetSeen, Shows, Coherent, KeepsWorld}
 use Rattle.network_core.specs.Rounds.{DrainSteps, DrainGoal, IsLastTurn, Round, DrainsTo}
-use Rattle.network_core.specs.Drains.{TurnAt, world_steps, room, Pair, with_world, pair_steps, KeepsPair, PairDrains, WorldDrains, Drives, Drains}
+use Rattle.network_core.specs.Drains.{world_steps, room, Pair, with_world, pair_steps, KeepsPair, PairDrains, WorldDrains, Drives, Drains}
 use Rattle.network_core.proofs.Draining.{DrainLaws, SomeRounds, drain_ends}
-use Rattle.network_core.proofs.Emptying.{hands_over_at}
 use Rattle.network_core.proofs.Quieting.{quiet}
-use Rattle.network_core.proofs.QuietingSteps.{post_grows}
 
--- ---- the steps of a drain of a world
-
-module _ {F : Type 0} (e : Environment F) where
-  last_of : (p now : ℕ) (x y : NodeWorld) (o : Outcome) → ((g : ℕ) → o ≡ outcome.Moved g → ⊥) → (o ≡ outcome.Refused refusal.Full → ⊥) → WorldTurns e p now None x (Some o) y → IsLastTurn o
-  last_of p now x y outcome.Idle moved full h = inl refl
-  last_of p now x y (outcome.Moved g) moved full h = absurd (moved g refl)
-  last_of p now x y outcome.Fault moved full h = inr (inl refl)
-  last_of p now x y (outcome.Refused why) moved full h = ⊎_elim (λ s. inr (inr (ap outcome.Refused s.0))) (λ s. absurd (full (ap outcome.Refused s.0))) h.0
-  last_of p now x y other moved full h = absurd h
-
-  is_last : (p : ℕ) (o : Outcome) (w v : World) → p < length w.nodes → ((g : ℕ) → o ≡ outcome.Moved g → ⊥) → (o ≡ outcome.Refused refusal.Full → ⊥) → TurnAt e p w (Some o) v → IsLastTurn o
-  is_last p o w v lt moved full (inl (past, is, same)) = absurd (omega (arith, lt, past))
-  is_last p o w v lt moved full (inr (x, y, at, is, turn)) = last_of p w.now x y o moved full turn
-
-  turn_count : (p : ℕ) (w v : World) (o : Option Outcome) → TurnAt e p w o v → length v.nodes ≡ length w.nodes
-  turn_count p w v o (inl (past, is, same)) = ap (λ (a : World). length a.nodes) same
-  turn_count p w v o (inr (x, y, at, is, turn)) = ap (λ (a : World). length a.nodes) is ∙ set_length w.nodes p y
-
-  pub world_laws : DrainLaws (world_steps e)
-  world_laws = record {
-    turn_count = turn_count;
-    post_count = λ p w v o post. (post_grows e p w v o post).grown.count;
-    turn_last = is_last;
-    hand_over = λ p d why w u v o lt is full hand. (o, hand, hands_over_at e p why u v o lt is full hand);
-  }
-
--- ---- those of a network, over any disks
+-- ---- the steps of a drain of a network, over any disks
 
 answer_is : (o : Option Outcome) → said (answer_of o) ≡ o
 answer_is (Some o) = refl

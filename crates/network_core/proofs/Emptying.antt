@@ -1,5 +1,5 @@
 -- A delivery that takes a frame away leaves one frame less at its place: what is sent goes elsewhere.
-use Rattle.std.proofs.Common.{◌≡◌, ◌≢◌, ◌⊎◌, inl, inr, ⊎_elim, ℕ, zero, suc, ◌+◌, ◌<◌, Bool, true, false, cond, ◌==◌, List, [], ◌∷◌, length, Option, Some, None, slice_get, slice_set, refl, sym, ◌∙◌, ap, subst, arith}
+use Rattle.std.proofs.Common.{◌≡◌, ◌≢◌, ◌⊎◌, inl, inr, ⊎_elim, ℕ, zero, suc, ◌+◌, Bool, true, false, cond, ◌==◌, List, [], ◌∷◌, length, Option, Some, None, slice_get, slice_set, refl, sym, ◌∙◌, ap, subst, arith}
 use Rattle.std.proofs.lemmas.Bool.{eqb-true, not-false}
 use Rattle.net_base.specs.declared.names.Identity.{Identity}
 use Rattle.net_base.specs.declared.names.Key.{Key}
@@ -16,7 +16,6 @@ use Rattle.session_frames.specs.declared.sending.Outgoing.{Outgoing}
 use Rattle.session_frames.specs.Judging.{judge, or_else, is_other, IsJudged, JudgesFrame}
 use Rattle.net_model.specs.Environment.{Environment, identity}
 use Rattle.node_tables.specs.Journals.{state_of}
-use Rattle.network_core.specs.declared.refusal.Refusal.{Refusal}
 use Rattle.network_core.specs.declared.refusal.Refusal.TheVariants as refusal
 use Rattle.network_core.specs.declared.steps.Outcome.{Outcome}
 use Rattle.network_core.specs.declared.steps.Outcome.TheVariants as outcome
@@ -25,7 +24,7 @@ use Rattle.network_core.specs.WorldSteps.{HearsNext, Hears, waits_on, handed_ove
 use Rattle.network_core.specs.Drains.{HandAt, world_steps}
 use Rattle.network_core.specs.Rounds.{Hands, EndsHands, IsTaken}
 use Rattle.network_core.proofs.QuietingFrames.{Has}
-use Rattle.network_core.proofs.QuietingSteps.{same_node, waits_taken, hears_refused}
+use Rattle.network_core.proofs.QuietingSteps.{same_node, waits_taken}
 
 -- ---- who sent a frame
 
@@ -152,10 +151,3 @@ module _ {F : Type 0} (e : Environment F) where
       by : (y : NodeWorld) → slice_get v.nodes r ≡ Some y → slice_get y.waiting 0 ≡ None → (b : Bool) → y.up ≡ b → EndsHands (HandAt e) r v v
       by y there none true up = (outcome.Refused refusal.NoFrame, inr (y, there, inr (up, inl (none, refl, refl))), inl refl)
       by y there none false up = (outcome.Refused refusal.NodeDown, inr (y, there, inl (up, refl, refl)), inr refl)
-
-  -- a delivery that is refused, but not by a full journal, finds no frame, or a node that is down
-  pub hands_over_at : (r : ℕ) (why : Refusal) (w v : World) (o : Outcome) → r < length w.nodes → o ≡ outcome.Refused why → (why ≡ refusal.Full → ⊥) → HandAt e r w (Some o) v → (o ≡ outcome.Refused refusal.NoFrame) ⊎ (o ≡ outcome.Refused refusal.NodeDown)
-  hands_over_at r why w v o lt is full (inl (past, two, same)) = absurd (omega (arith, lt, past))
-  hands_over_at r why w v o lt is full (inr (z, there, inl (down, three, same))) = inr cc
-  hands_over_at r why w v o lt is full (inr (z, there, inr (up, inl (none, seven, same)))) = inl cc
-  hands_over_at r why w v o lt is full (inr (z, there, inr (up, inr (bytes, y, sent, first, takes, same)))) = absurd (full (hears_refused e r w.now takes.0 z o y sent why is takes.3))

@@ -10,8 +10,8 @@ use Rattle.net_base.proofs.Lists.{set_length, get_there, get_other}
 use Rattle.node_core.specs.declared.faults.BootFault.{BootFault}
 use Rattle.node_tables.specs.Journals.{Reads}
 use Rattle.node_core.specs.Disks.{roomless}
-use Rattle.node_core.specs.Seen.{NodeSeen, BootsAs, IsBy, IsMember}
-use Rattle.network_core.specs.Begins.{member, came_up, no_boot, IsLast, BootsUpTo, BootStops, nodes_over}
+use Rattle.node_core.specs.Seen.{NodeSeen, BootsAs, IsBy}
+use Rattle.network_core.specs.Begins.{came_up, no_boot, IsLast, BootsUpTo, BootStops, nodes_over}
 
 -- ---- the nodes over disks
 
@@ -20,9 +20,6 @@ pub record Making {D : Type 0} (seen : D → DiskSeen) (nodes : ℕ) (notary : P
   pub all_of : made ++ nodes_over nodes notary place (map seen left) ≡ nodes_over nodes notary 0 (map seen all)
   pub count : length made ≡ place
   pub rest : place + length left ≡ length all
-
-pub is_member : (nodes : ℕ) (notary : Party) (place : ℕ) → nodes ≤ 16 → notary.0 < nodes → place < nodes → IsMember (member nodes notary place)
-is_member nodes notary place few within below = record { limits = (omega (arith, few, below), ((omega (arith, below), omega (arith, few)), omega (arith, few, within))); node = below; notary = within }
 
 -- ---- the disks of nodes
 

@@ -7,7 +7,7 @@ use Rattle.network_core.specs.declared.steps.Outcome.{Outcome}
 use Rattle.network_core.specs.declared.steps.Outcome.TheVariants as outcome
 use Rattle.network_core.specs.declared.steps.Step.{Step}
 use Rattle.network_core.specs.declared.steps.Step.TheVariants as step
-use Rattle.network_core.specs.Worlds.{NodeWorld, World, AreOpenable, Coherent}
+use Rattle.network_core.specs.Worlds.{NodeWorld, World, Coherent}
 use Rattle.network_core.specs.WorldSteps.{WorldClock, WorldPlace, WorldStarts, WorldTurns, WorldCuts, WorldBoots, LosesAt, PostsFrom, WorldPosts, WorldHands, waits_on, handed_over, sent_all}
 use Rattle.network_core.specs.Drains.{WorldDrains, world_steps}
 use Rattle.network_core.specs.Rounds.{DoesAt, Runs, none, more, RunsTo}
@@ -118,10 +118,3 @@ module _ {F : Type 0} (e : Environment F) where
   reaches_leads w v (here is) = leads_same w v is
   reaches_leads w v (by_step {u = u} s o before serve) = leads_then w u v (reaches_leads w u before) (serve_leads s u v o serve)
   reaches_leads w v (by_part {u = u} p o before does) = leads_then w u v (reaches_leads w u before) (does_leads p u v o does)
-
-  -- where every node could be opened, every node still can
-  pub reaches_openable : (w v : World) → Reaches e w v → AreOpenable w → AreOpenable v
-  reaches_openable w v reaches on q y at = let x = (reaches_leads w v reaches).longer q y at in x.2.openable (on q x.0 x.1)
-
-  pub reaches_coherent : (w v : World) → Coherent e w → Reaches e w v → Coherent e v
-  reaches_coherent w v coherent reaches = (reaches_leads w v reaches).coherent coherent

@@ -1,5 +1,5 @@
 -- Which flow goes on while jobs are out.
-use Rattle.std.proofs.Common.{◌≡◌, ◌⊎◌, inl, inr, ℕ, zero, suc, ◌+◌, ◌<◌, ◌==◌, ◌&&◌, List, [], ◌∷◌, ◌++◌, slice_get, Option, Some, None, IfSome, MatchOption, Result, Ok, Err, Bool, true, false, cond, is_some, refl, sym, ◌∙◌, ap, subst, arith, length}
+use Rattle.std.proofs.Common.{◌≡◌, ◌⊎◌, inl, inr, ℕ, zero, suc, ◌+◌, ◌==◌, ◌&&◌, List, [], ◌∷◌, ◌++◌, slice_get, Option, Some, None, IfSome, MatchOption, Result, Ok, Err, Bool, true, false, cond, is_some, refl, sym, ◌∙◌, ap, subst, arith, length}
 use Rattle.std.specs.Prelude.{⊤, not}
 use Rattle.std.specs.Option.{option_or, option_and_then, option_map}
 use Rattle.std.specs.List.{list_any}
@@ -30,7 +30,6 @@ use Rattle.net_model.proofs.Basics.{from_map, from_cond}
 use Rattle.ledger_acts.specs.Jobs.{job_of as job_with, tx_job, is_open, job_for, awaited, IsJob}
 use Rattle.ledger_acts.specs.Picking.{free_event, first_free, picked_free}
 use Rattle.flow_steps.specs.Going.{event_there, flow_in}
-use Rattle.flow_steps.specs.Idle.{IdleBelow}
 use Rattle.flow_steps.proofs.Jobs.{job_moves}
 use Rattle.flow_steps.proofs.Picks.{goes}
 use Rattle.ledger_acts.proofs.Choosing.{unclaimed_is_picked}
@@ -138,23 +137,6 @@ module _ {F : Type 0} (m : Machine F) (r : Reads F) (judge : Judgement) (id : Id
       by (Some x) is = free_at_number n x is (subst (λ k. IsNumbered k x) (omega arith) (numbered_at 0 s.flows n x own is))
 
 module _ {F : Type 0} (id : Identity) (s : NodeState F) (claims : List ℕ) (now : ℕ) where
-  -- a flow that cannot go on is not chosen
-  pub idle_free : (below n : ℕ) → IdleBelow s.sessions now s.flows below → n < below → free_there id s claims now n ≡ None
-  idle_free below n idle l = there_is id s claims now n ∙ ap (λ o. cond (list_any (λ f. f == n) claims && is_some (awaited_in id s (event.Move n))) None o) (idle n l) ∙ none_both (list_any (λ f. f == n) claims && is_some (awaited_in id s (event.Move n)))
-
-  -- nor is one that was seen to be idle at this moment
-  pub idle_here : (at most below n : ℕ) → IdleBelow s.sessions at s.flows most → below ≡ cond (now == at) most 0 → n < below → free_there id s claims now n ≡ None
-  idle_here at most below n idle is l = by (now == at) refl
-    where
-      by : (b : Bool) → (now == at) ≡ b → free_there id s claims now n ≡ None
-      by true same =
-          let here : now ≡ at = eqb-true now at same in
-          let all : below ≡ most = is ∙ ap (λ k. cond k most 0) same in
-          idle_free most n (subst (λ k. IdleBelow s.sessions k s.flows most) (sym here) idle) (omega (arith, l, all))
-      by false other =
-          let none : below ≡ 0 = is ∙ ap (λ k. cond k most 0) other in
-          absurd (omega (arith, l, none))
-
   -- an event that is free is that of its flow
   pub there_own : (n : ℕ) (o : Option Event) → AreNumbered 0 s.flows → o ≡ free_there id s claims now n → IfSome o (λ e. picked s.sessions now (Some (flow_in e)) s.flows ≡ Some e)
   there_own n None own h = tt

@@ -5,7 +5,6 @@ use Rattle.std.proofs.lemmas.Bool.{and_parts, eqb-true}
 use Rattle.net_base.specs.declared.names.Identity.{Identity}
 use Rattle.net_base.specs.declared.names.Key.{Key}
 use Rattle.net_base.specs.declared.values.Party.{Party}
-use Rattle.net_base.specs.Names.{IsKey}
 use Rattle.net_base.proofs.Options.{none_of}
 use Rattle.net_base.proofs.Lists.{all_find}
 use Rattle.session_wire.specs.declared.body.Body.{Body}
@@ -26,19 +25,12 @@ module _ (id : Identity) (sessions : List Session) (from : Party) (key : Key) (d
           let at = eqb-true number (length g.session.came) q.0 in
           omega (arith, came, at, few)
 
-  -- its key is one
-  pub next_key_is : number + 1 < 2 ^ 32 → IsKey key
-  next_key_is small = (next.answered small).0.key_is
-
   new_none : BeginsSession id sessions from key direction number body → session_of key sessions ≡ None
   new_none b = none_of (session_of key sessions) (and_parts (is_none (session_of key sessions)) (not (is_no_peer id.nodes id.party key.initiator)) b.is_new).0
 
   -- where its session stands it goes on there, and else begins it
   pub next_there : (s : Session) → session_of key sessions ≡ Some s → GoesOn id sessions from key direction number body
   next_there s is = elim next.place [ inl b ↦ (let none = new_none b in absurd (cc (none, is))) | inr g ↦ g ]
-
-  pub next_new : session_of key sessions ≡ None → BeginsSession id sessions from key direction number body
-  next_new is = elim next.place [ inl b ↦ b | inr g ↦ (let stands = g.stands in absurd (cc (stands, is))) ]
 
 -- a session whose other side is known stands
 pub session_there : (sessions : List Session) (key : Key) (peer : Option Party) → peer ≡ option_map (λ s. s.peer) (session_of key sessions) → is_some peer ≡ true → (s : Session) × (session_of key sessions ≡ Some s)

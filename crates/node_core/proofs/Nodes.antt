@@ -135,11 +135,6 @@ pub after_answer : (id : Identity) (answer : Result Taken TakeFault) (up : UpSee
 after_answer id (Err take_fault.Fault) up h = cc
 after_answer id other up h = refl
 
-pub no_fault : (answer : Result Taken TakeFault) → is_fault answer ≡ false → answer ≡ Err take_fault.Fault → ⊥
-no_fault (Err take_fault.Fault) h is = cc
-no_fault (Ok x) h is = cc
-no_fault (Err other) h is = cc
-
 -- a start at a node that is full
 pub start_full : {F : Type 0} (m : Machine F) (f : Reads F) (now class : ℕ) (args : List ℕ) (id : Identity) (up : UpSeen) → IsOk (m.made class args (place (environment (unjudged m f) id) id.party.0 (flow_count (environment (unjudged m f) id) up.bodies) 0 now)) → is_full f 0 up.bodies ≡ true
     → StartAnswers (environment (unjudged m f) id) now class args (seen_up id up) (Err start_fault.Full) (seen_up id up)

@@ -1,15 +1,12 @@
 -- How the tables are rebuilt from the bodies of a journal.
-use Rattle.std.proofs.Common.{◌≡◌, ℕ, suc, ◌+◌, ◌<◌, ◌≤◌, List, [], ◌∷◌, ◌++◌, length, map, Option, Some, None, Err, true, false, cond, refl, sym, ◌∙◌, ap, subst, arith, append_assoc, length-append}
-use Rattle.std.specs.Prelude.{⊤}
+use Rattle.std.proofs.Common.{◌≡◌, ℕ, suc, ◌+◌, ◌<◌, ◌≤◌, List, [], ◌∷◌, ◌++◌, length, map, Option, Some, None, true, false, cond, refl, sym, ◌∙◌, ap, subst, arith, append_assoc, length-append}
 use Rattle.std.proofs.lemmas.List.{length-map}
 use Rattle.net_base.specs.declared.values.Party.{Party}
 use Rattle.net_model.specs.State.{NodeState, Record, replay}
 use Rattle.flow_records.specs.Records.{record_of}
 use Rattle.node_tables.specs.Journals.{Reads, state_of}
-use Rattle.node_tables.specs.Fits.{fits, fits_read, apply_read, misfit_from, misfit}
-use Rattle.node_tables.specs.declared.boot.RebuildFault.{RebuildFault}
-use Rattle.node_tables.specs.declared.boot.RebuildFault.TheVariants as rebuild_fault
-use Rattle.node_tables.specs.Seen.{no_acks, TakesAs, RebuildsAs}
+use Rattle.node_tables.specs.Fits.{fits_read, apply_read, misfit_from, misfit}
+use Rattle.node_tables.specs.Seen.{no_acks}
 use Rattle.node_tables.proofs.Runs.{state_push}
 
 abbrev pub bodies_in : List (ℕ × List ℕ) → List (List ℕ)
@@ -39,9 +36,6 @@ module _ {F : Type 0} (f : Reads F) (notary : Party) (nodes : ℕ) (me : Party) 
       } in
       subst (λ b. Rebuilding f notary nodes me all b rest) (sym same) there
 
-  pub misfit_here : (rest : List (ℕ × List ℕ)) (x : ℕ × List ℕ) → left ≡ x ∷ rest → fits_read notary nodes me (state_of f built) (record_of f x.1) ≡ false → misfit f notary nodes me all ≡ Some x.0
-  misfit_here rest x next bad = so_far.place ∙ ap (misfit_from f notary nodes me (state_of f built)) next ∙ ap (λ b. cond b (misfit_from f notary nodes me (apply_read (state_of f built) (record_of f x.1)) rest) (Some x.0)) bad
-
   -- fewer bodies were built than there are, while some are left
   pub fewer : (rest : List (ℕ × List ℕ)) (x : ℕ × List ℕ) → left ≡ x ∷ rest → length all ≤ 65536 → length built < 65536
   fewer rest x next few =
@@ -53,12 +47,3 @@ module _ {F : Type 0} (f : Reads F) (notary : Party) (nodes : ℕ) (me : Party) 
 pub none_at_first : {F : Type 0} (f : Reads F) (built : List (List ℕ)) (acked : List ℕ) → built ≡ [] → acked ≡ [] → acked ≡ no_acks (state_of f built).sessions
 unfolding state_of replay
 none_at_first f built acked none nothing = rw none nothing
-
--- what was taken of a record that fits
-pub fits_taken : {F : Type 0} (notary : Party) (nodes : ℕ) (me : Party) (s : NodeState F) (o : Option (Record F)) (r : Record F) → o ≡ Some r → fits notary nodes me s r ≡ true → fits_read notary nodes me s o ≡ true
-fits_taken {F} notary nodes me s o r is h = subst (λ (x : Option (Record F)). fits_read notary nodes me s x ≡ true) (sym is) h
-
--- why the tables were not rebuilt
-pub refused : {F : Type 0} (f : Reads F) (notary : Party) (nodes : ℕ) (me : Party) (all : List (ℕ × List ℕ)) (built new : List (List ℕ)) (left rest : List (ℕ × List ℕ)) (at : ℕ) (body : List ℕ) (why : RebuildFault) → Rebuilding f notary nodes me all built left → left ≡ (at, body) ∷ rest → TakesAs f notary nodes me built at body {T = ⊤} (Err why) new → RebuildsAs f notary nodes me all (Err why)
-refused f notary nodes me all built new left rest at body (rebuild_fault.Damaged place) so_far next h = misfit_here f notary nodes me all built left so_far rest (at, body) next h.0 ∙ ap (λ n. Some n) (sym h.1)
-refused f notary nodes me all built new left rest at body rebuild_fault.Memory so_far next h = tt

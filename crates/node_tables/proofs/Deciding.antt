@@ -142,10 +142,6 @@ module _ {F : Type 0} (notary : Party) (nodes : ℕ) (me : Party) (f : Reads F) 
       → all_hold a b c d k ≡ fits notary nodes me (state_of f bodies) (step_record step)
   fits_is a b c d k order event few fitting ledger = subst (λ (s : NodeState F). b ≡ fits_event nodes me s step.cause.event effect → c ≡ may_open nodes (begun_by step.cause effect s.sessions) (flow_of (part_after step.flow)) step.session.opened → all_hold a b c d k ≡ fits notary nodes me s (step_record step)) (sym kept.state) (λ x y. decided a b c d k order x y fitting ledger) event few
 
-  -- where the ledger's part fails
-  pub not_ledger : false ≡ fits_ledger notary me here effect.change → false ≡ fits notary nodes me (state_of f bodies) (step_record step)
-  not_ledger ledger = subst (λ (s : NodeState F). false ≡ fits notary nodes me s (step_record step)) (sym kept.state) (sym (bool_same (fits notary nodes me here (step_record step)) false (λ h. ledger ∙ (parts_of notary nodes me here step.cause effect h).ledger) (λ h. absurd cc)))
-
   -- where the cause is out of order, and where the event's part fails
   pub not_in_order : false ≡ rises here step.cause → false ≡ fits notary nodes me (state_of f bodies) (step_record step)
   not_in_order order = subst (λ (s : NodeState F). false ≡ fits notary nodes me s (step_record step)) (sym kept.state) (sym (bool_same (fits notary nodes me here (step_record step)) false (λ h. order ∙ (parts_of notary nodes me here step.cause effect h).in_order) (λ h. absurd cc)))

@@ -332,9 +332,6 @@ module _ {F : Type 0} (notary : Party) (nodes : ℕ) (me : Party) (f : Reads F) 
   change_fits_here =
       change_fits (some_world notary nodes) me.0 (255 * length bodies) (length bodies) (state_with l flows ss stamp moment) step.flow step.session step.ledger kept.small owned step.cause limits.2.1.1 ruled.event ruled.change.opened step.cause.stamp ruled.change.sent ruled.change.taken
 
-  pub few_sessions : length ss + 2 < 2 ^ 32
-  few_sessions = let made = kept.made in let few = kept.few in omega (arith, made, few)
-
   pub few_came : arrived_in step.session.came_key ss + 1 < 2 ^ 32
   few_came = let most = few_arrived me (255 * length bodies) (length bodies) step.session.came_key ss kept.small in let few = kept.few in omega (arith, most, few)
 

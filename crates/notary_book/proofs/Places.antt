@@ -85,10 +85,6 @@ module _ {X : Type 0} (p : X → Bool) where
 
 -- ---- the consumer of a reference
 
-and_true : (a b : Bool) → b ≡ true → (a && b) ≡ a
-and_true true b e = e
-and_true false b e = refl
-
 -- where no entry signed the id, the first that signed another and takes the reference is the first that signed any
 pub consumer_is : (id : Hash32) (r : StateRef) (entries : List Entry) → list_any (signs id) entries ≡ false → find (consumes id r) entries ≡ find (takes r) entries
 consumer_is id r [] h = refl

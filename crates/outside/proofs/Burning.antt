@@ -76,9 +76,6 @@ burns_then m n old mid new first next = record {
 pub up_to : (calls most : ℕ) (old new : DiskSeen) → calls ≤ most → Burns calls old new → BurnsUpTo most old new
 up_to calls most old new few burns = (calls, few, burns)
 
-pub no_more : (less most : ℕ) (old new : DiskSeen) → less ≤ most → BurnsUpTo less old new → BurnsUpTo most old new
-no_more less most old new few b = (b.0, omega (arith, few, b.1), b.2)
-
 pub then_up_to : (m n : ℕ) (old mid new : DiskSeen) → Burns m old mid → BurnsUpTo n mid new → BurnsUpTo (m + n) old new
 then_up_to m n old mid new first next = (m + next.0, omega (arith, next.1), burns_then m next.0 old mid new first next.2)
 

@@ -7,9 +7,9 @@ use Rattle.session_wire.specs.declared.body.Body.{Body}
 use Rattle.session_wire.specs.declared.change.SentItem.{SentItem}
 use Rattle.session_wire.specs.declared.change.SessionChange.{SessionChange}
 use Rattle.session_wire.specs.Sessions.{Session, Sent, key_eq, session_of, changed_at, new_session, with_came, with_sent, opened_on, sent_on}
-use Rattle.session_wire.specs.Rules.{is_init, is_lawful, direction_out, Continues, FitsSent, TakesUpTo}
+use Rattle.session_wire.specs.Rules.{is_init, is_lawful, direction_out, Continues, FitsSent}
 use Rattle.session_wire.proofs.Keys.{key_exact}
-use Rattle.session_table.specs.Changes.{came_on, begun_on, is_answered, is_opened, count_of, taken_and_came, answered_for}
+use Rattle.session_table.specs.Changes.{came_on, begun_on, is_answered, is_opened, count_of, answered_for}
 use Rattle.session_table.proofs.Items.{or_none}
 
 -- what is asked of the session of a key, where one session more stands behind the others
@@ -220,19 +220,3 @@ stands_begun q change list s stands = counted (session_of q (begun_on change lis
     counted : (o : Option Session) → is_some (option_map (λ t. length t.sent) o) ≡ true → is_some o ≡ true
     counted None h = h
     counted (Some t) h = refl
-
--- items may be taken up to a number that is neither below the one nor above the other
-pub takes_from : (list : List Session) (q : Key) (n taken came : ℕ) → option_map taken_and_came (session_of q list) ≡ Some (taken, came) → taken ≤ n → n ≤ came → TakesUpTo list q n
-takes_from list q n taken came counted above below = by (session_of q list) refl
-  where
-    by : (o : Option Session) → session_of q list ≡ o → TakesUpTo list q n
-    by None is = absurd (let e : None ≡ Some (taken, came) = ap (option_map taken_and_came) (sym is) ∙ counted in cc e)
-    by (Some s) is =
-        let e : Some (taken_and_came s) ≡ Some (taken, came) = ap (option_map taken_and_came) (sym is) ∙ counted in
-        let pair : taken_and_came s ≡ (taken, came) = cc e in
-        let first : s.taken ≡ taken = ap (λ p. p.0) pair in
-        let second : length s.came ≡ came = ap (λ p. p.1) pair in
-        record { session = s; stands = is; above = omega (arith, first, above); below = omega (arith, second, below) }
-
-pub takes_none : (list : List Session) (q : Key) (n : ℕ) → option_map taken_and_came (session_of q list) ≡ None → TakesUpTo list q n → ⊥
-takes_none list q n none takes = let e : Some (taken_and_came takes.session) ≡ None = ap (option_map taken_and_came) (sym takes.stands) ∙ none in cc e

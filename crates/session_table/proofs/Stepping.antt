@@ -127,13 +127,6 @@ sent_count sent came lines list k s v same stands there counted =
     let one : session_at sent came (k, v) ≡ s = cc e in
     ap (λ (s : Session). length s.sent) (sym one) ∙ length-map _ _ ∙ count_is (λ s. s.sent) lines sent k v counted there
 
-pub came_count : (sent : List (Place × Posted)) (came : List (Place × Body)) (lines : List (Key × Standing)) (list : List Session) (k : Key) (s : Session) (v : Standing)
-    → map (session_at sent came) lines ≡ list → session_of k list ≡ Some s → Some v ≡ lookup (key_eq k) lines → IsCounted (λ s. s.came) lines came → length s.came ≡ v.came
-came_count sent came lines list k s v same stands there counted =
-    let e : Some (session_at sent came (k, v)) ≡ Some s = sym (present sent came lines list k v same there) ∙ stands in
-    let one : session_at sent came (k, v) ≡ s = cc e in
-    ap (λ (s : Session). length s.came) (sym one) ∙ count_is (λ s. s.came) lines came k v counted there
-
 -- the key of a session that may be made is new
 pub new_line : (me : Party) (n : ℕ) (sent : List (Place × Posted)) (came : List (Place × Body)) (lines : List (Key × Standing)) (list : List Session) (k : Key)
     → map (session_at sent came) lines ≡ list → list_all (is_below me n) (keys_of lines) ≡ true → (is_opened_by me k ≡ false → session_of k list ≡ None) → (is_opened_by me k ≡ true → k.number ≡ n) → lookup (key_eq k) lines ≡ None

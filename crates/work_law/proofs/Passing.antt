@@ -14,7 +14,6 @@ use Rattle.node_tables.specs.Journals.{causes_of}
 use Rattle.node_core.specs.Disks.{IsOpenable}
 use Rattle.node_core.specs.Seen.{NodeSeen}
 use Rattle.network_core.specs.Worlds.{NodeWorld, World, MaySpell, AreOpenable, Choice, Coherent, NodeShows, ShowsJournal}
-use Rattle.network_core.specs.Acknowledged.{Reaches, here, by_step as reaches_step, by_part as reaches_part}
 use Rattle.network_core.specs.Answers.{answer_of}
 use Rattle.network_core.specs.Drains.{Pair}
 use Rattle.network_core.specs.Moments.{Instant, now_of, AreSound, Begins, IsKept}
@@ -36,20 +35,6 @@ use Rattle.work_law.proofs.Lasting.{histories_last}
 -- ---- worlds
 
 module _ {F : Type 0} (e : Environment F) where
-  reaches_then : (w u v : World) → Reaches e w u → Reaches e u v → Reaches e w v
-  reaches_then w u v one (here is) = subst (Reaches e w) (sym is) one
-  reaches_then w u v one (reaches_step {u = x} s o before serve) = reaches_step s o (reaches_then w u x one before) serve
-  reaches_then w u v one (reaches_part {u = x} p o before does) = reaches_part p o (reaches_then w u x one before) does
-
-  -- steps more
-  attains_on : (w u v : World) → Attains e w u → Reaches e u v → Attains e w v
-  attains_on w u v (by_steps one) two = by_steps (reaches_then w u v one two)
-  attains_on w u v (by_work {x = x} commits before work coherent one) two = by_work commits before work coherent (reaches_then x u v one two)
-
-  pub attains_then : (w u v : World) → Attains e w u → Attains e u v → Attains e w v
-  attains_then w u v one (by_steps two) = attains_on w u v one two
-  attains_then w u v one (by_work {u = x} commits before work coherent two) = by_work commits (attains_then w u x one before) work coherent two
-
   -- each journal that may be left after work goes on from one that might be left before
   work_longer : (commits : ℕ) (w v : World) → WorldWorks commits w v → AllLengthen w.nodes v.nodes
   work_longer commits w v work q z at =
