@@ -29,8 +29,8 @@ use session_acts::{accepted_as_meant, sessions_are_sound};
 use shipped_flows::{NoCalls, Shipped, ShippedFlow, a_ping_returns_its_count};
 use story_laws::ledgers_hold_in_scripts;
 use work_law::{
-    acknowledged_is_kept, acknowledged_on_passages, attained_are_coherent, histories_last,
-    kept_on_passages, unworked_are_ways, works_coherently,
+    acknowledged_is_kept, acknowledged_on_passages, acks_are_kept, attained_are_coherent,
+    histories_last, kept_on_passages, unworked_are_ways, works_coherently,
 };
 
 /// All of them.
@@ -91,6 +91,7 @@ fn of_work_side_by_side() {
     histories_last::<ShippedFlow>();
     attained_are_coherent::<ShippedFlow>();
     acknowledged_is_kept::<ShippedFlow>();
+    acks_are_kept::<ShippedFlow>();
     unworked_are_ways::<ShippedFlow>();
     kept_on_passages::<ShippedFlow>();
     acknowledged_on_passages::<ShippedFlow>();

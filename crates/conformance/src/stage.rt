@@ -64,6 +64,16 @@ fn words_of(alloc: Global, values: &str) -> Result<Vec<String>, AllocError> {
         .try_collect(alloc)
 }
 
+/// The lines, and behind them this many `#`.
+fn filled(alloc: Global, lines: &str, count: usize) -> Result<String> {
+    let mut bytes = lines.as_bytes().to_vec(alloc)?;
+    let length = bytes.len().saturating_add(count);
+    bytes.resize(length, b'#')?;
+    String::from_utf8(bytes)
+        .ok()
+        .context("the lines are no text")
+}
+
 /// A disk that holds the bytes.
 fn disk_of(alloc: Global, bytes: &[u8]) -> Result<MemDisk> {
     let mut disk = MemDisk::new(alloc);
@@ -231,6 +241,11 @@ impl<'a> Stage<'a> {
             "run-unended" => {
                 let script = lines.strip_suffix('\n').unwrap_or(lines);
                 self.run(rt, alloc, values, script, contracts)?;
+            }
+            "run-filled" => {
+                let (count, words) = values.split_once(' ').unwrap_or((values, ""));
+                let script = filled(alloc, lines, count.parse::<usize>()?)?;
+                self.run(rt, alloc, words, script.as_str(), contracts)?;
             }
             "answers" | "differs" => {
                 return Ok(Some(Check {

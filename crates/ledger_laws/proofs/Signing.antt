@@ -16,9 +16,9 @@ use Rattle.ledger_types.specs.declared.notary.NotaryAnswer.TheVariants as answer
 use Rattle.ledger_types.specs.declared.notary.Entry.{Entry}
 use Rattle.ledger_types.specs.Names.{hash_eq, is_party, has_ref}
 use Rattle.ledger_types.specs.Tears.{visible_of}
-use Rattle.ledger_types.specs.Notary.{is_signature, signs, answer_shown, answer_torn, answer_new, is_notary, inputs_of, consumers_after, consumers, IsBooked, IsBookAfter, IsBook}
+use Rattle.ledger_types.specs.Notary.{is_signature, signs, answer_shown, answer_torn, is_notary, inputs_of, consumers_after, consumers, IsBookedAt, IsBooked, IsBookAfter, IsBook}
 use Rattle.ledger_types.proofs.Names.{hash_exact}
-use Rattle.notary_book.proofs.Once.{added}
+use Rattle.notary_book.proofs.Once.{answered_anew}
 
 -- ---- what is signed was shown
 
@@ -44,13 +44,15 @@ torn_shown mark me before e now (Some v) is inputs h =
     let named = if_signed (is_party me v.notary) (answer_shown mark me before e.request now v) answer.WrongNotary refl h in
     record { seen = v; sees = is; names = named_some me v.notary named.0; inputs = inputs }
 
+-- a signature that was booked is the answer to the request's tear-off
+pub booked_torn : (mark : Party → Hash32 → Hash32) (me : Identity) (before : List Entry) (now : Moment) (e : Entry) → IsBookedAt mark me before now e → is_signature e.answer ≡ true → is_signature (answer_torn mark me.party before e.request now (visible_of e.request.torn)) ≡ true
+booked_torn mark me before now e booked h =
+    (if_signed (is_notary me) (answer_torn mark me.party before e.request now (visible_of e.request.torn)) answer.WrongNotary refl (ap is_signature (answered_anew mark me before now e booked) ∙ h)).1
+
 booked_shown : (mark : Party → Hash32 → Hash32) (me : Identity) (before : List Entry) (e : Entry) → IsBooked mark me before e → is_signature e.answer ≡ true → IsShown e
 booked_shown mark me before e booked h =
-    let a = (added mark me before e.request booked.0 e booked.1 booked.2).is in
-    let inputs : inputs_of (visible_of e.request.torn) ≡ e.inputs = ap (λ (x : Entry). x.inputs) a in
-    let given : answer_new mark me before e.request booked.0 ≡ e.answer = ap (λ (x : Entry). x.answer) a in
-    let new = if_signed (is_notary me) (answer_torn mark me.party before e.request booked.0 (visible_of e.request.torn)) answer.WrongNotary refl (ap is_signature given ∙ h) in
-    torn_shown mark me.party before e booked.0 (visible_of e.request.torn) refl (sym inputs) new.1
+    let inputs : inputs_of (visible_of e.request.torn) ≡ e.inputs = ap (λ (x : Entry). x.inputs) booked.1.1 in
+    torn_shown mark me.party before e booked.0 (visible_of e.request.torn) refl (sym inputs) (booked_torn mark me before booked.0 e booked.1 h)
 
 -- ---- the first entry that signed an id
 

@@ -20,27 +20,26 @@ use Rattle.ledger_types.specs.declared.notary.NotaryAnswer.{NotaryAnswer}
 use Rattle.ledger_types.specs.declared.notary.NotaryAnswer.TheVariants as answer
 use Rattle.ledger_types.specs.declared.notary.Entry.{Entry}
 use Rattle.ledger_types.specs.Names.{is_party}
-use Rattle.ledger_types.specs.Notary.{is_signature, signs, conflicts, is_inside, tag_by, has_good_tag, answer_unsigned, answer_shown, answer_torn, answer_new, is_notary, IsBook}
+use Rattle.ledger_types.specs.Notary.{is_signature, signs, conflicts, is_inside, tag_by, has_good_tag, answer_unsigned, answer_shown, answer_torn, IsBookedAt, IsBook}
 use Rattle.ledger_types.specs.Signatures.{tx_id}
 use Rattle.ledger_types.specs.Tears.{visible_of}
 use Rattle.ledger_types.specs.Txs.{IsWindow}
 use Rattle.tx_tear.specs.Hashed.{AreApart, hashed_for_all}
 use Rattle.tx_tear.specs.Tearing.{tear_of}
-use Rattle.notary_book.proofs.Once.{added}
 use Rattle.net_model.specs.Environment.{Environment, identity}
 use Rattle.net_model.specs.State.{NodeState, Record, apply_effect, fresh, replay, replay_from}
 use Rattle.net_model.specs.Runs.{stamped, IsLocalFrom, IsLocal, AreLocal}
 use Rattle.net_model.specs.Stores.{IsProven, StoresHold, NamesNotary}
 use Rattle.net_model.specs.Tags.{entries_at, book_of}
 use Rattle.net_model.proofs.Basics.{apply_entries, find_before}
-use Rattle.net_model.proofs.BookKept.{IsBookedAt, step_booked}
+use Rattle.net_model.proofs.BookKept.{step_booked}
 use Rattle.net_model.proofs.Effects.{Stepped, step_taken}
 use Rattle.node_tables.specs.Journals.{records_of}
 use Rattle.ledger_laws.specs.Ledgers.{IsSignedInBook, hashed_to_sign}
 use Rattle.ledger_laws.specs.Windows.{IsSignedInWindow, AreSignedInWindows}
 use Rattle.ledger_laws.proofs.Reading.{IsSizedEntry}
 use Rattle.ledger_laws.proofs.Inputs.{signed_window}
-use Rattle.ledger_laws.proofs.Signing.{if_signed, first_signed}
+use Rattle.ledger_laws.proofs.Signing.{if_signed, booked_torn, first_signed}
 use Rattle.ledger_laws.proofs.Spending.{found_first, over_is}
 
 -- ---- what is signed anew is signed inside the window
@@ -66,9 +65,7 @@ module _ (mark : Party → Hash32 → Hash32) where
 
   booked_inside : (me : Identity) (before : List Entry) (now : Moment) (e : Entry) (v : Visible) → IsBookedAt mark me before now e → visible_of e.request.torn ≡ Some v → is_signature e.answer ≡ true → list_any (signs e.request.torn.id) before ≡ false → is_inside v.window now ≡ true
   booked_inside me before now e v booked sees signed new =
-      let given : answer_new mark me before e.request now ≡ e.answer = ap (λ (x : Entry). x.answer) (added mark me before e.request now e booked.0 booked.1).is in
-      let torn = if_signed (is_notary me) (answer_torn mark me.party before e.request now (visible_of e.request.torn)) answer.WrongNotary refl (ap is_signature given ∙ signed) in
-      let over : is_signature (answer_torn mark me.party before e.request now (Some v)) ≡ true = subst (λ (o : Option Visible). is_signature (answer_torn mark me.party before e.request now o) ≡ true) sees torn.1 in
+      let over : is_signature (answer_torn mark me.party before e.request now (Some v)) ≡ true = subst (λ (o : Option Visible). is_signature (answer_torn mark me.party before e.request now o) ≡ true) sees (booked_torn mark me before now e booked signed) in
       shown_inside me.party before e.request now v new (if_signed (is_party me.party v.notary) (answer_shown mark me.party before e.request now v) answer.WrongNotary refl over).1
 
 -- ---- the record that booked the first entry that signed an id

@@ -124,10 +124,14 @@ consumers_after before (e ∷ es) r =
 unfoldable pub consumers : List Entry → StateRef → List Hash32
 consumers book r = consumers_after [] book r
 
--- an entry was added for a fresh answer over the entries before it
+-- an entry was added for a fresh answer over the entries before it, at this moment
+abbrev pub IsBookedAt : (Party → Hash32 → Hash32) → Identity → List Entry → Moment → Entry → Type 0
+IsBookedAt mark me before now e =
+    ((reply mark before e.request me now).fresh ≡ true) × (entry_of e.request (reply mark before e.request me now).answer ≡ e)
+
+-- an entry was added so at some moment
 abbrev pub IsBooked : (Party → Hash32 → Hash32) → Identity → List Entry → Entry → Type 0
-IsBooked mark me before e =
-    (now : Moment) × ((reply mark before e.request me now).fresh ≡ true) × (entry_of e.request (reply mark before e.request me now).answer ≡ e)
+IsBooked mark me before e = (now : Moment) × IsBookedAt mark me before now e
 
 -- each of these entries was, over the entries before and those ahead of it
 abbrev pub IsBookAfter : (Party → Hash32 → Hash32) → Identity → List Entry → List Entry → Type 0

@@ -13,7 +13,7 @@ use Rattle.session_wire.specs.declared.body.Body.{Body}
 use Rattle.flow_machine.specs.declared.acts.Act.{Act}
 use Rattle.flow_machine.specs.declared.flows.Checkpoint.{Checkpoint}
 use Rattle.net_model.specs.Environment.{Environment, identity}
-use Rattle.ledger_types.specs.Notary.{reply, entry_of, IsBooked, IsBookAfter, IsBook}
+use Rattle.ledger_types.specs.Notary.{reply, entry_of, IsBookedAt, IsBooked, IsBookAfter, IsBook}
 use Rattle.net_model.specs.State.{NodeState, Effect, Change, Record, apply_effect, fresh, replay, replay_from}
 use Rattle.net_model.specs.Steps.{Done, effect_of, booked_by, body_in, answering}
 use Rattle.net_model.specs.Runs.{IsLocalFrom, IsLocal, item_for, net_step, fresh_net, run_from, run_of}
@@ -37,10 +37,6 @@ module _ (mark : Party → Hash32 → Hash32) (me : Identity) where
   no_book : IsBook mark me []
   unfolding IsBook
   no_book = tt
-
--- the entry was added for a fresh answer over the entries before it, at this moment
-abbrev pub IsBookedAt : (Party → Hash32 → Hash32) → Identity → List Entry → Moment → Entry → Type 0
-IsBookedAt mark me before now e = ((reply mark before e.request me now).fresh ≡ true) × (entry_of e.request (reply mark before e.request me now).answer ≡ e)
 
 -- a booked entry is the one of a reply over the entries that stand
 abbrev IsReplied : {F : Type 0} → Environment F → ℕ → NodeState F → ℕ → Change → Type 0
@@ -93,7 +89,7 @@ step_booked w p s cause body e h b is = replied_booked w p s cause.moment.0 e.ch
 pub step_book : {F : Type 0} (w : Environment F) (p : ℕ) (s : NodeState F) (cause : Cause) (body : Option Body) (e : Effect F) → effect_of w p s cause.moment.0 cause.event body ≡ Some e → IsBook w.mark (identity w p) s.entries → IsBook w.mark (identity w p) (apply_effect s cause e).entries
 step_book w p s cause body e h book =
     subst (IsBook w.mark (identity w p)) (sym (apply_entries s cause e))
-    (book_more w.mark (identity w p) s.entries e.change.booked book (λ b is. let at = step_booked w p s cause body e h b is in (record { 0 = cause.moment.0 }, at.0, at.1)))
+    (book_more w.mark (identity w p) s.entries e.change.booked book (λ b is. (record { 0 = cause.moment.0 }, step_booked w p s cause body e h b is)))
 
 local_book_from : {F : Type 0} (w : Environment F) (p : ℕ) (s : NodeState F) (rs : List (Record F)) → IsLocalFrom w p s rs → IsBook w.mark (identity w p) s.entries → IsBook w.mark (identity w p) (replay_from s rs).entries
 local_book_from w p s [] h book = book

@@ -14,7 +14,7 @@ use Rattle.network_core.specs.Worlds.{World, NetSeen, Shows, Coherent}
 use Rattle.network_core.specs.Acknowledged.{Acknowledged, StandsOnce}
 use Rattle.network_core.specs.Moments.{Instant, IsChoice, IsKept}
 use Rattle.network_core.specs.Ways.{AcknowledgedAtAllMoments}
-use Rattle.network_core.proofs.Standing.{only_journal, stands_chosen}
+use Rattle.network_core.proofs.Standing.{stands_chosen}
 use Rattle.network_core.proofs.KeepingWays.{kept_on_ways}
 
 module _ {F : Type 0} (e : Environment F) (net : NetSeen) (w : World) (shows : Shows e net w) (coherent : Coherent e w) (s : Instant) (kept : IsKept e net s) (images : List (List ℕ)) (choice : IsChoice s images) where
@@ -33,13 +33,12 @@ module _ {F : Type 0} (e : Environment F) (net : NetSeen) (w : World) (shows : S
       let d = get_beside net.nodes s p n.0 (sym kept.count) n.1 in
       let c = get_beside s images p d.0 (sym choice.count) d.1 in
       let begin = kept.begins p n.0 d.0 c.0 n.1 d.1 (choice.each p d.0 c.0 d.1 c.1) in
-      let was : journal_of begin.0 ≡ known.node.journal = only_journal known.node (journal_of begin.0) ((coherent.each p known.node known.there).one known.up) ((shows.each p n.0 known.node n.1 known.there).images begin.0 begin.1) in
+      let was = known.each (journal_of begin.0) ((shows.each p n.0 known.node n.1 known.there).images begin.0 begin.1) in
       let journal : List (List ℕ) = journal_of c.0 in
-      let old : slice_get (causes_of e.frame_at (journal_of begin.0)) known.place ≡ Some cause = ap (λ (l : List (List ℕ)). slice_get (causes_of e.frame_at l) known.place) was ∙ known.at in
-      let stays : slice_get (causes_of e.frame_at journal) known.place ≡ Some cause = ap (λ (l : List Cause). slice_get l known.place) begin.3 ∙ get_before (causes_of e.frame_at (journal_of begin.0)) begin.2 known.place cause old in
+      let stays : slice_get (causes_of e.frame_at journal) was.0 ≡ Some cause = ap (λ (l : List Cause). slice_get l was.0) begin.3 ∙ get_before (causes_of e.frame_at (journal_of begin.0)) begin.2 was.0 cause was.1 in
       let at : slice_get lists p ≡ Some journal = get_map journal_of images p c.0 c.1 in
       let local : IsLocal e p (records_of e.frame_at journal) = ((faithful_exactly e journals count).0 (kept.faithful images choice)).0 p (records_of e.frame_at journal) (get_map (records_of e.frame_at) lists p journal at) in
-      stands_chosen e p lists journal at local known.place cause stays
+      stands_chosen e p lists journal at local was.0 cause stays
 
 pub acknowledged_at_all_moments : {F : Type 0} → AcknowledgedAtAllMoments F
 acknowledged_at_all_moments m id a b way s on images choice p cause known = stands_at (environment m id) a.net a.world a.shows a.coherent s (kept_on_ways m id a b way s on) images choice p cause known

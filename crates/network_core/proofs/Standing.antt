@@ -16,7 +16,7 @@ use Rattle.net_model.proofs.Merging.{merge_keeps}
 use Rattle.net_model.proofs.Steps.{step_stamp}
 use Rattle.node_tables.specs.Journals.{Reads, records_of, causes_of}
 use Rattle.network_core.specs.Worlds.{NodeWorld, World, MaySpell, Choice, Sound, Coherent}
-use Rattle.network_core.specs.Acknowledged.{Reaches, StandsOnce, AcknowledgedStandsOnce}
+use Rattle.network_core.specs.Acknowledged.{Reaches, StandsOnce, WhoIsUpAcknowledges, AcknowledgedStandsOnce}
 use Rattle.network_core.proofs.Reaching.{reaches_leads}
 
 -- ---- lists
@@ -155,8 +155,15 @@ module _ {F : Type 0} (e : Environment F) where
 pub only_journal : (x : NodeWorld) (l : List (List ℕ)) → x.other ≡ None → MaySpell x l → l ≡ x.journal
 only_journal x l none may = ⊎_elim (λ is. is) (λ is. absurd (let no : Some l ≡ None = sym is ∙ none in cc)) may
 
+pub who_is_up_acknowledges : {F : Type 0} → WhoIsUpAcknowledges F
+who_is_up_acknowledges e w coherent p x there up place cause at = record {
+  node = x;
+  there = there;
+  each = λ l may. (place, ap (λ (k : List (List ℕ)). slice_get (causes_of e.frame_at k) place) (only_journal x l ((coherent.each p x there).one up) may) ∙ at);
+}
+
 pub acknowledged_stands_once : {F : Type 0} → AcknowledgedStandsOnce F
 acknowledged_stands_once e w v coherent reaches lists choice p cause known =
     let k = later e w v lists p known.node coherent reaches choice known.there in
-    let is : k.old ≡ known.node.journal = only_journal known.node k.old ((coherent.each p known.node known.there).one known.up) k.spelt in
-    stands_later e known.node p v.now lists k known.place cause (ap (λ (l : List (List ℕ)). slice_get (causes_of e.frame_at l) known.place) is ∙ known.at)
+    let was = known.each k.old k.spelt in
+    stands_later e known.node p v.now lists k was.0 cause was.1

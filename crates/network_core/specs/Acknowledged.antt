@@ -7,7 +7,7 @@ use Rattle.net_model.specs.Runs.{merged}
 use Rattle.node_tables.specs.Journals.{causes_of}
 use Rattle.network_core.specs.declared.steps.Outcome.{Outcome}
 use Rattle.network_core.specs.declared.steps.Step.{Step}
-use Rattle.network_core.specs.Worlds.{World, NodeWorld, Choice, Coherent}
+use Rattle.network_core.specs.Worlds.{World, NodeWorld, MaySpell, Choice, Coherent}
 use Rattle.network_core.specs.Following.{Serve}
 use Rattle.network_core.specs.Drains.{world_steps}
 use Rattle.network_core.specs.Rounds.{DoesAt}
@@ -18,13 +18,17 @@ pub data Reaches {F : Type 0} (e : Environment F) : World → World → Type 0 w
   by_step : {w u v : World} (s : Step) (o : Option Outcome) → Reaches e w u → Serve e s u o v → Reaches e w v
   by_part : {w u v : World} (p : ℕ) (o : Option Outcome) → Reaches e w u → DoesAt (world_steps e) p u o v → Reaches e w v
 
--- A node that is up has this cause in its journal. What a start, a turn or a taken item was answered over is the last of these.
+-- All journals that the node's images may spell have this cause, whether the node is up or down. In a coherent world a node that is up has one:
+-- what a start, a turn or a taken item was answered over is the last of its causes.
 pub record Acknowledged {F : Type 0} (e : Environment F) (w : World) (p : ℕ) (cause : Cause) : Type 0 where
   pub node : NodeWorld
   pub there : slice_get w.nodes p ≡ Some node
-  pub up : node.up ≡ true
-  pub place : ℕ
-  pub at : slice_get (causes_of e.frame_at node.journal) place ≡ Some cause
+  pub each : (l : List (List ℕ)) → MaySpell node l → (place : ℕ) × (slice_get (causes_of e.frame_at l) place ≡ Some cause)
+
+-- in a coherent world a node that is up has acknowledged each cause of its journal
+abbrev pub WhoIsUpAcknowledges : (F : Type 0) → Type 0
+WhoIsUpAcknowledges F = (e : Environment F) (w : World) → Coherent e w → (p : ℕ) (x : NodeWorld) → slice_get w.nodes p ≡ Some x → x.up ≡ true
+    → (place : ℕ) (cause : Cause) → slice_get (causes_of e.frame_at x.journal) place ≡ Some cause → Acknowledged e w p cause
 
 -- an element stands once in a list: what is before it and what is behind it is other
 pub record StandsOnce {X : Type 0} (x : X) (xs : List X) : Type 0 where

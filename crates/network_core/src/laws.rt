@@ -1,4 +1,4 @@
-ghost use Rattle.network_core.specs.Acknowledged.{AcknowledgedStandsOnce};
+ghost use Rattle.network_core.specs.Acknowledged.{WhoIsUpAcknowledges, AcknowledgedStandsOnce};
 ghost use Rattle.network_core.specs.Begins.{NewDisksAreCoherent};
 ghost use Rattle.network_core.specs.Drains.{DrainsByTurns, RoundsAreBounded};
 ghost use Rattle.network_core.specs.Left.{LeftIsCoherent};
@@ -31,11 +31,12 @@ pub fn rounds_are_bounded<F: FlowSet>()
     ensures { RoundsAreBounded F.machine }
 {}
 
-/// The law that what a node that is up has in its journal stands once in the merged journals of every world that steps lead to from there,
-/// whichever journals power cuts leave of that one. What a start, a turn or a taken item was answered over is the last of these, so none of it
-/// is lost, and none of it is there twice.
+/// The law that what all journals share that a node's disk may spell, whether the node is up or down, stands once in the merged journals of every
+/// world that steps lead to from there, whichever journals power cuts leave of that one (`stands`). A node that is up has one journal (`up`), and
+/// what a start, a turn or a taken item was answered over is the last of it, so none of it is lost, and none of it is there twice.
 pub fn acknowledged_stands_once<F>()
-    ensures { AcknowledgedStandsOnce F }
+    ensures stands { AcknowledgedStandsOnce F }
+    ensures up { WhoIsUpAcknowledges F }
 {}
 
 /// The law that what `apply`, `apply_all` and `drain` say of networks with their worlds is a way: steps one after another, each over what
@@ -64,8 +65,8 @@ pub fn left_is_coherent<F>()
     ensures { LeftIsCoherent F }
 {}
 
-/// The law of every moment since a way began, whichever image power cuts leave of each disk: each cause that a node that was up had in its
-/// journal as the way began stands once in the merged journals.
+/// The law of every moment since a way began, whichever image power cuts leave of each disk: each cause that was acknowledged as the
+/// way began stands once in the merged journals.
 pub fn acknowledged_at_all_moments<F>()
     ensures { AcknowledgedAtAllMoments F }
 {}

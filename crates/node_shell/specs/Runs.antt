@@ -262,7 +262,7 @@ abbrev pub IsUnready : List DiskSeen → List DiskSeen → Option (List ℕ) →
 IsUnready old new written0 written1 s = GivesUp written0 written1 s × AllStay old new
 
 -- an opening was refused for a cause, which what was written tells, with the number of the node: the first one, since no opening of those before it
--- refuses its disk. The disks of those keep what they kept, and those of the nodes behind it are as before but for their counts of faults and what they are attached as;
+-- refuses its disk. The disks of those keep what they kept, and those of the nodes behind it are as before but for their counts of faults, their room and what they are attached as;
 -- of the node's own disk only a fault may have lost what was pending. No count has fallen, and each disk that was calm is so
 pub record IsToldWhy {F : Type 0} (frame_at : Reads F) (nodes : ℕ) (notary : Party) (old new : List DiskSeen) (written0 written1 : Option (List ℕ)) (s : Status) : Type 0 where
   pub node : ℕ

@@ -270,7 +270,7 @@ fn run_in_folder<
 /// Over disks that show a coherent world the script is one passage of the network together with that world (`scripts_are_passages`), and
 /// each line but `workers` a way of its own (`lines_are_passages`). So at every moment of it but those within a line `workers`, also within
 /// any call of a disk in the middle of a line, whichever image a power loss leaves of each disk, the journals are those of one run, what
-/// was acknowledged before stands there once, and over disks that tell these images this network may begin again
+/// was acknowledged at the end of an earlier line stands there once, and over disks that tell these images this network may begin again
 /// (`network_core::left_is_coherent`). At every such moment, and after every line, the laws of `ledger_laws` hold of these journals
 /// (`story_laws::ledgers_hold_in_scripts`): each state has at most one consumer in the notary's book, each tag by the notary is over an id that
 /// the book signed, the back-chain of each recorded transaction is whole, and, where the digests of what was hashed to sign them do not
@@ -281,7 +281,7 @@ fn run_in_folder<
 /// As it ends, whichever journals power cuts leave of such disks, in the notary's book of their run each state has at most one consumer, and
 /// each conflict names it (`Rests`, also where a node did not open).
 ///
-/// The gate hears of what workers do. For a line `workers` the call may wait for locks, for inboxes and for threads.
+/// The `Gate` hears of what workers do. For a line `workers` the call may wait for locks, for inboxes and for threads.
 pub fn run<
     R: Threads + Wait + Sync,
     S: Source,

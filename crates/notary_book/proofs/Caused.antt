@@ -20,7 +20,7 @@ use Rattle.ledger_types.specs.Names.{is_party}
 use Rattle.ledger_types.specs.Tears.{visible_of}
 use Rattle.ledger_types.specs.Notary.{signs, consumes, consumer_hash_of, conflict_over, conflicts, is_inside, tag_by, has_good_tag, answer_unsigned, answer_shown, answer_torn, is_notary, IsBookAfter, IsBook}
 use Rattle.notary_book.specs.Causes.{is_conflict, IsCaused, AnswerIsCaused, AreCausedAfter, AreCaused}
-use Rattle.notary_book.proofs.Once.{added}
+use Rattle.notary_book.proofs.Once.{answered_anew}
 
 module _ (mark : Party → Hash32 → Hash32) (me : Party) (before : List Entry) (id : Hash32) where
   abbrev All : List ConflictItem → Type 0
@@ -76,10 +76,8 @@ caused_torn mark me before q now (Some v) = caused_if mark me before q.torn.id (
 caused_after : (mark : Party → Hash32 → Hash32) (me : Identity) (before es : List Entry) → IsBookAfter mark me before es → AreCausedAfter before es
 caused_after mark me before [] h = tt
 caused_after mark me before (e ∷ es) h =
-    let a = added mark me before e.request h.0.0 e h.0.1 h.0.2 in
-    let given = ap (λ (x : Entry). x.answer) a.is in
     let new = caused_if mark me.party before e.request.torn.id (is_notary me) (answer_torn mark me.party before e.request h.0.0 (visible_of e.request.torn)) answer.WrongNotary (caused_torn mark me.party before e.request h.0.0 (visible_of e.request.torn)) tt in
-    (subst (AnswerIsCaused before e.request.torn.id) given new, caused_after mark me (before ++ e ∷ []) es h.1)
+    (subst (AnswerIsCaused before e.request.torn.id) (answered_anew mark me before h.0.0 e h.0.1) new, caused_after mark me (before ++ e ∷ []) es h.1)
 
 pub book_caused : (mark : Party → Hash32 → Hash32) (me : Identity) (book : List Entry) → IsBook mark me book → AreCaused book
 unfolding IsBook

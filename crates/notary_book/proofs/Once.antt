@@ -19,7 +19,7 @@ use Rattle.ledger_types.specs.declared.tx.Window.{Window}
 use Rattle.ledger_types.specs.declared.torn.Visible.{Visible}
 use Rattle.ledger_types.specs.Names.{ref_eq, has_ref, hash_eq, is_party}
 use Rattle.ledger_types.specs.Tears.{visible_of}
-use Rattle.ledger_types.specs.Notary.{is_signature, signs, repeats, consumes, conflict_over, conflicts, tag_by, has_good_tag, answer_unsigned, answer_shown, answer_torn, answer_new, is_notary, inputs_of, entry_of, reply_over, reply, consumers_after, consumers, IsBooked, IsBookAfter, IsBook}
+use Rattle.ledger_types.specs.Notary.{is_signature, signs, repeats, consumes, conflict_over, conflicts, tag_by, has_good_tag, answer_unsigned, answer_shown, answer_torn, answer_new, is_notary, inputs_of, entry_of, reply_over, reply, consumers_after, consumers, IsBookedAt, IsBooked, IsBookAfter, IsBook}
 use Rattle.ledger_types.proofs.Names.{ref_exact}
 
 -- ---- tests over lists
@@ -92,27 +92,20 @@ torn_no mark me before q now (Some v) r h k has = if_no (is_party me v.notary) (
 new_no : (mark : Party → Hash32 → Hash32) (me : Identity) (before : List Entry) (q : Request) (now : Moment) (r : StateRef) → list_any (takes r) before ≡ true → list_any (signs q.torn.id) before ≡ false → has_ref r (inputs_of (visible_of q.torn)) ≡ true → is_signature (answer_new mark me before q now) ≡ false
 new_no mark me before q now r h k has = if_no (is_notary me) (answer_torn mark me.party before q now (visible_of q.torn)) answer.WrongNotary (torn_no mark me.party before q now (visible_of q.torn) r h k has) refl
 
--- what an added entry is
-pub record Added (mark : Party → Hash32 → Hash32) (me : Identity) (before : List Entry) (q : Request) (now : Moment) (e : Entry) : Type 0 where
-  pub here : is_notary me ≡ true
-  pub new : find (repeats q) before ≡ None
-  pub is : entry_of q (answer_new mark me before q now) ≡ e
+-- a booked entry has the answer that its request is given anew
+answered_over : (mark : Party → Hash32 → Hash32) (me : Identity) (before : List Entry) (q : Request) (now : Moment) (e : Entry) (o : Option Entry) → (reply_over mark me before q now o).fresh ≡ true → entry_of q (reply_over mark me before q now o).answer ≡ e → answer_new mark me before q now ≡ e.answer
+answered_over mark me before q now e (Some x) f is = absurd (true≢false (sym f))
+answered_over mark me before q now e None f is = ap (λ (x : Entry). x.answer) is
 
-added_by : (mark : Party → Hash32 → Hash32) (me : Identity) (before : List Entry) (q : Request) (now : Moment) (e : Entry) (o : Option Entry) → find (repeats q) before ≡ o → (reply_over mark me before q now o).fresh ≡ true → entry_of q (reply_over mark me before q now o).answer ≡ e → Added mark me before q now e
-added_by mark me before q now e (Some x) f h k = absurd (true≢false (sym h))
-added_by mark me before q now e None f h k = record { here = h; new = f; is = k }
-
-pub added : (mark : Party → Hash32 → Hash32) (me : Identity) (before : List Entry) (q : Request) (now : Moment) (e : Entry) → (reply mark before q me now).fresh ≡ true → entry_of q (reply mark before q me now).answer ≡ e → Added mark me before q now e
+pub answered_anew : (mark : Party → Hash32 → Hash32) (me : Identity) (before : List Entry) (now : Moment) (e : Entry) → IsBookedAt mark me before now e → answer_new mark me before e.request now ≡ e.answer
 unfolding reply
-added mark me before q now e h k = added_by mark me before q now e _ refl h k
+answered_anew mark me before now e booked = answered_over mark me before e.request now e (find (repeats e.request) before) booked.0 booked.1
 
 -- an id that isn't signed yet takes no reference that a signed entry has
 taken_once : (mark : Party → Hash32 → Hash32) (me : Identity) (before : List Entry) (e : Entry) (r : StateRef) → IsBooked mark me before e → list_any (takes r) before ≡ true → list_any (signs e.request.torn.id) before ≡ false → has_ref r e.inputs ≡ true → is_signature e.answer ≡ false
 taken_once mark me before e r booked h k has =
-    let a = (added mark me before e.request booked.0 e booked.1 booked.2).is in
-    let inputs : inputs_of (visible_of e.request.torn) ≡ e.inputs = ap (λ (x : Entry). x.inputs) a in
-    let given : answer_new mark me before e.request booked.0 ≡ e.answer = ap (λ (x : Entry). x.answer) a in
-    sym (ap is_signature given) ∙ new_no mark me before e.request booked.0 r h k (ap (has_ref r) inputs ∙ has)
+    let inputs : inputs_of (visible_of e.request.torn) ≡ e.inputs = ap (λ (x : Entry). x.inputs) booked.1.1 in
+    sym (ap is_signature (answered_anew mark me before booked.0 e booked.1)) ∙ new_no mark me before e.request booked.0 r h k (ap (has_ref r) inputs ∙ has)
 
 -- ---- the whole book
 

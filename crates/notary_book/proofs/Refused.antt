@@ -24,7 +24,7 @@ use Rattle.ledger_types.specs.Notary.{is_signature, signs, repeats, consumes, co
 use Rattle.ledger_types.proofs.Names.{hash_exact, ref_same, ref_exact}
 use Rattle.notary_book.specs.Causes.{is_conflict}
 use Rattle.notary_book.specs.Agreement.{refuses, Agree, AgreesWith, AgreeAfter, AllAgree}
-use Rattle.notary_book.proofs.Once.{HasFirst, pictured, some_map, first_append, unsigned_no, if_no, added}
+use Rattle.notary_book.proofs.Once.{HasFirst, pictured, some_map, first_append, unsigned_no, if_no, answered_anew}
 use Rattle.notary_book.proofs.Caused.{no_if, no_torn}
 
 -- ---- tests
@@ -145,8 +145,7 @@ blocked_booked mark me before e id booked agrees b =
     (elim (hash_eq id e.request.torn.id) as (λ t. hash_eq id e.request.torn.id ≡ t → (is_signature e.answer && t) ≡ false) [
       | true ↦ λ h.
           let here : Blocked me.party e.request.torn.id before = subst (λ (x : Hash32). Blocked me.party x before) (hash_exact id e.request.torn.id h) b in
-          let a = (added mark me before e.request booked.0 e booked.1 booked.2).is in
-          let given : answer_new mark me before e.request booked.0 ≡ e.answer = ap (λ (x : Entry). x.answer) a in
+          let given = answered_anew mark me before booked.0 e booked.1 in
           and_left (is_signature e.answer) true (sym (ap is_signature given) ∙ blocked_new mark me before e.request booked.0 here agrees)
       | false ↦ λ h. and_right (is_signature e.answer) false refl
     ]) refl
@@ -207,8 +206,7 @@ conflict_unsigned (answer.OutsideWindow now) h = refl
 refusal_blocks : (mark : Party → Hash32 → Hash32) (me : Identity) (before : List Entry) (e : Entry) → IsBooked mark me before e → is_conflict e.answer ≡ true → Blocked me.party e.request.torn.id (before ++ e ∷ [])
 refusal_blocks mark me before e booked h =
     let q = e.request in
-    let a = (added mark me before q booked.0 e booked.1 booked.2).is in
-    let given : answer_new mark me before q booked.0 ≡ e.answer = ap (λ (x : Entry). x.answer) a in
+    let given = answered_anew mark me before booked.0 e booked.1 in
     let torn = conflict_first (is_notary me) (answer_torn mark me.party before q booked.0 (visible_of q.torn)) answer.WrongNotary (ap is_conflict given ∙ h) refl in
     let r = refusal_torn mark me.party before q booked.0 (visible_of q.torn) refl torn in
     record {

@@ -6,3 +6,4 @@ pub mod Together
 pub mod Lasting
 pub mod Calls
 pub mod Passing
+pub mod Acks

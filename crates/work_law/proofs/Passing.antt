@@ -43,7 +43,7 @@ module _ {F : Type 0} (e : Environment F) where
       let each = work.each q n.0 x.0 z n.1 x.1 at in
       (x.0, x.1, record { begins = λ l may. let b = each.lists l may in (b.0, b.1, b.2.more, b.2.front); openable = each.stays.openable })
 
-  attains_leads : (w v : World) → Attains e w v → Leads e w v
+  pub attains_leads : (w v : World) → Attains e w v → Leads e w v
   attains_leads w v (by_steps reaches) = reaches_leads e w v reaches
   attains_leads w v (by_work {u = u} {x = x} commits before work coherent reaches) =
       let first = attains_leads w u before in
@@ -56,7 +56,7 @@ module _ {F : Type 0} (e : Environment F) where
   attained_openable w v attains on q y at = let x = (attains_leads w v attains).longer q y at in x.2.openable (on q x.0 x.1)
 
   -- the journal chosen for a node, and the one of before with which it begins
-  later : (w v : World) (lists : List (List (List ℕ))) (p : ℕ) (x : NodeWorld) → Coherent e w → Leads e w v → Choice v lists → slice_get w.nodes p ≡ Some x → Later e x p v.now lists
+  pub later : (w v : World) (lists : List (List (List ℕ))) (p : ℕ) (x : NodeWorld) → Coherent e w → Leads e w v → Choice v lists → slice_get w.nodes p ≡ Some x → Later e x p v.now lists
   later w v lists p x coherent leads choice there =
       let after : Coherent e v = leads.coherent coherent in
       let y = get_beside w.nodes v.nodes p x (coherent.count ∙ sym after.count) there in
@@ -81,8 +81,8 @@ attained_are_coherent e w v coherent attains = (attains_leads e w v attains).coh
 pub acknowledged_is_kept : {F : Type 0} → AcknowledgedIsKept F
 acknowledged_is_kept e w v coherent attains lists choice p cause known =
     let k = later e w v lists p known.node coherent (attains_leads e w v attains) choice known.there in
-    let is : k.old ≡ known.node.journal = only_journal known.node k.old ((coherent.each p known.node known.there).one known.up) k.spelt in
-    stands_later e known.node p v.now lists k known.place cause (ap (λ (l : List (List ℕ)). slice_get (causes_of e.frame_at l) known.place) is ∙ known.at)
+    let was = known.each k.old k.spelt in
+    stands_later e known.node p v.now lists k was.0 cause was.1
 
 -- ---- nodes that were worked on
 

@@ -79,10 +79,10 @@ no_item : {F : Type 0} (a : List (NodeState F)) (q me n : ℕ) (key : Key) (item
 unfolding item_from
 no_item a q me n key item none h = let no : None ≡ Some item = rw none at h in cc
 
-no_came : {F : Type 0} (a : List (NodeState F)) (q : ℕ) (key : Key) → slice_get a q ≡ None → came_at a q key ≡ 0
+pub no_came : {F : Type 0} (a : List (NodeState F)) (q : ℕ) (key : Key) → slice_get a q ≡ None → came_at a q key ≡ 0
 no_came a q key none = rw none refl
 
-by_option : {X : Type 0} (P : Type 0) (o : Option X) → (o ≡ None → P) → ((x : X) → o ≡ Some x → P) → P
+pub by_option : {X : Type 0} (P : Type 0) (o : Option X) → (o ≡ None → P) → ((x : X) → o ≡ Some x → P) → P
 by_option P None n s = n refl
 by_option P (Some x) n s = s x refl
 

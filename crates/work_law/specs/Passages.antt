@@ -1,7 +1,11 @@
 -- What leads from a network with its world to another one where nodes are worked on side by side in between.
-use Rattle.std.specs.Prelude.{◌≡◌, ◌⊎◌, ℕ, suc, List, map}
+use Rattle.std.specs.Prelude.{◌≡◌, ◌≤◌, ◌⊎◌, ℕ, suc, List, map, slice_get, Some}
 use Rattle.net_base.specs.declared.causes.Cause.{Cause}
+use Rattle.net_base.specs.declared.values.Party.{Party}
+use Rattle.net_base.specs.declared.names.Key.{Key}
 use Rattle.net_base.specs.declared.names.Identity.{Identity}
+use Rattle.session_wire.specs.Frames.{IsFrame, frame}
+use Rattle.session_wire.specs.declared.frame.Frame.TheVariants.{Ack}
 use Rattle.net_model.specs.Environment.{Environment, environment, Meaning}
 use Rattle.net_model.specs.Runs.{merged}
 use Rattle.node_tables.specs.Journals.{causes_of}
@@ -10,7 +14,7 @@ use Rattle.network_core.specs.Acknowledged.{Reaches, Acknowledged, StandsOnce}
 use Rattle.network_core.specs.Drains.{Pair}
 use Rattle.network_core.specs.Moments.{Instant, IsChoice, IsKept}
 use Rattle.network_core.specs.Ways.{Way, IsOn}
-use Rattle.network_core.specs.Worlds.{World, Choice, Coherent}
+use Rattle.network_core.specs.Worlds.{NodeWorld, World, Choice, states_of, came_at, Coherent}
 use Rattle.work_law.specs.Works.{Works, WorldWorks}
 
 -- ---- worlds
@@ -28,6 +32,13 @@ AttainedAreCoherent F = (e : Environment F) (w v : World) → Coherent e w → A
 abbrev pub AcknowledgedIsKept : (F : Type 0) → Type 0
 AcknowledgedIsKept F = (e : Environment F) (w v : World) → Coherent e w → Attains e w v → (lists : List (List (List ℕ))) → Choice v lists → (p : ℕ) (cause : Cause) → Acknowledged e w p cause
     → StandsOnce (p, cause) (merged (map (causes_of e.frame_at) lists))
+
+-- in each world that a coherent one attains, whichever journals power cuts leave of it, at least as many items have arrived as an acknowledgement
+-- tells of that waits in the coherent one: also where the frame was lost since, or the node that posted it is down
+abbrev pub AcksAreKept : (F : Type 0) → Type 0
+AcksAreKept F = (e : Environment F) (w v : World) → Coherent e w → Attains e w v → (lists : List (List (List ℕ))) → Choice v lists
+    → (q : ℕ) (y : NodeWorld) → slice_get w.nodes q ≡ Some y → (from to : Party) (key : Key) (direction upto place : ℕ) → IsFrame (Ack from to key direction upto)
+    → slice_get y.waiting place ≡ Some (frame (Ack from to key direction upto)) → upto ≤ came_at (states_of e lists) from.0 key
 
 -- ---- networks with their worlds
 

@@ -6,7 +6,7 @@
 #![tactic(auto)]
 
 ghost use Rattle.work_law.specs.Lasting.{HistoriesLast};
-ghost use Rattle.work_law.specs.Passages.{AcknowledgedIsKept, AcknowledgedOnPassages, AttainedAreCoherent, KeptOnPassages, UnworkedAreWays};
+ghost use Rattle.work_law.specs.Passages.{AcknowledgedIsKept, AcknowledgedOnPassages, AcksAreKept, AttainedAreCoherent, KeptOnPassages, UnworkedAreWays};
 ghost use Rattle.work_law.specs.Works.{WorksCoherently};
 
 /// The law that from a coherent world which the nodes showed they go, by whatever they did side by side, to a coherent world which they
@@ -32,11 +32,17 @@ pub fn attained_are_coherent<F>()
     ensures { AttainedAreCoherent F }
 {}
 
-/// The law that what a node that is up has in its journal stands once in the merged journals of every world that steps and work side by
-/// side lead to from there, whichever journals power cuts leave of that one. So none of what was acknowledged is lost, and none of it is
-/// there twice.
+/// The law that what all journals share that a node's disk may spell (of a node that is up, its one journal) stands once in the merged journals
+/// of every world that steps and work side by side lead to from there, whichever journals power cuts leave of that one. So none of what was
+/// acknowledged is lost, and none of it is there twice.
 pub fn acknowledged_is_kept<F>()
     ensures { AcknowledgedIsKept F }
+{}
+
+/// The law that in each world that a coherent one leads to, whichever journals power cuts leave of it, at least as many items have arrived as an
+/// acknowledgement tells of that waits in the coherent one: also where the frame was lost since, or the node that posted it is down.
+pub fn acks_are_kept<F>()
+    ensures { AcksAreKept F }
 {}
 
 /// The law that a passage on which the nodes were never worked on side by side is a way.
@@ -52,8 +58,8 @@ pub fn kept_on_passages<F>()
     ensures { KeptOnPassages F }
 {}
 
-/// The law of every moment on such ways, whichever image power cuts leave of each disk: each cause that a node that was up had in its
-/// journal as the first way began stands once in the merged journals.
+/// The law of every moment on such ways, whichever image power cuts leave of each disk: each cause that was acknowledged as the first way
+/// began stands once in the merged journals.
 pub fn acknowledged_on_passages<F>()
     ensures { AcknowledgedOnPassages F }
 {}
